@@ -1,0 +1,3 @@
+pub mod Truth
+pub mod Sum
+pub mod Lists

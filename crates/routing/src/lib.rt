@@ -1,0 +1,1 @@
+// What a routing is: definitions, in specs/. There is no code.
