@@ -1,3 +1,5 @@
 pub mod Board
 pub mod Path
 pub mod Degree
+pub mod View
+pub mod Tests

@@ -1,4 +1,12 @@
-// Boards: rows of unit cells, their vertices and edges.
+// Boards: rows of unit cells, their vertices and edges. Every function is total: it answers for any value, within the limits or not.
+ghost use mathlib.Core.Path.{_≡_};
+ghost use Prim.Native.Nat.{_-_, _≤_};
+ghost use lib.ListN.{getD};
+ghost use Rattle.count.specs.Truth.{one, Decides};
+ghost use Rattle.board.specs.Board.{noRow, IsVertex, IsEdge};
+ghost use Rattle.board.specs.Path.{along};
+ghost use Rattle.board.specs.Degree.{cell?, belowRight, belowLeft, aboveRight, aboveLeft, vertex?, edge?, degree, pins};
+ghost use Rattle.board.specs.View.{boardOf};
 
 // A row of unit cells, from column left to column right.
 pub struct Row {
@@ -23,4 +31,103 @@ pub enum Direction {
     Right,
     Down,
     Left,
+}
+
+fn wide(x: u8) -> usize
+    ensures { λ r. ⌜ r ≡ x ⌝ }
+{
+    x as usize
+}
+
+// n - 1, and 0 for 0.
+fn before(n: u8) -> u8
+    ensures { λ r. ⌜ r ≡ n - 1 ⌝ }
+{
+    if 0 < n { n - 1 } else { 0 }
+}
+
+fn bit(t: bool) -> u8
+    ensures { λ r. ⌜ r ≡ one t ⌝ }
+    ensures { λ r. ⌜ r ≤ 1 ⌝ }
+{
+    if t { 1 } else { 0 }
+}
+
+// The row at place i, or one of no cell past the last place.
+fn row_at(rows: [Row; 31], i: u8) -> Row
+    ensures { λ r. ⌜ r ≡ getD rows i noRow ⌝ }
+{
+    let at = wide(i);
+    if at < 31 { rows[at] } else { Row { left: 0, right: 0 } }
+}
+
+// Is there a cell in row i between columns j and j + 1?
+fn is_cell(b: Board, i: u8, j: u8) -> bool
+    ensures { λ r. ⌜ r ≡ cell? (boardOf b) i j ⌝ }
+{
+    let rows = b.rows;
+    let row = row_at(rows, i);
+    (i < b.count) & ((row.left <= j) & (j < row.right))
+}
+
+fn below_right(b: Board, v: Vertex) -> bool
+    ensures { λ r. ⌜ r ≡ belowRight (boardOf b) v ⌝ }
+{
+    is_cell(b, v.line, v.column)
+}
+
+fn below_left(b: Board, v: Vertex) -> bool
+    ensures { λ r. ⌜ r ≡ belowLeft (boardOf b) v ⌝ }
+{
+    (0 < v.column) & is_cell(b, v.line, before(v.column))
+}
+
+fn above_right(b: Board, v: Vertex) -> bool
+    ensures { λ r. ⌜ r ≡ aboveRight (boardOf b) v ⌝ }
+{
+    (0 < v.line) & is_cell(b, before(v.line), v.column)
+}
+
+fn above_left(b: Board, v: Vertex) -> bool
+    ensures { λ r. ⌜ r ≡ aboveLeft (boardOf b) v ⌝ }
+{
+    ((0 < v.line) & (0 < v.column)) & is_cell(b, before(v.line), before(v.column))
+}
+
+// Is v a vertex of the board?
+pub fn is_vertex(b: Board, v: Vertex) -> bool
+    ensures { λ r. ⌜ Decides r (vertex? (boardOf b) v) (IsVertex (boardOf b) v) ⌝ }
+{
+    (above_left(b, v) | above_right(b, v)) | (below_left(b, v) | below_right(b, v))
+}
+
+// Does an edge of the board leave v in the direction d?
+pub fn is_edge(b: Board, d: Direction, v: Vertex) -> bool
+    ensures { λ r. ⌜ Decides r (edge? (boardOf b) d v) (IsEdge (boardOf b) (along d v)) ⌝ }
+{
+    match d {
+        Direction::Up => above_left(b, v) | above_right(b, v),
+        Direction::Right => above_right(b, v) | below_right(b, v),
+        Direction::Down => below_left(b, v) | below_right(b, v),
+        Direction::Left => above_left(b, v) | below_left(b, v),
+    }
+}
+
+// The count of edges at v.
+pub fn degree_of(b: Board, v: Vertex) -> u8
+    ensures { λ r. ⌜ r ≡ degree (boardOf b) v ⌝ }
+    ensures { λ r. ⌜ r ≤ 4 ⌝ }
+{
+    let al = above_left(b, v);
+    let ar = above_right(b, v);
+    let bl = below_left(b, v);
+    let br = below_right(b, v);
+    (bit(al | ar) + bit(ar | br)) + (bit(bl | br) + bit(al | bl))
+}
+
+// The count of pins at v; a place that is no vertex has none.
+pub fn pins_of(b: Board, v: Vertex) -> u8
+    ensures { λ r. ⌜ r ≡ pins (boardOf b) v ⌝ }
+{
+    if is_vertex(b, v) { 4 - degree_of(b, v) } else { 0 }
 }

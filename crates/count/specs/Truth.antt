@@ -1,6 +1,6 @@
 -- Laws of truth values and of the order of numbers, for cases by a test.
 -- Assumes nothing.
-use mathlib.Core.Path.{_≡_, refl, ap}
+use mathlib.Core.Path.{_≡_, refl, ap, sym, _∙_}
 use mathlib.Core.Bool.{Bool, true, false, _&&_, _||_, not}
 use mathlib.Core.Logic.{_⊎_, inl, inr, _↔_}
 use Prim.Native.Nat.{ℕ, zero, suc, _+_, _≤_, _<_}
@@ -64,3 +64,12 @@ le-or-lt m n = elim (bool (leb m n)) [ inl e ↦ inl (leb-true m n e) | inr e �
 
 pub eq-or-ne : (m n : ℕ) → (m ≡ n) ⊎ (m ≡ n → ⊥)
 eq-or-ne m n = elim (bool (eqb m n)) [ inl e ↦ inl (eqb-true m n e) | inr e ↦ inr (eqb-false m n e) ]
+
+-- ── an answer that decides a claim ──
+-- DEFINITION: the answer r is the test t, and it is true exactly when the claim P holds.
+pub record Decides (r t : Bool) (P : Type 0) : Type 0 where
+  pub same : r ≡ t
+  pub exact : (r ≡ true) ↔ P
+
+pub decides : {P : Type 0} (r t : Bool) → ((t ≡ true) ↔ P) → r ≡ t → Decides r t P
+decides r t x e = record { same = e; exact = (λ h. x .0 (sym e ∙ h), λ p. e ∙ x .1 p) }
