@@ -46,7 +46,8 @@ fn before(n: u8) -> u8
     if 0 < n { n - 1 } else { 0 }
 }
 
-fn bit(t: bool) -> u8
+// 1 for true, 0 for false.
+pub fn bit(t: bool) -> u8
     ensures { λ r. ⌜ r ≡ one t ⌝ }
     ensures { λ r. ⌜ r ≤ 1 ⌝ }
 {
@@ -58,7 +59,11 @@ fn row_at(rows: [Row; 31], i: u8) -> Row
     ensures { λ r. ⌜ r ≡ getD rows i noRow ⌝ }
 {
     let at = wide(i);
-    if at < 31 { rows[at] } else { Row { left: 0, right: 0 } }
+    if at < 31 {
+        rows[at]
+    } else {
+        Row { left: 0, right: 0 }
+    }
 }
 
 // Is there a cell in row i between columns j and j + 1?
@@ -129,5 +134,9 @@ pub fn degree_of(b: Board, v: Vertex) -> u8
 pub fn pins_of(b: Board, v: Vertex) -> u8
     ensures { λ r. ⌜ r ≡ pins (boardOf b) v ⌝ }
 {
-    if is_vertex(b, v) { 4 - degree_of(b, v) } else { 0 }
+    if is_vertex(b, v) {
+        4 - degree_of(b, v)
+    } else {
+        0
+    }
 }

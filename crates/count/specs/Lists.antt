@@ -2,7 +2,8 @@
 -- Assumes nothing.
 use mathlib.Core.Path.{_≡_, refl, ap}
 use mathlib.Core.Bool.{Bool, true, false, cond}
-use mathlib.Core.List.{List, [], _∷_, _++_, map}
+use mathlib.Core.List.{List, [], _∷_, _++_, map, head?}
+use mathlib.Core.Option.{Option, none, some}
 use Prim.Native.Nat.{ℕ, zero, suc, _+_, _-_, _<_}
 use native.Mathlib.Omega.{arith}
 use lib.ListN.{length, getD}
@@ -60,3 +61,18 @@ rising-none n = let e : n - n ≡ 0 = omega arith in rw e refl
 unfoldable pub tally {ℓ} : {A : Type ℓ} → (A → ℕ) → List A → ℕ
 tally f [] = 0
 tally f (x ∷ xs) = f x + tally f xs
+
+-- DEFINITION: the first element that passes the test, if there is one
+abbrev pub first {ℓ} : {A : Type ℓ} → (A → Bool) → List A → Option A
+first t xs = head? (select t xs)
+
+-- a search, one element on
+pub first-yes {ℓ} : {A : Type ℓ} (t : A → Bool) {xs ys : List A} {x : A} → xs ≡ x ∷ ys → t x ≡ true → first t xs ≡ some x
+first-yes t {ys = ys} {x = x} e h = rw (e, select-yes t x ys h) refl
+
+pub first-no {ℓ} : {A : Type ℓ} (t : A → Bool) {xs ys : List A} {x : A} → xs ≡ x ∷ ys → t x ≡ false → first t xs ≡ first t ys
+first-no t {ys = ys} {x = x} e h = rw (e, select-no t x ys h) refl
+
+pub first-none {ℓ} : {A : Type ℓ} (t : A → Bool) {xs : List A} → xs ≡ [] → first t xs ≡ none
+unfolding select
+first-none t e = rw e refl

@@ -1,7 +1,210 @@
-// Cuts of a board: rows and columns, their edges and the nets that cross them.
+// Cuts of a board: rows and columns, their edges and the nets that cross them; odd vertices.
+ghost use mathlib.Core.Path.{_≡_};
+ghost use mathlib.Core.List.{head?};
+ghost use Prim.Native.Nat.{_≤_};
+ghost use lib.IntN.{pos, _-ℤ_};
+ghost use lib.Signed.{ltZ};
+ghost use Rattle.count.specs.Truth.{Decides};
+ghost use Rattle.board.specs.View.{boardOf};
+ghost use Rattle.net.specs.View.{pairsOf};
+ghost use Rattle.cut.specs.Cut.{edges, side, crosses, Overfull, overfull?, overfullCuts};
+ghost use Rattle.cut.specs.Odd.{odd?, oddVertices};
+ghost use Rattle.cut.specs.View.{cutEdge, withHeld, TallyOf, overfullRows, overfullColumns, foundCut, foundVertex};
+use board::Board;
+use board::Direction;
+use board::Vertex;
+use net::Held;
+use net::Pair;
+use net::Place;
 
 // A row i, or a column j: the cut between columns j and j + 1.
 pub enum Cut {
     Row(u8),
     Column(u8),
+}
+
+// What was counted of one cut: its edges and the nets that cross it.
+pub struct Tally {
+    pub edges: u8,
+    pub nets: u8,
+}
+
+// The first overfull cut, if there is one.
+pub enum FoundCut {
+    Nothing,
+    At(Cut),
+}
+
+// The first odd vertex, if there is one.
+pub enum FoundVertex {
+    Nothing,
+    At(Vertex),
+}
+
+// Is v above row i, or left of column j?
+fn is_before(x: Cut, v: Vertex) -> bool
+    ensures { λ r. ⌜ r ≡ side x v ⌝ }
+{
+    match x {
+        Cut::Row(i) => v.line <= i,
+        Cut::Column(j) => v.column <= j,
+    }
+}
+
+// Does the pair have its terminals on different sides of the cut?
+pub fn is_crossing(x: Cut, p: Pair) -> bool
+    ensures { λ r. ⌜ r ≡ crosses x p ⌝ }
+{
+    let first = is_before(x, p.first);
+    let second = is_before(x, p.second);
+    first != second
+}
+
+// The tally with one place more: its count of nets is raised when a net held there crosses.
+fn with_place(t: Tally, x: Cut, place: Place) -> Tally
+    requires { ⌜ t .nets ≤ 63 ⌝ }
+    ensures { λ r. ⌜ r ≡ withHeld t x (place .held) ⌝ }
+{
+    let held = place.held;
+    match held {
+        Held::Nothing => t,
+        Held::Net(p) => {
+            if is_crossing(x, p) {
+                Tally {
+                    edges: t.edges,
+                    nets: t.nets + 1,
+                }
+            } else {
+                t
+            }
+        }
+    }
+}
+
+// Is the edge of the cut at column k of a row, or at line k of a column, one of the board's?
+fn is_cut_edge(b: Board, x: Cut, k: u8) -> bool
+    ensures { λ r. ⌜ r ≡ cutEdge (boardOf b) x k ⌝ }
+{
+    match x {
+        Cut::Row(i) => board::is_edge(b, Direction::Down, Vertex { line: i, column: k }),
+        Cut::Column(j) => board::is_edge(b, Direction::Right, Vertex { line: k, column: j }),
+    }
+}
+
+// The count of the cut's edges.
+pub fn edges_of(b: Board, x: Cut) -> u8
+    ensures { λ r. ⌜ r ≡ edges (boardOf b) x ⌝ }
+    ensures { λ r. ⌜ r ≤ 32 ⌝ }
+{
+    let mut n: u8 = 0;
+    for k in 0..32 {
+        n += board::bit(is_cut_edge(b, x, k));
+    }
+    n
+}
+
+// The tally of a cut, filled net by net.
+pub fn tally_of(b: Board, nets: [Place; 64], x: Cut) -> Tally
+    ensures { λ r. ⌜ TallyOf (boardOf b) (pairsOf nets) x r ⌝ }
+{
+    let mut t = Tally {
+        edges: edges_of(b, x),
+        nets: 0,
+    };
+    for i in 0..64 {
+        t = with_place(t, x, nets[i]);
+    }
+    t
+}
+
+// Edges minus crossing nets, below zero where there are more nets than edges.
+pub fn margin_of(t: Tally) -> i32
+    ensures { λ r. ⌜ r ≡ pos (t .edges) -ℤ pos (t .nets) ⌝ }
+{
+    (t.edges as i32) - (t.nets as i32)
+}
+
+// Is the margin of a tally below zero?
+fn is_short(t: Tally) -> bool
+    ensures { λ r. ⌜ r ≡ ltZ (pos (t .edges) -ℤ pos (t .nets)) (pos 0) ⌝ }
+{
+    margin_of(t) < 0
+}
+
+// Do more nets cross the cut than it has edges?
+pub fn is_overfull(b: Board, nets: [Place; 64], x: Cut) -> bool
+    ensures { λ r. ⌜ Decides r (overfull? (boardOf b) (pairsOf nets) x) (Overfull (boardOf b) (pairsOf nets) x) ⌝ }
+{
+    is_short(tally_of(b, nets, x))
+}
+
+// The first overfull row, from the top.
+fn overfull_row(b: Board, nets: [Place; 64]) -> FoundCut
+    ensures { λ r. ⌜ r ≡ foundCut (head? (overfullRows (boardOf b) (pairsOf nets))) ⌝ }
+{
+    let rows = b.count;
+    for i in 0..rows {
+        if is_overfull(b, nets, Cut::Row(i)) {
+            return FoundCut::At(Cut::Row(i));
+        }
+    }
+    FoundCut::Nothing
+}
+
+// The first overfull column, from the left.
+fn overfull_column(b: Board, nets: [Place; 64]) -> FoundCut
+    ensures { λ r. ⌜ r ≡ foundCut (head? (overfullColumns (boardOf b) (pairsOf nets))) ⌝ }
+{
+    for j in 0..31 {
+        if is_overfull(b, nets, Cut::Column(j)) {
+            return FoundCut::At(Cut::Column(j));
+        }
+    }
+    FoundCut::Nothing
+}
+
+// The first overfull cut: rows from the top, then columns from the left.
+pub fn first_overfull(b: Board, nets: [Place; 64]) -> FoundCut
+    ensures { λ r. ⌜ r ≡ foundCut (head? (overfullCuts (boardOf b) (pairsOf nets))) ⌝ }
+{
+    let row = overfull_row(b, nets);
+    match row {
+        FoundCut::At(x) => FoundCut::At(x),
+        FoundCut::Nothing => overfull_column(b, nets),
+    }
+}
+
+// Is v a vertex whose degree plus its terminals is odd?
+pub fn is_odd(b: Board, nets: [Place; 64], v: Vertex) -> bool
+    ensures { λ r. ⌜ r ≡ odd? (boardOf b) (pairsOf nets) v ⌝ }
+{
+    if board::is_vertex(b, v) {
+        (board::degree_of(b, v) + net::terminals_at(nets, v)) % 2 == 1
+    } else {
+        false
+    }
+}
+
+// The first odd vertex, line by line and column by column.
+pub fn first_odd(b: Board, nets: [Place; 64]) -> FoundVertex
+    ensures { λ r. ⌜ r ≡ foundVertex (head? (oddVertices (boardOf b) (pairsOf nets))) ⌝ }
+{
+    let mut line: u8 = 0;
+    let mut column: u8 = 0;
+    let mut found = false;
+    'lines: for l in 0..32 {
+        for c in 0..32 {
+            if is_odd(b, nets, Vertex { line: l, column: c }) {
+                line = l;
+                column = c;
+                found = true;
+                break 'lines;
+            }
+        }
+    }
+    if found {
+        FoundVertex::At(Vertex { line, column })
+    } else {
+        FoundVertex::Nothing
+    }
 }

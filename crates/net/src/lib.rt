@@ -1,10 +1,8 @@
 // Nets on a board: their terminals, and the 64 numbers that a session keeps them by.
 ghost use mathlib.Core.Path.{_≡_};
 ghost use Prim.Native.Nat.{_≤_};
-ghost use Rattle.count.specs.Truth.{one};
 ghost use Rattle.net.specs.Terminals.{same, ends, terminals};
 ghost use Rattle.net.specs.View.{heldEnds, pairsOf};
-
 use board::Vertex;
 
 // Two vertices that a path is to join: the first and the second terminal of a net.
@@ -24,13 +22,6 @@ pub struct Place {
     pub held: Held,
 }
 
-fn bit(t: bool) -> u8
-    ensures { λ r. ⌜ r ≡ one t ⌝ }
-    ensures { λ r. ⌜ r ≤ 1 ⌝ }
-{
-    if t { 1 } else { 0 }
-}
-
 pub fn same_vertex(u: Vertex, v: Vertex) -> bool
     ensures { λ r. ⌜ r ≡ same u v ⌝ }
 {
@@ -44,7 +35,7 @@ pub fn ends_at(p: Pair, v: Vertex) -> u8
 {
     let first = p.first;
     let second = p.second;
-    bit(same_vertex(first, v)) + bit(same_vertex(second, v))
+    board::bit(same_vertex(first, v)) + board::bit(same_vertex(second, v))
 }
 
 // The same of what a place holds.

@@ -4,7 +4,7 @@ use Rattle.net.proofs.ends_at.Statement.{statement}
 use Rattle.net.proofs.ends_at.Tie as tie
 use Rattle.net.proofs.ends_at.Reads as reads
 use Rattle.net.proofs.ends_at.Lts as lts
-use Rattle.net.proofs.bit.Reads as bit-reads
+use Rattle.board.proofs.bit.Reads as bit-reads
 use Rattle.net.proofs.same_vertex.Reads as same-vertex-reads
 
 -- src/lib.rt:47:9

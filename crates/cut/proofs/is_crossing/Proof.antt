@@ -1,0 +1,21 @@
+use Rattle.cut.specs.Cut.{crosses}
+use mathlib.Core.Bool.{xor}
+use borrow.Author.Needs.{needs}
+use Rattle.cut.proofs.is_crossing.Statement.{statement}
+use Rattle.cut.proofs.is_crossing.Tie as tie
+use Rattle.cut.proofs.is_crossing.Reads as reads
+use Rattle.cut.proofs.is_crossing.Lts as lts
+use Rattle.cut.proofs.is_before.Reads as is-before-reads
+
+is-before-requires : tie.Need-is-before-requires
+is-before-requires c κs = search needs
+
+is-before-requires-2 : tie.Need-is-before-requires-2
+is-before-requires-2 c κs = search needs
+
+returns : tie.Need-returns
+unfolding crosses xor
+returns c = cc
+
+pub is-crossing-spec : {M : Type 1} → statement M
+is-crossing-spec = tie.close (tie.spec is-before-requires is-before-requires-2 returns)
