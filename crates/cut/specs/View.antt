@@ -15,7 +15,7 @@ use Rattle.board.specs.declared.Direction.the-variants.{Right, Down}
 use Rattle.net.specs.View.{heldBy}
 use Rattle.net.specs.declared.Pair.{Pair}
 use Rattle.net.specs.declared.Held.{Held}
-use Rattle.net.specs.declared.Held.the-variants.{Nothing, Net}
+use Rattle.net.specs.declared.Held.the-variants.{Nothing, Ends}
 use Rattle.cut.specs.Cut.{edges, crosses, crossing, overfull?, cuts, overfullCuts}
 use Rattle.cut.specs.declared.Cut.{Cut}
 use Rattle.cut.specs.declared.Cut.the-variants.{Row, Column}
@@ -34,11 +34,11 @@ heldCrosses x h = heldBy (λ p. one (crosses x p)) h
 
 abbrev pub withHeld : Tally → Cut → Held → Tally
 withHeld t x Nothing = t
-withHeld t x (Net p) = cond (crosses x p) (record { edges = t .edges; nets = t .nets + 1 }) t
+withHeld t x (Ends p) = cond (crosses x p) (record { edges = t .edges; nets = t .nets + 1 }) t
 
 pub with-held : (t : Tally) (x : Cut) (h : Held) → (withHeld t x h .edges ≡ t .edges) × (withHeld t x h .nets ≡ t .nets + heldCrosses x h)
 with-held t x Nothing = (refl, omega arith)
-with-held t x (Net p) = go (crosses x p)
+with-held t x (Ends p) = go (crosses x p)
   where
     go : (c : Bool) → (cond c (record { edges = t .edges; nets = t .nets + 1 }) t .edges ≡ t .edges)
         × (cond c (record { edges = t .edges; nets = t .nets + 1 }) t .nets ≡ t .nets + one c)
@@ -47,7 +47,7 @@ with-held t x (Net p) = go (crosses x p)
 
 pub held-crosses-le : (x : Cut) (h : Held) → heldCrosses x h ≤ 1
 held-crosses-le x Nothing = omega arith
-held-crosses-le x (Net p) = one-le (crosses x p)
+held-crosses-le x (Ends p) = one-le (crosses x p)
 
 -- the cut's edge at column k of a row, or at line k of a column
 abbrev pub cutEdge : Board → Cut → ℕ → Bool

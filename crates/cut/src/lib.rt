@@ -68,7 +68,7 @@ fn with_place(t: Tally, x: Cut, place: Place) -> Tally
     let held = place.held;
     match held {
         Held::Nothing => t,
-        Held::Net(p) => {
+        Held::Ends(p) => {
             if is_crossing(x, p) {
                 Tally {
                     edges: t.edges,

@@ -12,7 +12,7 @@ use Rattle.board.specs.declared.Vertex.{Vertex}
 use Rattle.net.specs.Terminals.{ends, terminals}
 use Rattle.net.specs.declared.Pair.{Pair}
 use Rattle.net.specs.declared.Held.{Held}
-use Rattle.net.specs.declared.Held.the-variants.{Nothing, Net}
+use Rattle.net.specs.declared.Held.the-variants.{Nothing, Ends}
 use Rattle.net.specs.declared.Place.{Place}
 
 abbrev pub nothing : Place
@@ -20,7 +20,7 @@ nothing = record { held = Nothing }
 
 abbrev pub heldThen : Held → List Pair → List Pair
 heldThen Nothing ps = ps
-heldThen (Net p) ps = p ∷ ps
+heldThen (Ends p) ps = p ∷ ps
 
 -- the nets in rising number, as pairs
 unfoldable pub pairsOf : List Place → List Pair
@@ -30,7 +30,7 @@ pairsOf (p ∷ ps) = heldThen (p .held) (pairsOf ps)
 -- a number of a net, and 0 of an empty place
 abbrev pub heldBy : (Pair → ℕ) → Held → ℕ
 heldBy f Nothing = 0
-heldBy f (Net p) = f p
+heldBy f (Ends p) = f p
 
 abbrev pub heldEnds : Vertex → Held → ℕ
 heldEnds v h = heldBy (λ p. ends p v) h
@@ -39,7 +39,7 @@ heldEnds v h = heldBy (λ p. ends p v) h
 held-tally : (f : Pair → ℕ) (h : Held) (ps : List Pair) → tally f (heldThen h ps) ≡ heldBy f h + tally f ps
 unfolding tally
 held-tally f Nothing ps = let e : 0 + tally f ps ≡ tally f ps = omega arith in sym e
-held-tally f (Net p) ps = refl
+held-tally f (Ends p) ps = refl
 
 pub tally-more : (f : Pair → ℕ) (nets : List Place) (i : ℕ) → i < length nets
     → tally f (pairsOf (drop i nets)) ≡ heldBy f (getD nets i nothing .held) + tally f (pairsOf (drop (i + 1) nets))

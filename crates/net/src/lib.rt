@@ -11,10 +11,22 @@ pub struct Pair {
     pub second: Vertex,
 }
 
+// A net: a number and its terminals.
+pub struct Net {
+    pub number: u8,
+    pub ends: Pair,
+}
+
+// A change of a session: the net that was added or withdrawn.
+pub enum Change {
+    Added(Net),
+    Withdrawn(Net),
+}
+
 // What is held under a net's number.
 pub enum Held {
     Nothing,
-    Net(Pair),
+    Ends(Pair),
 }
 
 // The place of one number; number n has place n - 1 of 64.
@@ -46,7 +58,7 @@ fn held_ends(place: Place, v: Vertex) -> u8
     let held = place.held;
     match held {
         Held::Nothing => 0,
-        Held::Net(p) => ends_at(p, v),
+        Held::Ends(p) => ends_at(p, v),
     }
 }
 

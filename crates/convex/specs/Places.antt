@@ -1,0 +1,121 @@
+-- Vertices and edges of a board as numbers: a vertex is a column of a row, on the row's top or bottom line;
+-- a vertical edge is a column of its row; a horizontal edge is the top or the bottom of a cell.
+-- Assumes that rows are not empty, where a vertex or an edge is made.
+use mathlib.Core.Path.{_≡_, refl}
+use mathlib.Core.Logic.{_⊎_, inl, inr}
+use Prim.Native.Nat.{ℕ, suc, _-_, _≤_, _<_}
+use native.Mathlib.Omega.{arith}
+use Rattle.count.specs.Truth.{le-or-lt}
+use Rattle.board.specs.Board.{
+  Board,
+  height,
+  left,
+  right,
+  Cell,
+  at,
+  Edge,
+  edge,
+  Corner,
+  top-left,
+  top-right,
+  bottom-left,
+  bottom-right,
+  Side,
+  top-side,
+  bottom-side,
+  left-side,
+  right-side,
+  IsVertex,
+  IsEdge,
+}
+use Rattle.board.specs.declared.Vertex.{Vertex}
+
+-- ── vertices ──
+-- DEFINITION: v lies on the top or the bottom line of row i, at one of its columns
+pub record InRow (b : Board) (i : ℕ) (v : Vertex) : Type 0 where
+  pub row : i < height b
+  pub low : i ≤ v .line
+  pub high : v .line ≤ suc i
+  pub from : left b i ≤ v .column
+  pub to : v .column ≤ right b i
+
+corner-near : {i j : ℕ} {v : Vertex} → Corner i j v → (i ≤ v .line) × (v .line ≤ suc i) × (j ≤ v .column) × (v .column ≤ suc j)
+corner-near top-left = (omega arith, omega arith, omega arith, omega arith)
+corner-near top-right = (omega arith, omega arith, omega arith, omega arith)
+corner-near bottom-left = (omega arith, omega arith, omega arith, omega arith)
+corner-near bottom-right = (omega arith, omega arith, omega arith, omega arith)
+
+pub vertex-in-row : (b : Board) (v : Vertex) → IsVertex b v → (i : ℕ) × InRow b i v
+vertex-in-row b v (i, j, c, k) = let n = corner-near k in (
+  i,
+  record {
+    row = c .row;
+    low = n .0;
+    high = n .1;
+    from = omega (arith, c .from, n .2);
+    to = omega (arith, c .to, n .3);
+  },
+)
+
+-- ── columns of a row ──
+-- DEFINITION: column c is one of row i's
+pub record HasColumn (b : Board) (i c : ℕ) : Type 0 where
+  pub row : i < height b
+  pub from : left b i ≤ c
+  pub to : c ≤ right b i
+
+-- it is the left or the right side of one of the row's cells
+beside-cell : (b : Board) (i c : ℕ) → left b i < right b i → HasColumn b i c → (j : ℕ) × Cell b i j × ((c ≡ j) ⊎ (c ≡ suc j))
+beside-cell b i c n h = elim (le-or-lt (right b i) c) [
+  | inl k ↦ (c - 1, record { row = h .row; from = omega arith; to = omega arith }, inr (omega arith))
+  | inr k ↦ (c, record { row = h .row; from = h .from; to = k }, inl refl)
+]
+
+top-corner : (i j c : ℕ) → (c ≡ j) ⊎ (c ≡ suc j) → Corner i j (at i c)
+top-corner i j c (inl e) = rw e top-left
+top-corner i j c (inr e) = rw e top-right
+
+bottom-corner : (i j c : ℕ) → (c ≡ j) ⊎ (c ≡ suc j) → Corner i j (at (suc i) c)
+bottom-corner i j c (inl e) = rw e bottom-left
+bottom-corner i j c (inr e) = rw e bottom-right
+
+pub vertex-on-top : (b : Board) (i c : ℕ) → left b i < right b i → HasColumn b i c → IsVertex b (at i c)
+vertex-on-top b i c n h = let k = beside-cell b i c n h in (i, k .0, k .1, top-corner i (k .0) c (k .2))
+
+pub vertex-at-bottom : (b : Board) (i c : ℕ) → left b i < right b i → HasColumn b i c → IsVertex b (at (suc i) c)
+vertex-at-bottom b i c n h = let k = beside-cell b i c n h in (i, k .0, k .1, bottom-corner i (k .0) c (k .2))
+
+-- ── edges ──
+-- the ends of an edge are vertices
+pub edge-ends : (b : Board) (e : Edge) → IsEdge b e → IsVertex b (e .from) × IsVertex b (e .to)
+edge-ends b e (i, j, c, top-side) = ((i, j, c, top-left), (i, j, c, top-right))
+edge-ends b e (i, j, c, bottom-side) = ((i, j, c, bottom-left), (i, j, c, bottom-right))
+edge-ends b e (i, j, c, left-side) = ((i, j, c, top-left), (i, j, c, bottom-left))
+edge-ends b e (i, j, c, right-side) = ((i, j, c, top-right), (i, j, c, bottom-right))
+
+-- a vertical edge is a column of its row
+side-down : {i j : ℕ} {e : Edge} → Side i j e → e .to .line ≡ suc (e .from .line)
+    → (e .from .line ≡ i) × (j ≤ e .from .column) × (e .from .column ≤ suc j)
+side-down top-side e = absurd (omega arith)
+side-down bottom-side e = absurd (omega arith)
+side-down left-side e = (refl, omega arith, omega arith)
+side-down right-side e = (refl, omega arith, omega arith)
+
+pub down-column : (b : Board) (i c : ℕ) → IsEdge b (edge (at i c) (at (suc i) c)) → HasColumn b i c
+down-column b i c (k, j, h, s) =
+    let n = side-down s refl in
+    rw (n .0) (record { row = h .row; from = omega (arith, h .from, n .1); to = omega (arith, h .to, n .2) })
+
+upright-side : (i j c m : ℕ) → (c ≡ j) ⊎ (c ≡ suc j) → m ≡ suc i → Side i j (edge (at i c) (at m c))
+upright-side i j c m (inl e) h = rw (h, e) left-side
+upright-side i j c m (inr e) h = rw (h, e) right-side
+
+pub column-down : (b : Board) (i c m : ℕ) → left b i < right b i → HasColumn b i c → m ≡ suc i → IsEdge b (edge (at i c) (at m c))
+column-down b i c m n w h = let k = beside-cell b i c n w in (i, k .0, k .1, upright-side i (k .0) c m (k .2) h)
+
+-- a horizontal edge on line l, the top or the bottom of row i, is a side of a cell
+pub cell-across : (b : Board) (i l c m : ℕ) → Cell b i c → i ≤ l → l ≤ suc i → m ≡ suc c → IsEdge b (edge (at l c) (at l m))
+cell-across b i l c m k p q h = elim (le-or-lt l i) [
+  | inl r ↦ let f : l ≡ i = omega arith in (i, c, k, rw (h, f) top-side)
+  | inr r ↦ let f : l ≡ suc i = omega arith in (i, c, k, rw (h, f) bottom-side)
+]
