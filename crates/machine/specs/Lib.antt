@@ -1,0 +1,5 @@
+pub mod Refusal
+pub mod Session
+pub mod Add
+pub mod Machine
+pub mod Sound

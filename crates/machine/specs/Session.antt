@@ -1,0 +1,49 @@
+-- Definitions only: what a session holds (document 01, "The session and its list machine"). Nothing is proved here.
+use mathlib.Core.Bool.{Bool, cond, false, _&&_, _||_}
+use mathlib.Core.List.{List, [], _∷_, map}
+use mathlib.Core.Option.{Option, none, some}
+use Prim.Native.Nat.{ℕ}
+use lib.Dec.{eqb, ltb}
+use Rattle.board.specs.Board.{Board}
+use Rattle.net.specs.Terminals.{same}
+use Rattle.net.specs.declared.Pair.{Pair}
+use Rattle.net.specs.declared.Net.{Net}
+use Rattle.net.specs.declared.Change.{Change}
+
+-- "The machine holds the board, the nets in rising number, and a pile of changes". The top of the pile is the first of the list.
+pub record Session : Type 0 where
+  pub board : Board
+  pub nets : List Net
+  pub pile : List Change
+
+-- the terminals of the nets
+abbrev pub pairs : List Net → List Pair
+pairs ns = map (λ (n : Net). n .ends) ns
+
+-- a net of this number is among them
+unfoldable pub holds : ℕ → List Net → Bool
+holds k [] = false
+holds k (n ∷ ns) = eqb (n .number) k || holds k ns
+
+-- the nets with one more, at its place in rising number
+unfoldable pub insert : Net → List Net → List Net
+insert n [] = n ∷ []
+insert n (m ∷ ms) = cond (ltb (n .number) (m .number)) (n ∷ (m ∷ ms)) (m ∷ insert n ms)
+
+-- the nets without those of this number
+unfoldable pub remove : ℕ → List Net → List Net
+remove k [] = []
+remove k (n ∷ ns) = cond (eqb (n .number) k) (remove k ns) (n ∷ remove k ns)
+
+-- the net of this number, if there is one
+unfoldable pub netOf : ℕ → List Net → Option Net
+netOf k [] = none
+netOf k (n ∷ ns) = cond (eqb (n .number) k) (some n) (netOf k ns)
+
+abbrev pub sameNet : Net → Net → Bool
+sameNet m n = eqb (m .number) (n .number) && (same (m .ends .first) (n .ends .first) && same (m .ends .second) (n .ends .second))
+
+-- this net is among them, with this number and these terminals
+unfoldable pub recorded : Net → List Net → Bool
+recorded n [] = false
+recorded n (m ∷ ms) = sameNet n m || recorded n ms

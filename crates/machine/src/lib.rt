@@ -1,0 +1,1 @@
+// The session and its list machine: definitions, in specs/. There is no code.

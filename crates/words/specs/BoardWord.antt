@@ -1,0 +1,47 @@
+-- Definitions only: document 01, "Board words", first table. Nothing is proved here.
+use mathlib.Core.Bool.{cond}
+use Prim.Native.Nat.{ℕ, _+_}
+use lib.Dec.{eqb}
+use Rattle.board.specs.Board.{at}
+use Rattle.board.specs.declared.Row.{Row}
+use Rattle.net.specs.declared.Net.{Net}
+use Rattle.words.specs.Bits.{bits, put, kind}
+use Rattle.words.specs.declared.BoardWord.{BoardWord}
+use Rattle.words.specs.declared.BoardWord.the-variants as word
+
+-- | row | 31-28 = 1, 9-5 left, 4-0 right |
+abbrev pub rowWord : Row → ℕ
+rowWord r = put 28 1 + put 5 (r .left) + r .right
+
+-- | net | 31-28 = 2, 27-20 number, then line, column, line, column of the terminals, 5 bits each |
+abbrev pub netWord : Net → ℕ
+netWord n =
+    put 28 2 + put 20 (n .number)
+    + put 15 (n .ends .first .line) + put 10 (n .ends .first .column)
+    + put 5 (n .ends .second .line) + n .ends .second .column
+
+-- | end | 31-28 = 15, 15-8 rows, 7-0 nets |
+abbrev pub endWord : ℕ → ℕ → ℕ
+endWord rows nets = put 28 15 + put 8 rows + nets
+
+-- the fields of a word, by its kind
+abbrev pub rowIn : ℕ → Row
+rowIn w = record { left = bits 5 5 w; right = bits 0 5 w }
+
+abbrev pub netIn : ℕ → Net
+netIn w = record {
+  number = bits 20 8 w;
+  ends = record { first = at (bits 15 5 w) (bits 10 5 w); second = at (bits 5 5 w) (bits 0 5 w) };
+}
+
+-- "Bits not named are zero": a word has no bits but those of its kind and fields
+abbrev pub onlyIf : (w packed : ℕ) → BoardWord → BoardWord
+onlyIf w packed x = cond (eqb packed w) x word.Unknown
+
+-- what a word of a board says
+unfoldable pub boardWord : ℕ → BoardWord
+boardWord w =
+    cond (eqb (kind w) 1) (onlyIf w (rowWord (rowIn w)) (word.Row (rowIn w)))
+    (cond (eqb (kind w) 2) (onlyIf w (netWord (netIn w)) (word.Net (netIn w)))
+    (cond (eqb (kind w) 15) (onlyIf w (endWord (bits 8 8 w) (bits 0 8 w)) (word.End (record { rows = bits 8 8 w; nets = bits 0 8 w })))
+    word.Unknown))

@@ -1,0 +1,4 @@
+pub mod Bits
+pub mod BoardWord
+pub mod RoutingWord
+pub mod Bytes
