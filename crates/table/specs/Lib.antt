@@ -1,0 +1,5 @@
+pub mod Boards
+pub mod Table
+pub mod Reading
+pub mod Judging
+pub mod Sessions

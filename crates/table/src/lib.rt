@@ -1,0 +1,1 @@
+// The table "Boards to be proved" and examples of every definition: in specs/. There is no code.
