@@ -10,7 +10,7 @@ use Rattle.net.specs.Terminals.{terminals}
 use Rattle.machine.specs.Session.{Session, holds, insert}
 use Rattle.machine.specs.Add.{addLines, addRefused}
 use Rattle.machine.specs.Sound.{blank}
-use Rattle.words.specs.BoardWord.{boardWord}
+use Rattle.words.specs.BoardWord.{boardWord, asRow, asNet, asEnd}
 use Rattle.words.specs.Bytes.{wordsIn, bytesOf}
 use Rattle.calls.specs.Result.{Result, no, yes}
 use Rattle.calls.specs.Reading.{wordLines, takeWords, addListed, readNets, readTaken, readWords, readBytes, handedBack}
@@ -19,7 +19,7 @@ use Rattle.table.specs.Boards.{ring, ringInput, why}
 
 -- the ring is read, and written back as the same words
 ring-read : readWords ringInput ≡ yes ring
-unfolding readWords readBytes takeWords readTaken readNets addListed wordLines boardWord wordsIn addRefused addLines holds insert rowsFit contains? peels inLimits isConvex belowRight belowLeft aboveRight aboveLeft vertex? edge? degree pins terminals
+unfolding readWords readBytes takeWords readTaken readNets addListed wordLines boardWord asRow asNet asEnd wordsIn addRefused addLines holds insert rowsFit contains? peels inLimits isConvex belowRight belowLeft aboveRight aboveLeft vertex? edge? degree pins terminals
 ring-read = refl
 
 ring-written : boardWords ring ≡ ringInput
@@ -27,17 +27,17 @@ unfolding boardWords
 ring-written = refl
 
 ring-bytes : readBytes (bytesOf ringInput) ≡ yes ring
-unfolding bytesOf readWords readBytes takeWords readTaken readNets addListed wordLines boardWord wordsIn addRefused addLines holds insert rowsFit contains? peels inLimits isConvex belowRight belowLeft aboveRight aboveLeft vertex? edge? degree pins terminals
+unfolding bytesOf readWords readBytes takeWords readTaken readNets addListed wordLines boardWord asRow asNet asEnd wordsIn addRefused addLines holds insert rowsFit contains? peels inLimits isConvex belowRight belowLeft aboveRight aboveLeft vertex? edge? degree pins terminals
 ring-bytes = refl
 
 -- 10 before 11: three bytes, no word
 three-bytes : why (readBytes (1 ∷ 2 ∷ 3 ∷ [])) ≡ 10 ∷ 0 ∷ []
-unfolding readWords readBytes takeWords readTaken readNets addListed wordLines boardWord wordsIn addRefused addLines holds insert rowsFit contains? peels inLimits isConvex belowRight belowLeft aboveRight aboveLeft vertex? edge? degree pins terminals
+unfolding readWords readBytes takeWords readTaken readNets addListed wordLines boardWord asRow asNet asEnd wordsIn addRefused addLines holds insert rowsFit contains? peels inLimits isConvex belowRight belowLeft aboveRight aboveLeft vertex? edge? degree pins terminals
 three-bytes = refl
 
 -- 11: 97 words
 too-many : why (readWords (replicate 97 0x10000001)) ≡ 11 ∷ 0 ∷ []
-unfolding readWords readBytes takeWords readTaken readNets addListed wordLines boardWord wordsIn addRefused addLines holds insert rowsFit contains? peels inLimits isConvex belowRight belowLeft aboveRight aboveLeft vertex? edge? degree pins terminals
+unfolding readWords readBytes takeWords readTaken readNets addListed wordLines boardWord asRow asNet asEnd wordsIn addRefused addLines holds insert rowsFit contains? peels inLimits isConvex belowRight belowLeft aboveRight aboveLeft vertex? edge? degree pins terminals
 too-many = refl
 
 -- word lists, and the refusal that each gets
@@ -122,7 +122,7 @@ refusals : map (λ ws. why (readWords ws)) (
     ∷ (24 ∷ 1 ∷ [])
     ∷ (25 ∷ 3 ∷ [])
     ∷ []
-unfolding readWords readBytes takeWords readTaken readNets addListed wordLines boardWord wordsIn addRefused addLines holds insert rowsFit contains? peels inLimits isConvex belowRight belowLeft aboveRight aboveLeft vertex? edge? degree pins terminals
+unfolding readWords readBytes takeWords readTaken readNets addListed wordLines boardWord asRow asNet asEnd wordsIn addRefused addLines holds insert rowsFit contains? peels inLimits isConvex belowRight belowLeft aboveRight aboveLeft vertex? edge? degree pins terminals
 refusals = refl
 
 -- "A refused reading gives the blank session"

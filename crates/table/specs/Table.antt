@@ -27,7 +27,7 @@ use Rattle.routing.specs.Check.{path?, joins?, once?, routing?, routing-exact}
 use Rattle.machine.specs.Session.{Session, pairs, holds, insert}
 use Rattle.machine.specs.Add.{addLines, addRefused, accepts}
 use Rattle.machine.specs.Sound.{rising?, addable?, lifts?, sound?}
-use Rattle.words.specs.RoutingWord.{routingWord, runsOf, pathWords, pathsWords, routingWords}
+use Rattle.words.specs.RoutingWord.{routingWord, asPath, asRun, asRoutingEnd, runsOf, pathWords, pathsWords, routingWords}
 use Rattle.calls.specs.Result.{yes}
 use Rattle.calls.specs.Shape.{wordsRefused, runsFrom, pathsFrom}
 use Rattle.calls.specs.Walk.{walkSteps, walkRuns, walkPath, walkPaths}
@@ -80,7 +80,7 @@ pub record BoardsToBeProved : Type 0 where
 
 -- ── the cases, each by computing ──
 case-a : judgeWords ring ringOutput ≡ yes (record { edges = 4; turns = 0; knockKnees = 0 })
-unfolding judgeWords judged rowsFit contains? peels inLimits isConvex rising? addable? lifts? sound? accepts addRefused addLines holds insert belowRight belowLeft aboveRight aboveLeft vertex? edge? degree pins terminals wordsRefused routingWord runsFrom pathsFrom walkSteps walkRuns walkPath walkPaths uses directions edgesUsed turnsMade turns turn turnsAt turning knockKnee knockKnees select flatMap
+unfolding judgeWords judged rowsFit contains? peels inLimits isConvex rising? addable? lifts? sound? accepts addRefused addLines holds insert belowRight belowLeft aboveRight aboveLeft vertex? edge? degree pins terminals wordsRefused routingWord asPath asRun asRoutingEnd runsFrom pathsFrom walkSteps walkRuns walkPath walkPaths uses directions edgesUsed turnsMade turns turn turnsAt turning knockKnee knockKnees select flatMap
 case-a = refl
 
 case-b-row : margin (board (row 0 1 ∷ [])) (pairs netsB) (cut.Row 0) ≡ pos 0
@@ -135,7 +135,7 @@ case-h-pins = refl
 
 case-i : judgeWords (session (row 0 2 ∷ row 0 2 ∷ []) netsI) (routingWords netsI ((Down ∷ Left ∷ []) ∷ (Left ∷ Down ∷ []) ∷ []))
     ≡ yes (record { edges = 4; turns = 2; knockKnees = 1 })
-unfolding judgeWords judged rowsFit contains? peels inLimits isConvex rising? addable? lifts? sound? accepts addRefused addLines holds insert belowRight belowLeft aboveRight aboveLeft vertex? edge? degree pins terminals wordsRefused routingWord runsFrom pathsFrom walkSteps walkRuns walkPath walkPaths uses directions edgesUsed turnsMade turns turn turnsAt turning knockKnee knockKnees select flatMap routingWords pathsWords pathWords runsOf
+unfolding judgeWords judged rowsFit contains? peels inLimits isConvex rising? addable? lifts? sound? accepts addRefused addLines holds insert belowRight belowLeft aboveRight aboveLeft vertex? edge? degree pins terminals wordsRefused routingWord asPath asRun asRoutingEnd runsFrom pathsFrom walkSteps walkRuns walkPath walkPaths uses directions edgesUsed turnsMade turns turn turnsAt turning knockKnee knockKnees select flatMap routingWords pathsWords pathWords runsOf
 case-i = refl
 
 pub boards-proved : BoardsToBeProved

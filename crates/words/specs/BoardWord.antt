@@ -38,10 +38,15 @@ netIn w = record {
 abbrev pub onlyIf : (w packed : ℕ) → BoardWord → BoardWord
 onlyIf w packed x = cond (eqb packed w) x word.Unknown
 
--- what a word of a board says
+unfoldable pub asRow : ℕ → BoardWord
+asRow w = onlyIf w (rowWord (rowIn w)) (word.Row (rowIn w))
+
+unfoldable pub asNet : ℕ → BoardWord
+asNet w = onlyIf w (netWord (netIn w)) (word.Net (netIn w))
+
+unfoldable pub asEnd : ℕ → BoardWord
+asEnd w = onlyIf w (endWord (bits 8 8 w) (bits 0 8 w)) (word.End (record { rows = bits 8 8 w; nets = bits 0 8 w }))
+
+-- what a word of a board says, by its kind
 unfoldable pub boardWord : ℕ → BoardWord
-boardWord w =
-    cond (eqb (kind w) 1) (onlyIf w (rowWord (rowIn w)) (word.Row (rowIn w)))
-    (cond (eqb (kind w) 2) (onlyIf w (netWord (netIn w)) (word.Net (netIn w)))
-    (cond (eqb (kind w) 15) (onlyIf w (endWord (bits 8 8 w) (bits 0 8 w)) (word.End (record { rows = bits 8 8 w; nets = bits 0 8 w })))
-    word.Unknown))
+boardWord w = cond (eqb (kind w) 1) (asRow w) (cond (eqb (kind w) 2) (asNet w) (cond (eqb (kind w) 15) (asEnd w) word.Unknown))

@@ -2,3 +2,4 @@ pub mod Bits
 pub mod BoardWord
 pub mod RoutingWord
 pub mod Bytes
+pub mod Inverse

@@ -41,13 +41,18 @@ runIn w = record { direction = direction (bits 26 2 w); length = bits 0 5 w }
 abbrev pub onlyIf : (w packed : ℕ) → RoutingWord → RoutingWord
 onlyIf w packed x = cond (eqb packed w) x word.Unknown
 
--- what a word of a routing says
+unfoldable pub asPath : ℕ → RoutingWord
+asPath w = onlyIf w (pathWord (pathIn w)) (word.Path (pathIn w))
+
+unfoldable pub asRun : ℕ → RoutingWord
+asRun w = onlyIf w (runWord (runIn w)) (word.Run (runIn w))
+
+unfoldable pub asRoutingEnd : ℕ → RoutingWord
+asRoutingEnd w = onlyIf w (routingEndWord (bits 0 8 w)) (word.End (bits 0 8 w))
+
+-- what a word of a routing says, by its kind
 unfoldable pub routingWord : ℕ → RoutingWord
-routingWord w =
-    cond (eqb (kind w) 4) (onlyIf w (pathWord (pathIn w)) (word.Path (pathIn w)))
-    (cond (eqb (kind w) 5) (onlyIf w (runWord (runIn w)) (word.Run (runIn w)))
-    (cond (eqb (kind w) 14) (onlyIf w (routingEndWord (bits 0 8 w)) (word.End (bits 0 8 w)))
-    word.Unknown))
+routingWord w = cond (eqb (kind w) 4) (asPath w) (cond (eqb (kind w) 5) (asRun w) (cond (eqb (kind w) 14) (asRoutingEnd w) word.Unknown))
 
 -- ── a routing as words ──
 -- a step in front of runs: "Two runs in a row of one path differ in direction"

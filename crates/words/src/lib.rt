@@ -1,7 +1,18 @@
-// The words of boards and of routings: one place that packs each kind and one that unpacks it.
+// The words of boards and of routings: one place that packs each kind and one that unpacks it, by division and remainder.
+ghost use mathlib.Core.Path.{_≡_};
+ghost use Prim.Native.Nat.{_≤_};
+ghost use Rattle.board.specs.Path.{number};
+ghost use Rattle.words.specs.Bits.{kind};
+ghost use Rattle.words.specs.BoardWord.{rowWord, netWord, endWord, asRow, asNet, asEnd, boardWord};
+ghost use Rattle.words.specs.RoutingWord.{
+    pathWord, runWord, routingEndWord, direction, asPath, asRun, asRoutingEnd, routingWord
+};
+
 use board::Direction;
 use board::Row;
+use board::Vertex;
 use net::Net;
+use net::Pair;
 
 // The counts of a board's end word.
 pub struct Counts {
@@ -35,4 +46,210 @@ pub enum RoutingWord {
     Run(Run),
     End(u8),
     Unknown,
+}
+
+fn wide(x: u8) -> u32
+    ensures { λ r. ⌜ r ≡ x ⌝ }
+    ensures { λ r. ⌜ r ≤ 255 ⌝ }
+{
+    x as u32
+}
+
+// Bits 31-28.
+fn kind_of(w: u32) -> u32
+    ensures { λ r. ⌜ r ≡ kind w ⌝ }
+{
+    w / 268435456 % 16
+}
+
+pub fn pack_row(r: Row) -> u32
+    ensures { λ w. ⌜ w ≡ rowWord r ⌝ }
+{
+    268435456 + wide(r.left) * 32 + wide(r.right)
+}
+
+pub fn pack_net(n: Net) -> u32
+    ensures { λ w. ⌜ w ≡ netWord n ⌝ }
+{
+    let ends = n.ends;
+    let first = ends.first;
+    let second = ends.second;
+    let head = 536870912 + wide(n.number) * 1048576;
+    head + wide(first.line) * 32768 + wide(first.column) * 1024 + wide(second.line) * 32 + wide(second.column)
+}
+
+pub fn pack_end(c: Counts) -> u32
+    ensures { λ w. ⌜ w ≡ endWord (c .rows) (c .nets) ⌝ }
+{
+    4026531840 + wide(c.rows) * 256 + wide(c.nets)
+}
+
+fn as_row(w: u32) -> BoardWord
+    ensures { λ r. ⌜ r ≡ asRow w ⌝ }
+{
+    let row = Row {
+        left: (w / 32 % 32) as u8,
+        right: (w / 1 % 32) as u8,
+    };
+    if pack_row(row) == w {
+        BoardWord::Row(row)
+    } else {
+        BoardWord::Unknown
+    }
+}
+
+fn as_net(w: u32) -> BoardWord
+    ensures { λ r. ⌜ r ≡ asNet w ⌝ }
+{
+    let first = Vertex {
+        line: (w / 32768 % 32) as u8,
+        column: (w / 1024 % 32) as u8,
+    };
+    let second = Vertex {
+        line: (w / 32 % 32) as u8,
+        column: (w / 1 % 32) as u8,
+    };
+    let net = Net {
+        number: (w / 1048576 % 256) as u8,
+        ends: Pair { first, second },
+    };
+    if pack_net(net) == w {
+        BoardWord::Net(net)
+    } else {
+        BoardWord::Unknown
+    }
+}
+
+fn as_end(w: u32) -> BoardWord
+    ensures { λ r. ⌜ r ≡ asEnd w ⌝ }
+{
+    let counts = Counts {
+        rows: (w / 256 % 256) as u8,
+        nets: (w / 1 % 256) as u8,
+    };
+    if pack_end(counts) == w {
+        BoardWord::End(counts)
+    } else {
+        BoardWord::Unknown
+    }
+}
+
+// What a word of a board says.
+pub fn board_word(w: u32) -> BoardWord
+    ensures { λ r. ⌜ r ≡ boardWord w ⌝ }
+{
+    let kind = kind_of(w);
+    if kind == 1 {
+        return as_row(w);
+    }
+    if kind == 2 {
+        return as_net(w);
+    }
+    if kind == 15 {
+        return as_end(w);
+    }
+    BoardWord::Unknown
+}
+
+// 0 up, 1 right, 2 down, 3 left.
+pub fn number_of(d: Direction) -> u8
+    ensures { λ r. ⌜ r ≡ number d ⌝ }
+    ensures { λ r. ⌜ r ≤ 3 ⌝ }
+{
+    match d {
+        Direction::Up => 0,
+        Direction::Right => 1,
+        Direction::Down => 2,
+        Direction::Left => 3,
+    }
+}
+
+fn direction_of(n: u32) -> Direction
+    ensures { λ r. ⌜ r ≡ direction n ⌝ }
+{
+    if n == 0 {
+        return Direction::Up;
+    }
+    if n == 1 {
+        return Direction::Right;
+    }
+    if n == 2 {
+        return Direction::Down;
+    }
+    Direction::Left
+}
+
+pub fn pack_path(p: Path) -> u32
+    ensures { λ w. ⌜ w ≡ pathWord p ⌝ }
+{
+    1073741824 + wide(p.number) * 1048576 + p.runs as u32
+}
+
+pub fn pack_run(r: Run) -> u32
+    ensures { λ w. ⌜ w ≡ runWord r ⌝ }
+{
+    let d = r.direction;
+    1342177280 + wide(number_of(d)) * 67108864 + wide(r.length)
+}
+
+pub fn pack_routing_end(paths: u8) -> u32
+    ensures { λ w. ⌜ w ≡ routingEndWord paths ⌝ }
+{
+    3758096384 + wide(paths)
+}
+
+fn as_path(w: u32) -> RoutingWord
+    ensures { λ r. ⌜ r ≡ asPath w ⌝ }
+{
+    let path = Path {
+        number: (w / 1048576 % 256) as u8,
+        runs: (w / 1 % 2048) as u16,
+    };
+    if pack_path(path) == w {
+        RoutingWord::Path(path)
+    } else {
+        RoutingWord::Unknown
+    }
+}
+
+fn as_run(w: u32) -> RoutingWord
+    ensures { λ r. ⌜ r ≡ asRun w ⌝ }
+{
+    let run = Run {
+        direction: direction_of(w / 67108864 % 4),
+        length: (w / 1 % 32) as u8,
+    };
+    if pack_run(run) == w {
+        RoutingWord::Run(run)
+    } else {
+        RoutingWord::Unknown
+    }
+}
+
+fn as_routing_end(w: u32) -> RoutingWord
+    ensures { λ r. ⌜ r ≡ asRoutingEnd w ⌝ }
+{
+    let paths = (w / 1 % 256) as u8;
+    if pack_routing_end(paths) == w {
+        RoutingWord::End(paths)
+    } else {
+        RoutingWord::Unknown
+    }
+}
+
+// What a word of a routing says.
+pub fn routing_word(w: u32) -> RoutingWord
+    ensures { λ r. ⌜ r ≡ routingWord w ⌝ }
+{
+    let kind = kind_of(w);
+    if kind == 4 {
+        return as_path(w);
+    }
+    if kind == 5 {
+        return as_run(w);
+    }
+    if kind == 14 {
+        return as_routing_end(w);
+    }
+    RoutingWord::Unknown
 }

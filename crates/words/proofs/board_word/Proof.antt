@@ -1,0 +1,62 @@
+use Rattle.words.specs.BoardWord.{boardWord}
+use Rattle.words.specs.Bits.{kind}
+use borrow.Author.Tests.{eq-eqb, ne-eqb}
+use mathlib.Core.Path.{refl, sym, _∙_}
+use borrow.Author.Needs.{needs}
+use Rattle.words.proofs.board_word.Statement.{statement}
+use Rattle.words.proofs.board_word.Tie as tie
+use Rattle.words.proofs.board_word.Reads as reads
+use Rattle.words.proofs.board_word.Lts as lts
+use Rattle.words.proofs.as_end.Reads as as-end-reads
+use Rattle.words.proofs.as_net.Reads as as-net-reads
+use Rattle.words.proofs.as_row.Reads as as-row-reads
+use Rattle.words.proofs.kind_of.Reads as kind-of-reads
+
+kind-of-requires : tie.Need-kind-of-requires
+kind-of-requires c κs = search needs
+
+as-row-requires : tie.Need-as-row-requires
+as-row-requires c κs = search needs
+
+returns : tie.Need-returns
+unfolding boardWord
+returns c =
+    let w = c .before .before .before .args .w in
+    rw (eq-eqb (kind w) 1 (sym (c .before .before .kind-of .ensures) ∙ c .before .if1 .taken)) (c .as-row .ensures)
+
+as-net-requires : tie.Need-as-net-requires
+as-net-requires c κs = search needs
+
+returns-2 : tie.Need-returns-2
+unfolding boardWord
+returns-2 c =
+    let w = c .before .before .before .before .args .w in
+    rw (ne-eqb (kind w) 1 (λ e. c .before .before .if1 .left (c .before .before .before .kind-of .ensures ∙ e)), eq-eqb (kind w) 2 (sym (c .before .before .before .kind-of .ensures) ∙ c .before .if2 .taken)) (c .as-net .ensures)
+
+as-end-requires : tie.Need-as-end-requires
+as-end-requires c κs = search needs
+
+returns-3 : tie.Need-returns-3
+unfolding boardWord
+returns-3 c =
+    let w = c .before .before .before .before .before .args .w in
+    rw (ne-eqb (kind w) 1 (λ e. c .before .before .before .if1 .left (c .before .before .before .before .kind-of .ensures ∙ e)), ne-eqb (kind w) 2 (λ e. c .before .before .if2 .left (c .before .before .before .before .kind-of .ensures ∙ e)), eq-eqb (kind w) 15 (sym (c .before .before .before .before .kind-of .ensures) ∙ c .before .if3 .taken)) (c .as-end .ensures)
+
+returns-4 : tie.Need-returns-4
+unfolding boardWord
+returns-4 c =
+    let w = c .before .before .before .before .args .w in
+    rw (ne-eqb (kind w) 1 (λ e. c .before .before .if1 .left (c .before .before .before .kind-of .ensures ∙ e)), ne-eqb (kind w) 2 (λ e. c .before .if2 .left (c .before .before .before .kind-of .ensures ∙ e)), ne-eqb (kind w) 15 (λ e. c .if3 .left (c .before .before .before .kind-of .ensures ∙ e))) refl
+
+pub board-word-spec : {M : Type 1} → statement M
+board-word-spec =
+    tie.close
+    (tie.spec
+    kind-of-requires
+    as-row-requires
+    returns
+    as-net-requires
+    returns-2
+    as-end-requires
+    returns-3
+    returns-4)
