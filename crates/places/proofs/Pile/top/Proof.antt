@@ -1,0 +1,33 @@
+-- `top` gives the change on top of the pile.
+use native.Mathlib.Omega.{arith}
+use mathlib.Core.Path.{_≡_, refl, sym, ap, _∙_}
+use Rattle.places.specs.Pile.{noSlot}
+use Rattle.places.specs.declared.Slot.{Slot}
+use Rattle.places.specs.Shift.{length-unmapped-by}
+use Rattle.places.specs.Numbered.{entry-in, entry-out}
+use borrow.Author.Needs.{needs}
+use Rattle.places.proofs.Pile.top.Statement.{statement}
+use Rattle.places.proofs.Pile.top.Tie as tie
+
+index-of-requires : tie.Need-index-of-requires
+index-of-requires c κs = search needs
+
+mul-slot : tie.Need-mul-slot
+mul-slot c = search needs
+
+array-copy-out-slot : tie.Need-array-copy-out-slot
+array-copy-out-slot c = search needs
+
+no-slot-requires : tie.Need-no-slot-requires
+no-slot-requires c κs = search needs
+
+returns : tie.Need-returns
+returns c = ap (λ (s : Slot). s .change) (entry-in (c .before .before .before .before .args .self .changes) (c .before .before .before .before .args .self .depth) (c .before .before .index-of .result) noSlot (c .before .before .index-of .ensures) (omega arith))
+
+returns-2 : tie.Need-returns-2
+returns-2 c = ap (λ (s : Slot). s .change) (c .no-slot .ensures ∙ entry-out (c .before .before .before .before .args .self .changes) (c .before .before .before .before .args .self .depth) (c .before .before .index-of .result) noSlot (c .before .before .index-of .ensures) (omega arith) (search (needs, length-unmapped-by)))
+
+pub top-spec : {M : Type 1} → statement M
+top-spec =
+    tie.close
+    (tie.spec index-of-requires mul-slot array-copy-out-slot no-slot-requires returns returns-2)

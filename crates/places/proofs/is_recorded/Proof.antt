@@ -1,0 +1,28 @@
+-- `is_recorded` tells whether this very net is held.
+use Rattle.places.specs.Nets.{recorded-of}
+use borrow.Author.Needs.{needs}
+use Rattle.places.proofs.is_recorded.Statement.{statement}
+use Rattle.places.proofs.is_recorded.Tie as tie
+
+place-of-requires : tie.Need-place-of-requires
+place-of-requires c κs = search needs
+
+enum-told : tie.Need-enum-told
+enum-told c = search needs
+
+enum-known-held : tie.Need-enum-known-held
+enum-known-held c = search needs
+
+same-pair-requires : tie.Need-same-pair-requires
+same-pair-requires c κs = search needs
+
+returns : tie.Need-returns
+returns c = rw (recorded-of (c .before .before .before .args .nets) (c .before .before .before .args .net), ← c .before .before .place-of .ensures) (cc)
+
+returns-2 : tie.Need-returns-2
+returns-2 c = rw (recorded-of (c .before .before .before .before .before .args .nets) (c .before .before .before .before .before .args .net), ← c .before .before .before .before .place-of .ensures) (cc)
+
+pub is-recorded-spec : {M : Type 1} → statement M
+is-recorded-spec =
+    tie.close
+    (tie.spec place-of-requires enum-told enum-known-held same-pair-requires returns returns-2)
