@@ -2,17 +2,19 @@
 -- The first `count` places of the array are its rows. Past the array's end stand rows of no cell, so that a count above 31 is a board of
 -- that many rows, outside the limits.
 -- Assumes nothing.
-use mathlib.Core.Path.{_≡_, refl, ap}
+use mathlib.Core.Path.{_≡_, refl, ap, _∙_}
 use mathlib.Core.Bool.{_&&_}
-use mathlib.Core.List.{List, [], _∷_, map}
+use mathlib.Core.List.{List, [], _∷_, _++_, map}
 use mathlib.Core.Logic.{inl, inr}
 use Prim.Native.Nat.{ℕ, zero, suc, _+_, _<_}
 use native.Mathlib.Omega.{arith}
 use lib.Dec.{leb, ltb}
-use lib.ListN.{length, getD}
+use lib.ListN.{length, getD, set}
+use lib.Seq.{getD-set-same, getD-set-other}
+use native.Mathlib.Numerals.{add-one}
 use borrow.Author.Tests.{le-ltb}
 use Rattle.count.specs.Truth.{le-or-lt}
-use Rattle.count.specs.Lists.{rising, upTo, length-rising, getD-rising}
+use Rattle.count.specs.Lists.{rising, upTo, length-rising, getD-rising, rising-snoc, map-rising}
 use Rattle.board.specs.Board.{Board, height, left, right, noRow}
 use Rattle.board.specs.Degree.{cell?}
 use Rattle.board.specs.declared.Row.{Row}
@@ -42,3 +44,24 @@ cell-of b i j = elim (le-or-lt (b .count) i) [
   | inl h ↦ rw (height-of b, le-ltb i (b .count) h) refl
   | inr h ↦ rw (height-of b, left-of b i h, right-of b i h) refl
 ]
+
+-- one row more
+module _ (b : code.Board) (r : Row) (h : b .count < length (b .rows)) where
+  now-row : ℕ → Row
+  now-row i = getD (set (b .rows) (b .count) r) i noRow
+
+  kept-rows : map now-row (upTo (b .count)) ≡ map (λ i. getD (b .rows) i noRow) (upTo (b .count))
+  unfolding now-row
+  kept-rows = map-rising now-row (λ i. getD (b .rows) i noRow) 0 (b .count)
+      (λ i p q. getD-set-other (b .rows) (b .count) i r noRow (λ z. omega (arith, z)))
+
+  new-row : now-row (0 + b .count) ≡ r
+  unfolding now-row
+  new-row = let e : 0 + b .count ≡ b .count = omega arith in rw e (getD-set-same (b .rows) (b .count) r noRow h)
+
+  pub board-more : boardOf (record { count = b .count + 1; rows = set (b .rows) (b .count) r }) ≡ record { rows = boardOf b .rows ++ (r ∷ []) }
+  unfolding boardOf now-row
+  board-more =
+      let e : map now-row (upTo (b .count + 1)) ≡ map now-row (upTo (b .count)) ++ (now-row (0 + b .count) ∷ []) = rw add-one (rising-snoc now-row 0 (b .count)) in
+      let f : map now-row (upTo (b .count)) ++ (now-row (0 + b .count) ∷ []) ≡ map (λ i. getD (b .rows) i noRow) (upTo (b .count)) ++ (r ∷ []) = rw (kept-rows, new-row) refl in
+      ap (λ (rs : List Row). record { rows = rs }) (e ∙ f)

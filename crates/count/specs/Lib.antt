@@ -1,3 +1,7 @@
 pub mod Truth
 pub mod Sum
 pub mod Lists
+pub mod Bits
+pub mod Sums
+pub mod Each
+pub mod Parity

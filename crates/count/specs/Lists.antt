@@ -4,7 +4,7 @@ use mathlib.Core.Path.{_≡_, refl, ap}
 use mathlib.Core.Bool.{Bool, true, false, cond}
 use mathlib.Core.List.{List, [], _∷_, _++_, map, head?}
 use mathlib.Core.Option.{Option, none, some}
-use Prim.Native.Nat.{ℕ, zero, suc, _+_, _-_, _<_}
+use Prim.Native.Nat.{ℕ, zero, suc, _+_, _-_, _<_, _≤_}
 use native.Mathlib.Omega.{arith}
 use lib.ListN.{length, getD}
 
@@ -76,3 +76,16 @@ first-no t {ys = ys} {x = x} e h = rw (e, select-no t x ys h) refl
 pub first-none {ℓ} : {A : Type ℓ} (t : A → Bool) {xs : List A} → xs ≡ [] → first t xs ≡ none
 unfolding select
 first-none t e = rw e refl
+
+-- one value more at the end
+pub rising-snoc {ℓ} : {A : Type ℓ} (f : ℕ → A) (i n : ℕ) → map f (rising i (suc n)) ≡ map f (rising i n) ++ (f (i + n) ∷ [])
+rising-snoc f i zero = let e : i + 0 ≡ i = omega arith in rw e refl
+rising-snoc {A = A} f i (suc n) =
+    let e : i + suc n ≡ suc i + n = omega arith in
+    ap (λ (xs : List A). f i ∷ xs) (rw e (rising-snoc f (suc i) n))
+
+-- two functions that agree there
+pub map-rising {ℓ} : {A : Type ℓ} (f g : ℕ → A) (i n : ℕ) → ((k : ℕ) → i ≤ k → k < i + n → f k ≡ g k) → map f (rising i n) ≡ map g (rising i n)
+map-rising f g i zero h = refl
+map-rising f g i (suc n) h =
+    rw (h i (omega arith) (omega arith), map-rising f g (suc i) n (λ k p q. h k (omega arith) (omega arith))) refl

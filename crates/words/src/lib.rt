@@ -5,9 +5,15 @@ ghost use Rattle.board.specs.Path.{number};
 ghost use Rattle.words.specs.Bits.{kind};
 ghost use Rattle.words.specs.BoardWord.{rowWord, netWord, endWord, asRow, asNet, asEnd, boardWord};
 ghost use Rattle.words.specs.RoutingWord.{
-    pathWord, runWord, routingEndWord, direction, asPath, asRun, asRoutingEnd, routingWord
+  pathWord,
+  runWord,
+  routingEndWord,
+  direction,
+  asPath,
+  asRun,
+  asRoutingEnd,
+  routingWord,
 };
-
 use board::Direction;
 use board::Row;
 use board::Vertex;
@@ -75,7 +81,11 @@ pub fn pack_net(n: Net) -> u32
     let first = ends.first;
     let second = ends.second;
     let head = 536870912 + wide(n.number) * 1048576;
-    head + wide(first.line) * 32768 + wide(first.column) * 1024 + wide(second.line) * 32 + wide(second.column)
+    head
+        + wide(first.line) * 32768
+        + wide(first.column) * 1024
+        + wide(second.line) * 32
+        + wide(second.column)
 }
 
 pub fn pack_end(c: Counts) -> u32

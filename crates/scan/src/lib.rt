@@ -1,0 +1,168 @@
+// The words of a board, taken one by one: each through refusals 12 to 15.
+ghost use mathlib.Core.Path.{_≡_};
+ghost use Prim.Native.Nat.{_≤_};
+ghost use Rattle.scan.specs.Scan.{
+  rowRefused,
+  netRefused,
+  endRefused,
+  wordRefused,
+  withRow,
+  withNet,
+  withEnd,
+  withWord,
+  start,
+};
+use board::Board;
+use board::Row;
+use net::Net;
+use words::BoardWord;
+use words::Counts;
+
+// What the words so far have said: the board's rows, how many nets, the last net's number, and whether the end word has been.
+pub struct Scan {
+    pub board: Board,
+    pub nets: u8,
+    pub last: u8,
+    pub ended: bool,
+}
+
+// A refusal's number, 0 for none, and the index of its word.
+pub struct Scanned {
+    pub number: u8,
+    pub index: u8,
+    pub scan: Scan,
+}
+
+// The number of the refusal of a row, 0 for none.
+fn row_refused(s: Scan, r: Row) -> u8
+    ensures { λ n. ⌜ n ≡ rowRefused s r ⌝ }
+{
+    let board = s.board;
+    if (0 < s.nets) | s.ended {
+        return 13;
+    }
+    if !(r.left < r.right) | (31 <= board.count) {
+        return 14;
+    }
+    0
+}
+
+fn net_refused(s: Scan, first: bool, n: Net) -> u8
+    ensures { λ r. ⌜ r ≡ netRefused s first n ⌝ }
+{
+    if first | (((0 < s.nets) & (n.number <= s.last)) | s.ended) {
+        return 13;
+    }
+    0
+}
+
+fn end_refused(s: Scan, first: bool, c: Counts) -> u8
+    ensures { λ r. ⌜ r ≡ endRefused s first c ⌝ }
+{
+    let board = s.board;
+    if first | s.ended {
+        return 13;
+    }
+    if !((c.rows == board.count) & (c.nets == s.nets)) {
+        return 15;
+    }
+    0
+}
+
+// The number of the refusal of a word, 0 for none.
+fn word_refused(s: Scan, first: bool, w: BoardWord) -> u8
+    ensures { λ r. ⌜ r ≡ wordRefused s first w ⌝ }
+{
+    match w {
+        BoardWord::Row(r) => row_refused(s, r),
+        BoardWord::Net(n) => net_refused(s, first, n),
+        BoardWord::End(c) => end_refused(s, first, c),
+        BoardWord::Unknown => 12,
+    }
+}
+
+fn wide(x: u8) -> usize
+    ensures { λ r. ⌜ r ≡ x ⌝ }
+{
+    x as usize
+}
+
+fn with_row(s: Scan, r: Row) -> Scan
+    ensures { λ t. ⌜ t ≡ withRow s r ⌝ }
+{
+    let board = s.board;
+    let count = board.count;
+    let at = wide(count);
+    if count < 31 {
+        let mut rows = board.rows;
+        rows[at] = r;
+        Scan {
+            board: Board {
+                count: count + 1,
+                rows,
+            },
+            nets: s.nets,
+            last: s.last,
+            ended: s.ended,
+        }
+    } else {
+        s
+    }
+}
+
+fn with_net(s: Scan, n: Net) -> Scan
+    ensures { λ t. ⌜ t ≡ withNet s n ⌝ }
+{
+    let board = s.board;
+    let nets = s.nets;
+    if nets < 255 {
+        Scan {
+            board,
+            nets: nets + 1,
+            last: n.number,
+            ended: s.ended,
+        }
+    } else {
+        s
+    }
+}
+
+fn with_end(s: Scan) -> Scan
+    ensures { λ t. ⌜ t ≡ withEnd s ⌝ }
+{
+    let board = s.board;
+    Scan {
+        board,
+        nets: s.nets,
+        last: s.last,
+        ended: true,
+    }
+}
+
+// The scan with what one more word says.
+fn with_word(s: Scan, w: BoardWord) -> Scan
+    ensures { λ t. ⌜ t ≡ withWord s w ⌝ }
+{
+    match w {
+        BoardWord::Row(r) => with_row(s, r),
+        BoardWord::Net(n) => with_net(s, n),
+        BoardWord::End(_) => with_end(s),
+        BoardWord::Unknown => s,
+    }
+}
+
+// Before the first word.
+fn before_words() -> Scan
+    ensures { λ t. ⌜ t ≡ start ⌝ }
+{
+    let row = Row { left: 0, right: 0 };
+    Scan {
+        board: Board {
+            count: 0,
+            rows: [row; 31],
+        },
+        nets: 0,
+        last: 0,
+        ended: false,
+    }
+}
