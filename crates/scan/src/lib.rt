@@ -1,6 +1,6 @@
 // The words of a board, taken one by one: each through refusals 12 to 15.
 ghost use mathlib.Core.Path.{_≡_};
-ghost use Prim.Native.Nat.{_≤_};
+ghost use Rattle.scan.specs.Promise.{ScanPromise};
 ghost use Rattle.scan.specs.Scan.{
   rowRefused,
   netRefused,
@@ -29,7 +29,7 @@ pub struct Scan {
 // A refusal's number, 0 for none, and the index of its word.
 pub struct Scanned {
     pub number: u8,
-    pub index: u8,
+    pub index: usize,
     pub scan: Scan,
 }
 
@@ -164,5 +164,44 @@ fn before_words() -> Scan
         nets: 0,
         last: 0,
         ended: false,
+    }
+}
+
+// The words one by one, each through 12 to 15; then an end must have been. First of all 11: no words or more than 96.
+pub fn scan_words(words: &[u32]) -> Scanned
+    ensures { λ r. ⌜ ScanPromise (now (words .entry)) r ⌝ }
+{
+    let mut s = before_words();
+    let n = words.len();
+    if (n == 0) | (96 < n) {
+        return Scanned {
+            number: 11,
+            index: 0,
+            scan: s,
+        };
+    }
+    for i in 0..n {
+        let w = words::board_word(words[i]);
+        let number = word_refused(s, i == 0, w);
+        if number != 0 {
+            return Scanned {
+                number,
+                index: i,
+                scan: s,
+            };
+        }
+        s = with_word(s, w);
+    }
+    if s.ended {
+        return Scanned {
+            number: 0,
+            index: n,
+            scan: s,
+        };
+    }
+    Scanned {
+        number: 13,
+        index: n,
+        scan: s,
     }
 }
