@@ -17,6 +17,7 @@ use Rattle.machine.specs.Refusal.{Refusal, refusal, line, firstRefusal}
 use Rattle.machine.specs.Session.{Session, pairs}
 use Rattle.machine.specs.Sound.{sound?}
 use Rattle.words.specs.RoutingWord.{routingWords}
+use Rattle.calls.specs.Result.{Result, no, yes}
 use Rattle.calls.specs.Shape.{routingLimit}
 use Rattle.calls.specs.Writing.{writtenInto}
 
@@ -60,3 +61,9 @@ pub record HandsBack (s : Session) (before after : List ℕ) (count : ℕ) : Typ
   pub routing : Routing (s .board) (pairs (s .nets)) paths
   pub words : after ≡ writtenInto before (routingWords (s .nets) paths)
   pub counted : count ≡ length (routingWords (s .nets) paths)
+
+-- The whole call, on a session and a lent buffer: what it answers and the buffer afterwards.
+-- Refused: the refusal, and the buffer as it was. Else the count of the words of a routing, and the buffer with them at its start.
+pub data Routes (s : Session) (before : List ℕ) : Result ℕ → (after : List ℕ) → Type 0 where
+  refused : {r : Refusal} → routeRefused s (length before) ≡ some r → Routes s before (no r) before
+  given : {after : List ℕ} {count : ℕ} → routeRefused s (length before) ≡ none → HandsBack s before after count → Routes s before (yes count) after

@@ -1,5 +1,5 @@
 -- Definitions only: the tests of the limits and of convexity that the code computes. Nothing is proved here:
--- `in-limits` and `is-convex` in Exact say that they are exact.
+-- `in-limits` (Limits) and `is-convex` (Exact) say that they are exact.
 use mathlib.Core.Bool.{Bool, true, _&&_, cond}
 use mathlib.Core.List.{List}
 use Prim.Native.Nat.{ℕ, zero, suc, _+_, _-_}

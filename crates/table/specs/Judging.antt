@@ -2,34 +2,22 @@
 -- Assumes nothing.
 use mathlib.Core.Path.{_≡_, refl}
 use mathlib.Core.Bool.{true, false}
-use mathlib.Core.List.{List, [], _∷_, _++_, map, flatMap}
+use mathlib.Core.List.{List, [], _∷_, map}
 use Prim.Native.Nat.{ℕ}
 use lib.ListN.{replicate}
-use Rattle.count.specs.Lists.{select}
-use Rattle.board.specs.Path.{turn, turns}
-use Rattle.board.specs.Degree.{belowRight, belowLeft, aboveRight, aboveLeft, vertex?, edge?, degree, pins}
-use Rattle.board.specs.declared.Direction.{Direction}
+use Rattle.board.specs.Path.{turns}
 use Rattle.board.specs.declared.Direction.the-variants.{Up, Right, Down, Left}
-use Rattle.convex.specs.Test.{rowsFit, contains?, peels, inLimits, isConvex}
-use Rattle.net.specs.Terminals.{terminals}
-use Rattle.net.specs.declared.Change.the-variants.{Added, Withdrawn}
-use Rattle.routing.specs.Routing.{uses}
-use Rattle.machine.specs.Session.{Session, holds, insert, remove, recorded}
-use Rattle.machine.specs.Add.{addLines, addRefused, accepts}
-use Rattle.machine.specs.Machine.{reversed}
-use Rattle.machine.specs.Sound.{rising?, addable?, liftable?, lifts?, sound?}
-use Rattle.words.specs.Bytes.{wordsIn}
-use Rattle.words.specs.RoutingWord.{routingWord, asPath, asRun, asRoutingEnd, runsOf, pathWords, pathsWords, routingWords}
-use Rattle.calls.specs.Result.{Result, no, yes}
-use Rattle.calls.specs.Shape.{wordsRefused, runsFrom, pathsFrom}
-use Rattle.calls.specs.Walk.{walkSteps, walkRuns, walkPath, walkPaths}
-use Rattle.calls.specs.Report.{directions, edgesUsed, turnsMade, turnsAt, turning, knockKnee, knockKnees, alike}
-use Rattle.calls.specs.Judge.{judged, judgeWords, compareWords, judgeBytes}
+use Rattle.net.specs.declared.Change.the-variants.{Withdrawn}
+use Rattle.words.specs.RoutingWord.{routingWords}
+use Rattle.calls.specs.Result.{yes}
+use Rattle.calls.specs.Report.{knockKnees}
+use Rattle.calls.specs.Judge.{judgeWords, compareWords, judgeBytes}
+use Rattle.table.specs.Everything.{everything}
 use Rattle.table.specs.Boards.{row, net, session, ring, ringOutput, why}
 
 -- the ring's words are the routing words of its paths
 ring-words : routingWords (ring .nets) ((Right ∷ []) ∷ (Down ∷ []) ∷ (Left ∷ []) ∷ (Up ∷ []) ∷ []) ≡ ringOutput
-unfolding routingWords pathsWords pathWords runsOf
+unfolding everything
 ring-words = refl
 
 -- word lists, and the refusal that each gets
@@ -114,34 +102,34 @@ refusals : map (λ ws. why (judgeWords ring ws)) (
     ∷ (46 ∷ 0 ∷ [])
     ∷ (46 ∷ 0 ∷ [])
     ∷ []
-unfolding judgeWords compareWords judgeBytes judged wordsIn rowsFit contains? peels inLimits isConvex rising? addable? liftable? lifts? sound? accepts addRefused addLines holds insert remove recorded reversed belowRight belowLeft aboveRight aboveLeft vertex? edge? degree pins terminals wordsRefused routingWord asPath asRun asRoutingEnd runsFrom pathsFrom walkSteps walkRuns walkPath walkPaths uses directions edgesUsed turnsMade turns turn turnsAt turning knockKnee knockKnees alike select flatMap
+unfolding everything
 refusals = refl
 
 -- 41: 2,050 words
 too-many : why (judgeWords ring (replicate 2050 0xE0000004)) ≡ 41 ∷ 0 ∷ []
-unfolding judgeWords compareWords judgeBytes judged wordsIn rowsFit contains? peels inLimits isConvex rising? addable? liftable? lifts? sound? accepts addRefused addLines holds insert remove recorded reversed belowRight belowLeft aboveRight aboveLeft vertex? edge? degree pins terminals wordsRefused routingWord asPath asRun asRoutingEnd runsFrom pathsFrom walkSteps walkRuns walkPath walkPaths uses directions edgesUsed turnsMade turns turn turnsAt turning knockKnee knockKnees alike select flatMap
+unfolding everything
 too-many = refl
 
--- 20 before 41, and before 10: the same net twice on the pile
+-- 20 before 41, and before 10: the pile has a withdrawn net whose number is on the board
 unsound : why (judgeWords (record { board = ring .board; nets = ring .nets; pile = Withdrawn (net 1 0 0 0 1) ∷ [] }) []) ≡ 20 ∷ 0 ∷ []
-unfolding judgeWords compareWords judgeBytes judged wordsIn rowsFit contains? peels inLimits isConvex rising? addable? liftable? lifts? sound? accepts addRefused addLines holds insert remove recorded reversed belowRight belowLeft aboveRight aboveLeft vertex? edge? degree pins terminals wordsRefused routingWord asPath asRun asRoutingEnd runsFrom pathsFrom walkSteps walkRuns walkPath walkPaths uses directions edgesUsed turnsMade turns turn turnsAt turning knockKnee knockKnees alike select flatMap
+unfolding everything
 unsound = refl
 
 unsound-bytes : why (judgeBytes (record { board = ring .board; nets = ring .nets; pile = Withdrawn (net 1 0 0 0 1) ∷ [] }) (1 ∷ [])) ≡ 20 ∷ 0 ∷ []
-unfolding judgeWords compareWords judgeBytes judged wordsIn rowsFit contains? peels inLimits isConvex rising? addable? liftable? lifts? sound? accepts addRefused addLines holds insert remove recorded reversed belowRight belowLeft aboveRight aboveLeft vertex? edge? degree pins terminals wordsRefused routingWord asPath asRun asRoutingEnd runsFrom pathsFrom walkSteps walkRuns walkPath walkPaths uses directions edgesUsed turnsMade turns turn turnsAt turning knockKnee knockKnees alike select flatMap
+unfolding everything
 unsound-bytes = refl
 
 one-byte : why (judgeBytes ring (1 ∷ [])) ≡ 10 ∷ 0 ∷ []
-unfolding judgeWords compareWords judgeBytes judged wordsIn rowsFit contains? peels inLimits isConvex rising? addable? liftable? lifts? sound? accepts addRefused addLines holds insert remove recorded reversed belowRight belowLeft aboveRight aboveLeft vertex? edge? degree pins terminals wordsRefused routingWord asPath asRun asRoutingEnd runsFrom pathsFrom walkSteps walkRuns walkPath walkPaths uses directions edgesUsed turnsMade turns turn turnsAt turning knockKnee knockKnees alike select flatMap
+unfolding everything
 one-byte = refl
 
 -- two lists: the first is judged first; its place stands after 0, that of the second after 1
 compared : map (λ (ws : List ℕ). why (compareWords ring ringOutput ws)) ([] ∷ ringOutput ∷ []) ≡ (41 ∷ 1 ∷ 0 ∷ []) ∷ [] ∷ []
-unfolding judgeWords compareWords judgeBytes judged wordsIn rowsFit contains? peels inLimits isConvex rising? addable? liftable? lifts? sound? accepts addRefused addLines holds insert remove recorded reversed belowRight belowLeft aboveRight aboveLeft vertex? edge? degree pins terminals wordsRefused routingWord asPath asRun asRoutingEnd runsFrom pathsFrom walkSteps walkRuns walkPath walkPaths uses directions edgesUsed turnsMade turns turn turnsAt turning knockKnee knockKnees alike select flatMap
+unfolding everything
 compared = refl
 
 compared-first : why (compareWords ring [] []) ≡ 41 ∷ 0 ∷ 0 ∷ []
-unfolding judgeWords compareWords judgeBytes judged wordsIn rowsFit contains? peels inLimits isConvex rising? addable? liftable? lifts? sound? accepts addRefused addLines holds insert remove recorded reversed belowRight belowLeft aboveRight aboveLeft vertex? edge? degree pins terminals wordsRefused routingWord asPath asRun asRoutingEnd runsFrom pathsFrom walkSteps walkRuns walkPath walkPaths uses directions edgesUsed turnsMade turns turn turnsAt turning knockKnee knockKnees alike select flatMap
+unfolding everything
 compared-first = refl
 
 -- two routings of one net on two cells, of 1 and of 3 edges: not alike; each is alike to itself
@@ -149,12 +137,12 @@ lengths : (compareWords (session (row 0 2 ∷ []) (net 1 0 1 1 1 ∷ []))
     (routingWords (net 1 0 1 1 1 ∷ []) ((Down ∷ []) ∷ [])) (routingWords (net 1 0 1 1 1 ∷ []) ((Right ∷ Down ∷ Left ∷ []) ∷ [])) ≡ yes false)
     × (compareWords (session (row 0 2 ∷ []) (net 1 0 1 1 1 ∷ []))
     (routingWords (net 1 0 1 1 1 ∷ []) ((Down ∷ []) ∷ [])) (routingWords (net 1 0 1 1 1 ∷ []) ((Down ∷ []) ∷ [])) ≡ yes true)
-unfolding judgeWords compareWords judgeBytes judged wordsIn rowsFit contains? peels inLimits isConvex rising? addable? liftable? lifts? sound? accepts addRefused addLines holds insert remove recorded reversed belowRight belowLeft aboveRight aboveLeft vertex? edge? degree pins terminals wordsRefused routingWord asPath asRun asRoutingEnd runsFrom pathsFrom walkSteps walkRuns walkPath walkPaths uses directions edgesUsed turnsMade turns turn turnsAt turning knockKnee knockKnees alike select flatMap routingWords pathsWords pathWords runsOf
+unfolding everything
 lengths = (refl, refl)
 
 -- a net that passes the vertex (1,1) twice, turning there twice, alone: no knock-knee
 twice : judgeWords (session (row 0 2 ∷ row 0 2 ∷ []) (net 1 0 1 1 2 ∷ []))
     (routingWords (net 1 0 1 1 2 ∷ []) ((Down ∷ Left ∷ Down ∷ Right ∷ Up ∷ Right ∷ []) ∷ []))
     ≡ yes (record { edges = 6; turns = 5; knockKnees = 0 })
-unfolding judgeWords compareWords judgeBytes judged wordsIn rowsFit contains? peels inLimits isConvex rising? addable? liftable? lifts? sound? accepts addRefused addLines holds insert remove recorded reversed belowRight belowLeft aboveRight aboveLeft vertex? edge? degree pins terminals wordsRefused routingWord asPath asRun asRoutingEnd runsFrom pathsFrom walkSteps walkRuns walkPath walkPaths uses directions edgesUsed turnsMade turns turn turnsAt turning knockKnee knockKnees alike select flatMap routingWords pathsWords pathWords runsOf
+unfolding everything
 twice = refl

@@ -1,3 +1,4 @@
+pub mod Everything
 pub mod Boards
 pub mod Table
 pub mod Reading

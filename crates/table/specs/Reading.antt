@@ -1,43 +1,33 @@
 -- The definitions of reading at work: each refusal of a board's words, with its place, and which of two comes first.
 -- Assumes nothing.
 use mathlib.Core.Path.{_≡_, refl}
-use mathlib.Core.List.{List, [], _∷_, map}
-use Prim.Native.Nat.{ℕ}
+use mathlib.Core.List.{[], _∷_, map}
 use lib.ListN.{replicate}
-use Rattle.board.specs.Degree.{belowRight, belowLeft, aboveRight, aboveLeft, vertex?, edge?, degree, pins}
-use Rattle.convex.specs.Test.{rowsFit, contains?, peels, inLimits, isConvex}
-use Rattle.net.specs.Terminals.{terminals}
-use Rattle.machine.specs.Session.{Session, holds, insert}
-use Rattle.machine.specs.Add.{addLines, addRefused}
 use Rattle.machine.specs.Sound.{blank}
-use Rattle.words.specs.BoardWord.{boardWord, asRow, asNet, asEnd}
-use Rattle.words.specs.Bytes.{wordsIn, bytesOf}
-use Rattle.calls.specs.Result.{Result, no, yes}
-use Rattle.calls.specs.Reading.{wordLines, takeWords, addListed, readNets, readTaken, readWords, readBytes, handedBack}
+use Rattle.words.specs.Bytes.{bytesOf}
+use Rattle.calls.specs.Result.{yes}
+use Rattle.calls.specs.Reading.{readWords, readBytes, handedBack}
 use Rattle.calls.specs.Writing.{boardWords}
+use Rattle.table.specs.Everything.{everything}
 use Rattle.table.specs.Boards.{ring, ringInput, why}
 
--- the ring is read, and written back as the same words
-ring-read : readWords ringInput ≡ yes ring
-unfolding readWords readBytes takeWords readTaken readNets addListed wordLines boardWord asRow asNet asEnd wordsIn addRefused addLines holds insert rowsFit contains? peels inLimits isConvex belowRight belowLeft aboveRight aboveLeft vertex? edge? degree pins terminals
-ring-read = refl
-
+-- the ring is written back as the words that it is read from
 ring-written : boardWords ring ≡ ringInput
-unfolding boardWords
+unfolding everything
 ring-written = refl
 
 ring-bytes : readBytes (bytesOf ringInput) ≡ yes ring
-unfolding bytesOf readWords readBytes takeWords readTaken readNets addListed wordLines boardWord asRow asNet asEnd wordsIn addRefused addLines holds insert rowsFit contains? peels inLimits isConvex belowRight belowLeft aboveRight aboveLeft vertex? edge? degree pins terminals
+unfolding everything
 ring-bytes = refl
 
 -- 10 before 11: three bytes, no word
 three-bytes : why (readBytes (1 ∷ 2 ∷ 3 ∷ [])) ≡ 10 ∷ 0 ∷ []
-unfolding readWords readBytes takeWords readTaken readNets addListed wordLines boardWord asRow asNet asEnd wordsIn addRefused addLines holds insert rowsFit contains? peels inLimits isConvex belowRight belowLeft aboveRight aboveLeft vertex? edge? degree pins terminals
+unfolding everything
 three-bytes = refl
 
 -- 11: 97 words
 too-many : why (readWords (replicate 97 0x10000001)) ≡ 11 ∷ 0 ∷ []
-unfolding readWords readBytes takeWords readTaken readNets addListed wordLines boardWord asRow asNet asEnd wordsIn addRefused addLines holds insert rowsFit contains? peels inLimits isConvex belowRight belowLeft aboveRight aboveLeft vertex? edge? degree pins terminals
+unfolding everything
 too-many = refl
 
 -- word lists, and the refusal that each gets
@@ -122,10 +112,10 @@ refusals : map (λ ws. why (readWords ws)) (
     ∷ (24 ∷ 1 ∷ [])
     ∷ (25 ∷ 3 ∷ [])
     ∷ []
-unfolding readWords readBytes takeWords readTaken readNets addListed wordLines boardWord asRow asNet asEnd wordsIn addRefused addLines holds insert rowsFit contains? peels inLimits isConvex belowRight belowLeft aboveRight aboveLeft vertex? edge? degree pins terminals
+unfolding everything
 refusals = refl
 
 -- "A refused reading gives the blank session"
 refused-blank : handedBack (readWords []) ≡ blank
-unfolding readWords
+unfolding everything
 refused-blank = refl

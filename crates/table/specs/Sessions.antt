@@ -1,43 +1,18 @@
 -- The definitions of the list machine, of writing and of the call `route` at work: each refusal with its place, and which of two comes first.
 -- Assumes nothing.
 use mathlib.Core.Path.{_≡_, refl}
-use mathlib.Core.Bool.{true, false, xor}
-use mathlib.Core.List.{List, [], _∷_, _++_, map, flatMap}
+use mathlib.Core.Bool.{true}
+use mathlib.Core.List.{List, [], _∷_, map}
 use mathlib.Core.Option.{Option, none, some}
 use Prim.Native.Nat.{ℕ, zero, suc}
-use lib.ListN.{length, replicate}
-use Rattle.count.specs.Sum.{sum, count}
-use Rattle.count.specs.Lists.{select, upTo}
-use Rattle.board.specs.Degree.{belowRight, belowLeft, aboveRight, aboveLeft, vertex?, edge?, degree, pins}
-use Rattle.convex.specs.Test.{rowsFit, contains?, peels, inLimits, isConvex}
-use Rattle.net.specs.Terminals.{terminals}
-use Rattle.net.specs.declared.Net.{Net}
-use Rattle.net.specs.declared.Change.the-variants.{Added, Withdrawn}
-use Rattle.cut.specs.Cut.{edges, crosses, crossing, margin, overfull?, cuts, overfullCuts}
-use Rattle.cut.specs.Odd.{odd?, oddVertices}
+use lib.ListN.{length}
+use Rattle.net.specs.declared.Change.the-variants.{Added}
 use Rattle.machine.specs.Refusal.{Refusal}
-use Rattle.machine.specs.Session.{Session, holds, insert, remove, netOf, recorded}
-use Rattle.machine.specs.Add.{addLines, addRefused, accepts}
-use Rattle.machine.specs.Machine.{
-  Call,
-  add,
-  withdraw,
-  takeBack,
-  Answer,
-  accepted,
-  refused,
-  lay,
-  added,
-  withdrawn,
-  reversed,
-  takenBack,
-  step,
-  after,
-  answers,
-}
-use Rattle.machine.specs.Sound.{rising?, addable?, liftable?, lifts?, sound?, call, bare, blank}
-use Rattle.calls.specs.Writing.{boardWords, writeBoard}
+use Rattle.machine.specs.Machine.{Call, add, withdraw, takeBack, Answer, accepted, refused, after, answers}
+use Rattle.machine.specs.Sound.{sound?, call, bare, blank}
+use Rattle.calls.specs.Writing.{writeBoard}
 use Rattle.calls.specs.Route.{routeRefused}
+use Rattle.table.specs.Everything.{everything}
 use Rattle.table.specs.Boards.{row, board, net, session, ring, why}
 
 -- an answer as one list: a refusal's number and place; nothing where the call is accepted
@@ -76,7 +51,7 @@ calls : map answerList (answers (bare (board (row 0 1 ∷ []))) (
     ∷ (25 ∷ 0 ∷ []) ∷ (25 ∷ 1 ∷ [])
     ∷ (26 ∷ 0 ∷ []) ∷ (26 ∷ 0 ∷ []) ∷ (26 ∷ 0 ∷ []) ∷ []
     ∷ [] ∷ [] ∷ [] ∷ (27 ∷ 0 ∷ []) ∷ []
-unfolding call step lay added withdrawn takenBack netOf after answers rowsFit contains? peels inLimits isConvex rising? addable? liftable? lifts? sound? accepts addRefused addLines holds insert remove recorded reversed belowRight belowLeft aboveRight aboveLeft vertex? edge? degree pins terminals
+unfolding everything
 calls = refl
 
 -- what add, withdraw and take back leave: a withdrawn net returns with its terminals, in its place
@@ -86,7 +61,7 @@ history : after (bare (board (row 0 1 ∷ []))) (add (net 2 0 0 1 1) ∷ add (ne
       nets = net 1 1 0 0 1 ∷ net 2 0 0 1 1 ∷ [];
       pile = Added (net 1 1 0 0 1) ∷ Added (net 2 0 0 1 1) ∷ [];
     }
-unfolding call step lay added withdrawn takenBack netOf after answers rowsFit contains? peels inLimits isConvex rising? addable? liftable? lifts? sound? accepts addRefused addLines holds insert remove recorded reversed belowRight belowLeft aboveRight aboveLeft vertex? edge? degree pins terminals
+unfolding everything
 history = refl
 
 -- the 65th change: 33 times a net is added and withdrawn; the pile holds 64, the last change first
@@ -95,28 +70,28 @@ upAndDown zero = []
 upAndDown (suc k) = add (net 1 0 0 1 1) ∷ withdraw 1 ∷ upAndDown k
 
 long-pile : length (after (bare (board (row 0 1 ∷ []))) (upAndDown 33) .pile) ≡ 64
-unfolding call step lay added withdrawn takenBack netOf after answers rowsFit contains? peels inLimits isConvex rising? addable? liftable? lifts? sound? accepts addRefused addLines holds insert remove recorded reversed belowRight belowLeft aboveRight aboveLeft vertex? edge? degree pins terminals
+unfolding everything
 long-pile = refl
 
 -- 20 before 21: a pile with an added net that is not on the board
 unsound : answerList (call (record { board = board (row 0 1 ∷ []); nets = []; pile = Added (net 1 0 0 1 1) ∷ [] }) (add (net 0 0 0 1 1)) .answer)
     ≡ 20 ∷ 0 ∷ []
-unfolding call step lay added withdrawn takenBack netOf after answers rowsFit contains? peels inLimits isConvex rising? addable? liftable? lifts? sound? accepts addRefused addLines holds insert remove recorded reversed belowRight belowLeft aboveRight aboveLeft vertex? edge? degree pins terminals
+unfolding everything
 unsound = refl
 
 -- 20: case f as a session's board
 unsound-board : answerList (call (bare (board (row 0 1 ∷ row 1 2 ∷ []))) takeBack .answer) ≡ 20 ∷ 0 ∷ []
-unfolding call step lay added withdrawn takenBack netOf after answers rowsFit contains? peels inLimits isConvex rising? addable? liftable? lifts? sound? accepts addRefused addLines holds insert remove recorded reversed belowRight belowLeft aboveRight aboveLeft vertex? edge? degree pins terminals
+unfolding everything
 unsound-board = refl
 
 blank-sound : sound? blank ≡ true
-unfolding rowsFit contains? peels inLimits isConvex rising? addable? liftable? lifts? sound? accepts addRefused addLines holds insert remove recorded reversed belowRight belowLeft aboveRight aboveLeft vertex? edge? degree pins terminals
+unfolding everything
 blank-sound = refl
 
 -- ── writing: 20, then 18 ──
 writing : why (writeBoard ring 95) ∷ why (writeBoard ring 96) ∷ why (writeBoard (bare (board [])) 0) ∷ []
     ≡ (18 ∷ 0 ∷ []) ∷ [] ∷ (20 ∷ 0 ∷ []) ∷ []
-unfolding writeBoard rowsFit contains? peels inLimits isConvex rising? addable? liftable? lifts? sound? accepts addRefused addLines holds insert remove recorded reversed belowRight belowLeft aboveRight aboveLeft vertex? edge? degree pins terminals
+unfolding everything
 writing = refl
 
 -- ── routing: 20, 31, 32, 33 in this order ──
@@ -133,5 +108,5 @@ routing : map refusalList (
     ∷ routeRefused ring 2049
     ∷ [])
     ≡ (20 ∷ 0 ∷ []) ∷ (31 ∷ 0 ∷ []) ∷ (32 ∷ 0 ∷ 1 ∷ []) ∷ (33 ∷ 0 ∷ 0 ∷ []) ∷ (33 ∷ 1 ∷ 0 ∷ []) ∷ [] ∷ []
-unfolding routeRefused oddVertices odd? select flatMap overfullCuts cuts overfull? margin edges count sum crossing crosses xor rowsFit contains? peels inLimits isConvex rising? addable? liftable? lifts? sound? accepts addRefused addLines holds insert remove recorded reversed belowRight belowLeft aboveRight aboveLeft vertex? edge? degree pins terminals
+unfolding everything
 routing = refl

@@ -1,39 +1,34 @@
 -- Document 01, "Boards to be proved": the statement `BoardsToBeProved` has a field for each case of the table, and `boards-proved` proves it.
 -- Assumes nothing.
-use mathlib.Core.Path.{_≡_, refl, sym, _∙_}
-use mathlib.Core.Bool.{Bool, true, false, xor}
-use mathlib.Core.List.{List, [], _∷_, flatMap, flatten, head?}
+use mathlib.Core.Path.{_≡_, refl}
+use mathlib.Core.Bool.{true, false}
+use mathlib.Core.List.{List, [], _∷_, head?}
 use mathlib.Core.Option.{some}
-use lib.IntN.{ℤ, pos, negsuc}
+use lib.IntN.{pos, negsuc}
 use Rattle.count.specs.Truth.{clash}
-use Rattle.count.specs.Sum.{sum, count}
-use Rattle.count.specs.Lists.{select}
-use Rattle.board.specs.Board.{Board, Within, at}
-use Rattle.board.specs.Path.{turn, turns, Convex}
-use Rattle.board.specs.Degree.{belowRight, belowLeft, aboveRight, aboveLeft, vertex?, edge?, degree, pins}
+use Rattle.board.specs.Board.{Board, IsVertex, at}
+use Rattle.board.specs.Path.{turns, Convex}
+use Rattle.board.specs.Degree.{pins}
+use Rattle.board.specs.Tests.{vertex-exact}
 use Rattle.board.specs.declared.Direction.{Direction}
 use Rattle.board.specs.declared.Direction.the-variants.{Right, Down, Left}
-use Rattle.convex.specs.Test.{rowsFit, contains?, peels, inLimits, isConvex}
+use Rattle.convex.specs.Test.{inLimits, isConvex}
 use Rattle.convex.specs.Limits.{in-limits}
 use Rattle.convex.specs.Exact.{is-convex}
-use Rattle.net.specs.Terminals.{terminals}
-use Rattle.net.specs.declared.Pair.{Pair}
 use Rattle.net.specs.declared.Net.{Net}
-use Rattle.cut.specs.Cut.{edges, crosses, crossing, margin}
-use Rattle.cut.specs.Odd.{odd?, oddVertices}
+use Rattle.cut.specs.Cut.{edges, margin}
+use Rattle.cut.specs.Odd.{oddVertices}
 use Rattle.cut.specs.declared.Cut.the-variants as cut
-use Rattle.routing.specs.Routing.{edgesFrom, trails, uses, Routing}
-use Rattle.routing.specs.Check.{path?, joins?, once?, routing?, routing-exact}
-use Rattle.machine.specs.Session.{Session, pairs, holds, insert}
-use Rattle.machine.specs.Add.{addLines, addRefused, accepts}
-use Rattle.machine.specs.Sound.{rising?, addable?, lifts?, sound?}
-use Rattle.words.specs.RoutingWord.{routingWord, asPath, asRun, asRoutingEnd, runsOf, pathWords, pathsWords, routingWords}
+use Rattle.routing.specs.Routing.{Routing}
+use Rattle.routing.specs.Check.{routing-exact}
+use Rattle.machine.specs.Session.{pairs}
+use Rattle.words.specs.RoutingWord.{routingWords}
 use Rattle.calls.specs.Result.{yes}
-use Rattle.calls.specs.Shape.{wordsRefused, runsFrom, pathsFrom}
-use Rattle.calls.specs.Walk.{walkSteps, walkRuns, walkPath, walkPaths}
-use Rattle.calls.specs.Report.{directions, edgesUsed, turnsMade, turnsAt, turning, knockKnee, knockKnees}
-use Rattle.calls.specs.Judge.{judged, judgeWords}
-use Rattle.table.specs.Boards.{row, board, net, session, ring, ringOutput}
+use Rattle.calls.specs.Reading.{readWords}
+use Rattle.calls.specs.Report.{knockKnees}
+use Rattle.calls.specs.Judge.{judgeWords}
+use Rattle.table.specs.Everything.{everything}
+use Rattle.table.specs.Boards.{row, board, net, session, ring, ringInput, ringOutput}
 
 -- a routing exists
 abbrev pub Routed : Board → List Net → Type 0
@@ -55,6 +50,7 @@ netsI = net 1 0 1 1 0 ∷ net 2 1 2 2 1 ∷ []
 -- ── the table ──
 pub record BoardsToBeProved : Type 0 where
   -- a: 0-1, the ring: words pass; 4 edges, 0 turns, 0 knock-knees
+  pub a-read : readWords ringInput ≡ yes ring
   pub a : judgeWords ring ringOutput ≡ yes (record { edges = 4; turns = 0; knockKnees = 0 })
   -- b: 0-1, nets 1 and 2: (0,0)-(1,1): both margins 0, a routing exists
   pub b-row : margin (board (row 0 1 ∷ [])) (pairs netsB) (cut.Row 0) ≡ pos 0
@@ -73,73 +69,83 @@ pub record BoardsToBeProved : Type 0 where
   pub g : Convex (board (row 0 2 ∷ row 0 1 ∷ row 0 2 ∷ [])) → ⊥
   -- h: 1-2, 0-3, 1-2: convex; (1,1) has no pin
   pub h : Convex (board (row 1 2 ∷ row 0 3 ∷ row 1 2 ∷ []))
+  pub h-vertex : IsVertex (board (row 1 2 ∷ row 0 3 ∷ row 1 2 ∷ [])) (at 1 1)
   pub h-pins : pins (board (row 1 2 ∷ row 0 3 ∷ row 1 2 ∷ [])) (at 1 1) ≡ 0
   -- i: 0-2, 0-2, nets 1: (0,1)-(1,0), 2: (1,2)-(2,1): down, left and left, down pass: 1 knock-knee
   pub i : judgeWords (session (row 0 2 ∷ row 0 2 ∷ []) netsI) (routingWords netsI ((Down ∷ Left ∷ []) ∷ (Left ∷ Down ∷ []) ∷ []))
       ≡ yes (record { edges = 4; turns = 2; knockKnees = 1 })
 
 -- ── the cases, each by computing ──
+case-a-read : readWords ringInput ≡ yes ring
+unfolding everything
+case-a-read = refl
+
 case-a : judgeWords ring ringOutput ≡ yes (record { edges = 4; turns = 0; knockKnees = 0 })
-unfolding judgeWords judged rowsFit contains? peels inLimits isConvex rising? addable? lifts? sound? accepts addRefused addLines holds insert belowRight belowLeft aboveRight aboveLeft vertex? edge? degree pins terminals wordsRefused routingWord asPath asRun asRoutingEnd runsFrom pathsFrom walkSteps walkRuns walkPath walkPaths uses directions edgesUsed turnsMade turns turn turnsAt turning knockKnee knockKnees select flatMap
+unfolding everything
 case-a = refl
 
 case-b-row : margin (board (row 0 1 ∷ [])) (pairs netsB) (cut.Row 0) ≡ pos 0
-unfolding margin edges count sum crossing crosses xor edge? belowRight belowLeft aboveRight aboveLeft
+unfolding everything
 case-b-row = refl
 
 case-b-column : margin (board (row 0 1 ∷ [])) (pairs netsB) (cut.Column 0) ≡ pos 0
-unfolding margin edges count sum crossing crosses xor edge? belowRight belowLeft aboveRight aboveLeft
+unfolding everything
 case-b-column = refl
 
 case-b-routing : Routed (board (row 0 1 ∷ [])) netsB
-unfolding routing? joins? path? once? edgesFrom trails flatten uses vertex? edge? belowRight belowLeft aboveRight aboveLeft
+unfolding everything
 case-b-routing = (
   (Right ∷ Down ∷ []) ∷ (Down ∷ Right ∷ []) ∷ [],
   routing-exact (board (row 0 1 ∷ [])) (pairs netsB) ((Right ∷ Down ∷ []) ∷ (Down ∷ Right ∷ []) ∷ []) .0 refl,
 )
 
 case-c : margin (board (row 0 1 ∷ [])) (pairs netsC) (cut.Row 0) ≡ negsuc 1
-unfolding margin edges count sum crossing crosses xor edge? belowRight belowLeft aboveRight aboveLeft
+unfolding everything
 case-c = refl
 
 case-d-row : margin (board (row 0 2 ∷ [])) (pairs netsD) (cut.Row 0) ≡ pos 2
-unfolding margin edges count sum crossing crosses xor edge? belowRight belowLeft aboveRight aboveLeft
+unfolding everything
 case-d-row = refl
 
 case-d-routing : Routed (board (row 0 2 ∷ [])) netsD
-unfolding routing? joins? path? once? edgesFrom trails flatten uses vertex? edge? belowRight belowLeft aboveRight aboveLeft
+unfolding everything
 case-d-routing = ((Down ∷ []) ∷ [], routing-exact (board (row 0 2 ∷ [])) (pairs netsD) ((Down ∷ []) ∷ []) .0 refl)
 
 case-e : head? (oddVertices (board (row 0 2 ∷ [])) []) ≡ some (at 0 1)
-unfolding oddVertices select odd? flatMap belowRight belowLeft aboveRight aboveLeft vertex? edge? degree pins terminals
+unfolding everything
 case-e = refl
 
 not-convex : (b : Board) → inLimits b ≡ true → isConvex b ≡ false → Convex b → ⊥
 not-convex b w e c = clash (is-convex b .1 (in-limits b .0 w, c)) e
 
 case-f : Convex (board (row 0 1 ∷ row 1 2 ∷ [])) → ⊥
-unfolding rowsFit contains? peels inLimits isConvex
+unfolding everything
 case-f = not-convex (board (row 0 1 ∷ row 1 2 ∷ [])) refl refl
 
 case-g : Convex (board (row 0 2 ∷ row 0 1 ∷ row 0 2 ∷ [])) → ⊥
-unfolding rowsFit contains? peels inLimits isConvex
+unfolding everything
 case-g = not-convex (board (row 0 2 ∷ row 0 1 ∷ row 0 2 ∷ [])) refl refl
 
 case-h : Convex (board (row 1 2 ∷ row 0 3 ∷ row 1 2 ∷ []))
-unfolding rowsFit contains? peels inLimits isConvex
+unfolding everything
 case-h = is-convex (board (row 1 2 ∷ row 0 3 ∷ row 1 2 ∷ [])) .0 refl .1
 
+case-h-vertex : IsVertex (board (row 1 2 ∷ row 0 3 ∷ row 1 2 ∷ [])) (at 1 1)
+unfolding everything
+case-h-vertex = vertex-exact (board (row 1 2 ∷ row 0 3 ∷ row 1 2 ∷ [])) (at 1 1) .0 refl
+
 case-h-pins : pins (board (row 1 2 ∷ row 0 3 ∷ row 1 2 ∷ [])) (at 1 1) ≡ 0
-unfolding belowRight belowLeft aboveRight aboveLeft vertex? edge? degree pins
+unfolding everything
 case-h-pins = refl
 
 case-i : judgeWords (session (row 0 2 ∷ row 0 2 ∷ []) netsI) (routingWords netsI ((Down ∷ Left ∷ []) ∷ (Left ∷ Down ∷ []) ∷ []))
     ≡ yes (record { edges = 4; turns = 2; knockKnees = 1 })
-unfolding judgeWords judged rowsFit contains? peels inLimits isConvex rising? addable? lifts? sound? accepts addRefused addLines holds insert belowRight belowLeft aboveRight aboveLeft vertex? edge? degree pins terminals wordsRefused routingWord asPath asRun asRoutingEnd runsFrom pathsFrom walkSteps walkRuns walkPath walkPaths uses directions edgesUsed turnsMade turns turn turnsAt turning knockKnee knockKnees select flatMap routingWords pathsWords pathWords runsOf
+unfolding everything
 case-i = refl
 
 pub boards-proved : BoardsToBeProved
 boards-proved = record {
+  a-read = case-a-read;
   a = case-a;
   b-row = case-b-row;
   b-column = case-b-column;
@@ -151,6 +157,7 @@ boards-proved = record {
   f = case-f;
   g = case-g;
   h = case-h;
+  h-vertex = case-h-vertex;
   h-pins = case-h-pins;
   i = case-i;
 }
