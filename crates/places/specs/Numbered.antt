@@ -4,7 +4,7 @@ use mathlib.Core.Path.{_≡_, refl, sym}
 use mathlib.Core.List.{List}
 use Prim.Native.Nat.{ℕ, zero, suc, _-_, _<_, _≤_}
 use native.Mathlib.Omega.{arith}
-use lib.ListN.{length, getD, set, List·getD-eq-default}
+use lib.ListN.{length, getD, set, length-set, List·getD-eq-default}
 use lib.Seq.{set-out}
 
 abbrev pub entry : {A : Type 0} → List A → ℕ → A → A
@@ -40,3 +40,7 @@ module _ {A : Type 0} where
   pub replaced-out : (xs : List A) (n i : ℕ) (x : A) → i ≡ indexOf n → 64 ≤ i → length xs ≡ 64 → xs ≡ replaced xs n x
   replaced-out xs zero i x e h l = refl
   replaced-out xs (suc k) i x e h l = sym (set-out xs k x (omega arith))
+
+  pub length-replaced : (xs : List A) (n : ℕ) (x : A) → length (replaced xs n x) ≡ length xs
+  length-replaced xs zero x = refl
+  length-replaced xs (suc i) x = length-set xs i x

@@ -1,0 +1,27 @@
+-- `sound` decides whether the session is sound.
+use mathlib.Core.Path.{_≡_, refl, sym, ap, _∙_}
+use Rattle.count.specs.Truth.{decides}
+use Rattle.machine.specs.Sound.{sound?}
+use Rattle.soundness.specs.Exact.{sound-exact}
+use Rattle.places.specs.Nets.{rising-of}
+use Rattle.places.specs.Changes.{length-pile}
+use Rattle.session.specs.View.{sessionOf}
+use borrow.Author.Needs.{needs}
+use Rattle.session.proofs.Session.sound.Statement.{statement}
+use Rattle.session.proofs.Session.sound.Tie as tie
+
+is-convex-requires : tie.Need-is-convex-requires
+is-convex-requires c κs = search needs
+
+is-addable-requires : tie.Need-is-addable-requires
+is-addable-requires c κs = search needs
+
+lifts-requires : tie.Need-lifts-requires
+lifts-requires c κs = search needs
+
+returns : tie.Need-returns
+unfolding sound?
+returns c = let s = c .before .before .before .before .before .before .before .args .self in decides _ (sound? (sessionOf s)) (sound-exact (sessionOf s)) (rw (rising-of (s .nets), length-pile (s .pile), ← c .before .before .before .is-convex .ensures .same, ← c .before .before .is-addable .ensures, ← c .lifts .ensures) refl)
+
+pub sound-spec : {M : Type 1} → statement M
+sound-spec = tie.close (tie.spec is-convex-requires is-addable-requires lifts-requires returns)

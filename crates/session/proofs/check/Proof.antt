@@ -1,0 +1,75 @@
+-- `check` gives the first condition for adding that holds, in the order of the table.
+use mathlib.Core.Path.{_≡_, refl, sym, ap, _∙_}
+use Rattle.session.specs.Value.{firstOf, checkOf}
+use borrow.Author.Needs.{needs}
+use Rattle.session.proofs.check.Statement.{statement}
+use Rattle.session.proofs.check.Tie as tie
+
+returns : tie.Need-returns
+unfolding checkOf firstOf
+returns c = rw (c .if1 .taken) refl
+
+is-held-requires : tie.Need-is-held-requires
+is-held-requires c κs = search needs
+
+returns-2 : tie.Need-returns-2
+unfolding checkOf firstOf
+returns-2 c = rw (c .before .before .if1 .left, ← c .before .is-held .ensures, c .if2 .taken) refl
+
+is-vertex-requires : tie.Need-is-vertex-requires
+is-vertex-requires c κs = search needs
+
+returns-3 : tie.Need-returns-3
+unfolding checkOf firstOf
+returns-3 c = rw (c .before .before .before .before .if1 .left, ← c .before .before .before .is-held .ensures, c .before .before .if2 .left, ← c .before .is-vertex .ensures .same, c .if3 .taken) refl
+
+is-vertex-requires-2 : tie.Need-is-vertex-requires-2
+is-vertex-requires-2 c κs = search needs
+
+returns-4 : tie.Need-returns-4
+unfolding checkOf firstOf
+returns-4 c = rw (c .before .before .before .before .before .before .if1 .left, ← c .before .before .before .before .before .is-held .ensures, c .before .before .before .before .if2 .left, ← c .before .before .before .is-vertex .ensures .same, c .before .before .if3 .left, ← c .before .is-vertex2 .ensures .same, c .if4 .taken) refl
+
+same-vertex-requires : tie.Need-same-vertex-requires
+same-vertex-requires c κs = search needs
+
+returns-5 : tie.Need-returns-5
+unfolding checkOf firstOf
+returns-5 c = rw (c .before .before .before .before .before .before .before .before .if1 .left, ← c .before .before .before .before .before .before .before .is-held .ensures, c .before .before .before .before .before .before .if2 .left, ← c .before .before .before .before .before .is-vertex .ensures .same, c .before .before .before .before .if3 .left, ← c .before .before .before .is-vertex2 .ensures .same, c .before .before .if4 .left, ← c .before .same-vertex .ensures, c .if5 .taken) refl
+
+is-full-requires : tie.Need-is-full-requires
+is-full-requires c κs = search needs
+
+returns-6 : tie.Need-returns-6
+unfolding checkOf firstOf
+returns-6 c = rw (c .before .before .before .before .before .before .before .before .before .before .if1 .left, ← c .before .before .before .before .before .before .before .before .before .is-held .ensures, c .before .before .before .before .before .before .before .before .if2 .left, ← c .before .before .before .before .before .before .before .is-vertex .ensures .same, c .before .before .before .before .before .before .if3 .left, ← c .before .before .before .before .before .is-vertex2 .ensures .same, c .before .before .before .before .if4 .left, ← c .before .before .before .same-vertex .ensures, c .before .before .if5 .left, ← c .before .is-full .ensures, c .if6 .taken) refl
+
+is-full-requires-2 : tie.Need-is-full-requires-2
+is-full-requires-2 c κs = search needs
+
+returns-7 : tie.Need-returns-7
+unfolding checkOf firstOf
+returns-7 c = rw (c .before .before .before .before .before .before .before .before .before .before .before .before .if1 .left, ← c .before .before .before .before .before .before .before .before .before .before .before .is-held .ensures, c .before .before .before .before .before .before .before .before .before .before .if2 .left, ← c .before .before .before .before .before .before .before .before .before .is-vertex .ensures .same, c .before .before .before .before .before .before .before .before .if3 .left, ← c .before .before .before .before .before .before .before .is-vertex2 .ensures .same, c .before .before .before .before .before .before .if4 .left, ← c .before .before .before .before .before .same-vertex .ensures, c .before .before .before .before .if5 .left, ← c .before .before .before .is-full .ensures, c .before .before .if6 .left, ← c .before .is-full2 .ensures, c .if7 .taken) refl
+
+returns-8 : tie.Need-returns-8
+unfolding checkOf firstOf
+returns-8 c = rw (c .before .before .before .before .before .before .before .before .before .before .before .before .if1 .left, ← c .before .before .before .before .before .before .before .before .before .before .before .is-held .ensures, c .before .before .before .before .before .before .before .before .before .before .if2 .left, ← c .before .before .before .before .before .before .before .before .before .is-vertex .ensures .same, c .before .before .before .before .before .before .before .before .if3 .left, ← c .before .before .before .before .before .before .before .is-vertex2 .ensures .same, c .before .before .before .before .before .before .if4 .left, ← c .before .before .before .before .before .same-vertex .ensures, c .before .before .before .before .if5 .left, ← c .before .before .before .is-full .ensures, c .before .before .if6 .left, ← c .before .is-full2 .ensures, c .if7 .left) refl
+
+pub check-spec : {M : Type 1} → statement M
+check-spec =
+    tie.close
+    (tie.spec
+    returns
+    is-held-requires
+    returns-2
+    is-vertex-requires
+    returns-3
+    is-vertex-requires-2
+    returns-4
+    same-vertex-requires
+    returns-5
+    is-full-requires
+    returns-6
+    is-full-requires-2
+    returns-7
+    returns-8)

@@ -1,0 +1,21 @@
+-- `is_free` tells whether add accepts the net.
+use mathlib.Core.Path.{_≡_, refl, sym, ap, _∙_}
+use Rattle.board.specs.View.{boardOf}
+use Rattle.places.specs.Places.{netsOf}
+use Rattle.session.specs.Answers.{isAccepted}
+use Rattle.session.specs.Check.{check-accepts}
+use borrow.Author.Needs.{needs}
+use Rattle.session.proofs.is_free.Statement.{statement}
+use Rattle.session.proofs.is_free.Tie as tie
+
+check-requires : tie.Need-check-requires
+check-requires c κs = search needs
+
+is-accepted-requires : tie.Need-is-accepted-requires
+is-accepted-requires c κs = search needs
+
+returns : tie.Need-returns
+returns c = c .is-accepted .ensures ∙ ap isAccepted (c .before .check .ensures) ∙ check-accepts (boardOf (c .before .before .args .b)) (netsOf (c .before .before .args .nets)) (c .before .before .args .net)
+
+pub is-free-spec : {M : Type 1} → statement M
+is-free-spec = tie.close (tie.spec check-requires is-accepted-requires returns)

@@ -1,0 +1,10 @@
+pub mod Answers
+pub mod View
+pub mod Value
+pub mod Promise
+pub mod Check
+pub mod Reverse
+pub mod OneByOne
+pub mod Steps
+pub mod Kept
+pub mod Starts

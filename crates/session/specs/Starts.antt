@@ -1,0 +1,45 @@
+-- The sessions to start from: bare on their boards, and fresh where the board is convex.
+-- Assumes nothing.
+use mathlib.Core.Path.{_≡_, refl, sym, ap, _∙_}
+use mathlib.Core.Bool.{true}
+use mathlib.Core.List.{[], _∷_}
+use lib.ListN.{replicate}
+use Rattle.board.specs.Board.{Board}
+use Rattle.board.specs.View.{boardOf}
+use Rattle.board.specs.declared.Board as code-board
+use Rattle.convex.specs.Test.{isConvex, inLimits, rowsFit, peels, contains?}
+use Rattle.convex.specs.Exact.{is-convex}
+use Rattle.net.specs.View.{nothing}
+use Rattle.machine.specs.Session as machine
+use Rattle.machine.specs.Sound.{Fresh, bare, blank}
+use Rattle.soundness.specs.Stays.{fresh-bare}
+use Rattle.places.specs.Pile.{noSlot, pileOf, changesOf}
+use Rattle.session.specs.declared.Session.{Session}
+use Rattle.session.specs.View.{sessionOf}
+use Rattle.session.specs.Value.{freshOf, blankBoard}
+use Rattle.session.specs.Promise.{FreshPromise, BlankPromise}
+use Rattle.session.specs.OneByOne.{nets-none}
+
+fresh-is-bare : (b : code-board.Board) → sessionOf (freshOf b) ≡ bare (boardOf b)
+unfolding freshOf pileOf changesOf
+fresh-is-bare b = rw (nets-none 64) refl
+
+pub fresh-promise : (b : code-board.Board) (r : Session) → r ≡ freshOf b → FreshPromise b r
+fresh-promise b r e =
+    rw e (record { value = refl; bare = fresh-is-bare b; fresh = λ w c. rw (fresh-is-bare b) (fresh-bare (boardOf b) w c) })
+
+blank-board : bare (boardOf blankBoard) ≡ blank
+unfolding boardOf
+blank-board = refl
+
+blank-convex : isConvex (blank .board) ≡ true
+unfolding isConvex inLimits rowsFit peels contains?
+blank-convex = refl
+
+blank-fresh : Fresh blank
+blank-fresh = let c = is-convex (blank .board) .0 blank-convex in fresh-bare (blank .board) (c .0) (c .1)
+
+pub blank-promise : (r : Session) → r ≡ freshOf blankBoard → BlankPromise r
+blank-promise r e =
+    let is-blank : sessionOf (freshOf blankBoard) ≡ blank = fresh-is-bare blankBoard ∙ blank-board in
+    rw e (record { value = refl; blank = is-blank; fresh = rw is-blank blank-fresh })

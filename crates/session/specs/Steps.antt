@@ -1,0 +1,113 @@
+-- On a sound session each call hands back what the list machine's step gives.
+-- Assumes nothing.
+use mathlib.Core.Path.{_≡_, refl, ap, sym, _∙_}
+use mathlib.Core.Bool.{Bool, true, false, cond}
+use mathlib.Core.List.{List, [], _∷_}
+use mathlib.Core.Logic.{inl, inr}
+use mathlib.Core.Option.{Option, none, some}
+use Prim.Native.Nat.{ℕ, _≤_, _<_}
+use native.Mathlib.Omega.{arith}
+use lib.Dec.{eqb}
+use lib.ListN.{length}
+use borrow.Author.Tests.{eqb-true, eqb-false}
+use Rattle.count.specs.Truth.{bool, and-true}
+use Rattle.board.specs.View.{boardOf}
+use Rattle.net.specs.View.{nothing}
+use Rattle.net.specs.declared.Net.{Net}
+use Rattle.net.specs.declared.Change.the-variants.{Added, Withdrawn}
+use Rattle.net.specs.declared.Held.{Held}
+use Rattle.net.specs.declared.Held.the-variants.{Nothing, Ends}
+use Rattle.machine.specs.Refusal.{Refusal}
+use Rattle.machine.specs.Session as machine
+use Rattle.machine.specs.Session.{netOf}
+use Rattle.machine.specs.Add.{addRefused, isNone, accepts}
+use Rattle.machine.specs.Machine.{add, withdraw, takeBack, addStep, withdrawStep, takeBackStep, step, added, withdrawn, takenBack, reversed}
+use Rattle.machine.specs.Sound.{liftable?, lifts?, Sound}
+use Rattle.places.specs.Numbered.{replaced}
+use Rattle.places.specs.Places.{net, holding, netsOf, placeAt, reversedIn}
+use Rattle.places.specs.Nets.{heldAs, net-of, remove-of}
+use Rattle.places.specs.Pile.{pileOf, topOf, lifted}
+use Rattle.places.specs.Changes.{laid-pile, pile-top, pile-empty, length-pile}
+use Rattle.session.specs.declared.Session.{Session}
+use Rattle.session.specs.declared.AfterWithdraw.{AfterWithdraw}
+use Rattle.session.specs.Answers.{addAnswer, isAccepted, withdrawAnswer, takeBackAnswer}
+use Rattle.session.specs.View.{sessionOf}
+use Rattle.session.specs.Value.{checkOf, changed, addSound, withdrawHeld, withdrawSound, back, takeBackSound}
+use Rattle.session.specs.Check.{answered, check-answer, check-accepts}
+use Rattle.session.specs.Reverse.{insert-accepted, reversed-of}
+
+-- DEFINITION: the arrays of the code have 64 places
+pub record Sized (s : Session) : Type 0 where
+  pub nets64 : length (s .nets) ≡ 64
+  pub pile64 : length (s .pile .changes) ≡ 64
+
+depth-short : (s : Session) → Sound (sessionOf s) → s .pile .depth ≤ 64
+depth-short s h = omega (arith, length-pile (s .pile), h .short)
+
+-- ── add ──
+add-answered : (r : Option Refusal) (n : Net) (m : machine.Session) → answered r ≡ addStep r n m .answer
+add-answered none n m = refl
+add-answered (some r) n m = refl
+
+pub add-answer : (s : Session) (n : Net) → addAnswer (addSound s n .answer) ≡ step (sessionOf s) (add n) .answer
+unfolding step addSound
+add-answer s n =
+    check-answer (boardOf (s .board)) (netsOf (s .nets)) n ∙ add-answered (addRefused (boardOf (s .board)) (netsOf (s .nets)) n) n (sessionOf s)
+
+add-done : (s : Session) (n : Net) (r : Option Refusal) → Sized s → Sound (sessionOf s) → addRefused (boardOf (s .board)) (netsOf (s .nets)) n ≡ r
+    → sessionOf (cond (isNone r) (changed s (replaced (s .nets) (n .number) (holding (n .ends))) (Added n)) s) ≡ addStep r n (sessionOf s) .next
+unfolding added accepts
+add-done s n none z h e =
+    let a : accepts (boardOf (s .board)) (netsOf (s .nets)) n ≡ true = rw e refl in
+    rw (insert-accepted (boardOf (s .board)) (s .nets) n (z .nets64) a, laid-pile (s .pile) (Added n) (z .pile64) (depth-short s h)) refl
+add-done s n (some r) z h e = refl
+
+pub add-next : (s : Session) (n : Net) → Sized s → Sound (sessionOf s) → sessionOf (addSound s n .session) ≡ step (sessionOf s) (add n) .next
+unfolding step addSound accepts
+add-next s n z h =
+    rw (check-accepts (boardOf (s .board)) (netsOf (s .nets)) n) (add-done s n (addRefused (boardOf (s .board)) (netsOf (s .nets)) n) z h refl)
+
+-- ── withdraw ──
+withdraw-held-answer : (s : Session) (k : ℕ) (x : Held) → withdrawAnswer (withdrawHeld s k x .answer) ≡ withdrawStep (heldAs k x) (sessionOf s) .answer
+withdraw-held-answer s k Nothing = refl
+withdraw-held-answer s k (Ends e) = refl
+
+pub withdraw-answer : (s : Session) (k : ℕ) → withdrawAnswer (withdrawSound s k .answer) ≡ step (sessionOf s) (withdraw k) .answer
+unfolding step withdrawSound
+withdraw-answer s k = rw (net-of (s .nets) k) (withdraw-held-answer s k (placeAt (s .nets) k .held))
+
+withdraw-held : (s : Session) (k : ℕ) (x : Held) → Sized s → Sound (sessionOf s)
+    → sessionOf (withdrawHeld s k x .session) ≡ withdrawStep (heldAs k x) (sessionOf s) .next
+unfolding withdrawn
+withdraw-held s k Nothing z h = refl
+withdraw-held s k (Ends e) z h = rw (remove-of (s .nets) k, laid-pile (s .pile) (Withdrawn (net k e)) (z .pile64) (depth-short s h)) refl
+
+pub withdraw-next : (s : Session) (k : ℕ) → Sized s → Sound (sessionOf s) → sessionOf (withdrawSound s k .session) ≡ step (sessionOf s) (withdraw k) .next
+unfolding step withdrawSound
+withdraw-next s k z h = rw (net-of (s .nets) k) (withdraw-held s k (placeAt (s .nets) k .held) z h)
+
+-- ── take back ──
+pub take-back-answer : (s : Session) → takeBackAnswer (takeBackSound s .answer) ≡ step (sessionOf s) takeBack .answer
+unfolding step takeBackSound
+take-back-answer s = elim (bool (eqb (s .pile .depth) 0)) [
+  | inl e ↦ rw (e, pile-empty (s .pile) (eqb-true (s .pile .depth) 0 e)) refl
+  | inr e ↦ let d : s .pile .depth ≡ 0 → ⊥ = eqb-false (s .pile .depth) 0 e in rw (e, pile-top (s .pile) (omega arith)) refl
+]
+
+top-lifts : (s : Session) → Sound (sessionOf s) → 0 < s .pile .depth → liftable? (boardOf (s .board)) (netsOf (s .nets)) (topOf (s .pile)) ≡ true
+unfolding lifts?
+top-lifts s h d =
+    let b = boardOf (s .board) in
+    let ns = netsOf (s .nets) in
+    let c = topOf (s .pile) in
+    and-true (liftable? b ns c) (lifts? b (reversed c ns) (pileOf (lifted (s .pile)))) (rw (pile-top (s .pile) d) at (h .lifts)) .0
+
+pub take-back-next : (s : Session) → Sized s → Sound (sessionOf s) → sessionOf (takeBackSound s .session) ≡ step (sessionOf s) takeBack .next
+unfolding step takeBackSound takenBack
+take-back-next s z h = elim (bool (eqb (s .pile .depth) 0)) [
+  | inl e ↦ rw (e, pile-empty (s .pile) (eqb-true (s .pile .depth) 0 e)) refl
+  | inr e ↦
+      let ne : s .pile .depth ≡ 0 → ⊥ = eqb-false (s .pile .depth) 0 e in
+      let d : 0 < s .pile .depth = omega arith in
+      rw (e, pile-top (s .pile) d, reversed-of (boardOf (s .board)) (s .nets) (topOf (s .pile)) (z .nets64) (top-lifts s h d)) refl
+]

@@ -1,0 +1,1 @@
+// What keeps a session of the list machine sound. No code.
