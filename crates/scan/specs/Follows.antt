@@ -2,16 +2,17 @@
 -- Assumes nothing.
 use mathlib.Core.Path.{_≡_, refl, ap, sym, _∙_}
 use mathlib.Core.Bool.{Bool, true, false, not, cond, _&&_, _||_}
-use mathlib.Core.List.{List, [], _∷_, _++_, map}
+use mathlib.Core.List.{List, [], _∷_, _++_, append-assoc}
 use mathlib.Core.Logic.{_⊎_, inl, inr}
 use mathlib.Core.Option.{Option, none, some}
-use Prim.Native.Nat.{ℕ, zero, suc, _+_, _<_, _≤_}
+use Prim.Native.Nat.{ℕ, zero, suc, _+_, _-_, _<_}
 use native.Mathlib.Omega.{arith}
 use lib.Dec.{leb, ltb, eqb}
-use lib.ListN.{length, getD, set, length-append}
+use lib.ListN.{length, set, replicate, length-append}
+use lib.Seq.{set-append-seam}
 use borrow.Author.Tests.{lt-ltb, leb-false}
 use Rattle.count.specs.Truth.{bool, clash}
-use Rattle.board.specs.Board.{Board, height}
+use Rattle.board.specs.Board.{Board, height, noRow}
 use Rattle.board.specs.View.{boardOf, height-of, board-more}
 use Rattle.board.specs.declared.Row.{Row}
 use Rattle.net.specs.declared.Net.{Net}
@@ -31,6 +32,8 @@ LastIs (n ∷ ns) k = n .net .number ≡ k
 -- DEFINITION: the scan s holds what t has taken
 pub record Follows (t : Taken) (s : Scan) : Type 0 where
   pub board-is : boardOf (s .board) ≡ boardIn t
+  -- the places after the last row hold rows of no cell
+  pub array-is : s .board .rows ≡ t .rows ++ replicate (31 - length (t .rows)) noRow
   pub nets-are : s .nets ≡ length (t .nets)
   pub last-is : LastIs (t .nets) (s .last)
   pub ended-is : s .ended ≡ t .ended
@@ -106,6 +109,15 @@ few-rows c false false e = elim (bool (leb 31 c)) [
     fourteen true h z = omega arith
     fourteen false h z = clash h refl
 
+-- a row stored after the last one
+array-more : (rs a : List Row) (c : ℕ) (r : Row) → c ≡ length rs → c < 31 → a ≡ rs ++ replicate (31 - length rs) noRow
+    → set a c r ≡ (rs ++ (r ∷ [])) ++ replicate (31 - length (rs ++ (r ∷ []))) noRow
+array-more rs a c r e h f =
+    let n : 31 - length rs ≡ suc (31 - suc (length rs)) = omega arith in
+    let m : 31 - length (rs ++ (r ∷ [])) ≡ 31 - suc (length rs) = omega (arith, length-append rs (r ∷ [])) in
+    rw (f, e, n, m, append-assoc rs (r ∷ []) (replicate (31 - suc (length rs)) noRow))
+    (set-append-seam rs noRow (replicate (31 - suc (length rs)) noRow) r)
+
 pub follows-more : (t : Taken) (s : Scan) (i : ℕ) (first : Bool) → Follows t s → length (s .board .rows) ≡ 31 → s .nets < 255 → (w : BoardWord) → wordRefused s first w ≡ 0
     → Follows (take i t w) (withWord s w)
 unfolding wordRefused rowRefused withWord withRow withNet
@@ -113,19 +125,21 @@ follows-more t s i first f l m (word.Row r) e =
     let h : s .board .count < 31 = few-rows (s .board .count) (ltb 0 (s .nets) || s .ended) (not (ltb (r .left) (r .right))) e in
     rw (lt-ltb (s .board .count) 31 h) (record {
       board-is = board-more (s .board) r (omega arith) ∙ ap (λ (b : Board). record { rows = b .rows ++ (r ∷ []) }) (f .board-is);
+      array-is = array-more (t .rows) (s .board .rows) (s .board .count) r (count-is t s f) h (f .array-is);
       nets-are = f .nets-are;
       last-is = f .last-is;
       ended-is = f .ended-is;
     })
 follows-more t s i first f l m (word.Net n) e = rw (lt-ltb (s .nets) 255 m) (record {
   board-is = f .board-is;
+  array-is = f .array-is;
   nets-are = omega (arith, f .nets-are);
   last-is = refl;
   ended-is = f .ended-is;
 })
-follows-more t s i first f l m (word.End c) e = record { board-is = f .board-is; nets-are = f .nets-are; last-is = f .last-is; ended-is = refl }
+follows-more t s i first f l m (word.End c) e = record { board-is = f .board-is; array-is = f .array-is; nets-are = f .nets-are; last-is = f .last-is; ended-is = refl }
 follows-more t s i first f l m word.Unknown e = f
 
 pub follows-start : Follows nothingTaken start
 unfolding boardOf
-follows-start = record { board-is = refl; nets-are = refl; last-is = tt; ended-is = refl }
+follows-start = record { board-is = refl; array-is = refl; nets-are = refl; last-is = tt; ended-is = refl }

@@ -1,9 +1,11 @@
 -- Definitions only: document 01's number and place for each answer of the code. Nothing is proved here.
-use mathlib.Core.Bool.{Bool, true, false}
+use mathlib.Core.Bool.{Bool, true, false, cond}
+use lib.Dec.{eqb}
 use Rattle.machine.specs.Refusal.{refusal}
 use Rattle.machine.specs.Machine.{Answer, accepted, refused}
 use Rattle.session.specs.declared.AddAnswer.{AddAnswer}
 use Rattle.session.specs.declared.AddAnswer.the-variants.{Accepted, Unsound, BadNumber, NumberTaken, NoVertex, SameVertex, PinsTaken}
+use Rattle.session.specs.declared.Told.{Told}
 use Rattle.session.specs.declared.WithdrawAnswer as withdraw
 use Rattle.session.specs.declared.WithdrawAnswer.the-variants as withdraw-is
 use Rattle.session.specs.declared.TakeBackAnswer as back
@@ -36,3 +38,7 @@ abbrev pub takeBackAnswer : back.TakeBackAnswer → Answer
 takeBackAnswer back-is.Accepted = accepted
 takeBackAnswer back-is.Unsound = refused (refusal 20 0)
 takeBackAnswer back-is.PileEmpty = refused (refusal 27 0)
+
+-- an answer by its number and place, number 0 where the call is accepted
+abbrev pub toldOf : Told → Answer
+toldOf t = cond (eqb (t .number) 0) accepted (refused (refusal (t .number) (t .place)))

@@ -16,7 +16,7 @@ ghost use Rattle.machine.specs.Add.{full, accepts};
 ghost use Rattle.machine.specs.Sound.{addable?, liftable?, lifts?, Sound, sound?};
 ghost use Rattle.places.specs.Places.{netsOf};
 ghost use Rattle.places.specs.Pile.{pileOf};
-ghost use Rattle.session.specs.Answers.{isAccepted};
+ghost use Rattle.session.specs.Answers.{isAccepted, addAnswer, withdrawAnswer, takeBackAnswer, toldOf};
 ghost use Rattle.session.specs.View.{sessionOf};
 ghost use Rattle.session.specs.Value.{checkOf, changed, addSound, withdrawSound, takeBackSound};
 ghost use Rattle.session.specs.OneByOne.{heldAccepted};
@@ -52,6 +52,12 @@ pub enum TakeBackAnswer {
     PileEmpty,
 }
 
+// An answer by its number and place; number 0 where the call is accepted.
+pub struct Told {
+    pub number: u8,
+    pub place: u8,
+}
+
 // What each call hands back: its answer and the next session.
 pub struct AfterAdd {
     pub answer: AddAnswer,
@@ -76,7 +82,7 @@ fn is_full(b: Board, nets: [Place; 64], v: Vertex) -> bool
 }
 
 // What adding the net answers: the first condition that holds, in the order of the table.
-fn check(b: Board, nets: [Place; 64], net: Net) -> AddAnswer
+pub fn check(b: Board, nets: [Place; 64], net: Net) -> AddAnswer
     ensures { λ r. ⌜ r ≡ checkOf (boardOf b) (netsOf nets) net ⌝ }
 {
     let ends = net.ends;
@@ -182,6 +188,73 @@ fn lifts(b: Board, nets: [Place; 64], pile: Pile) -> bool
         rest = rest.lift();
     }
     ok
+}
+
+pub fn add_told(answer: AddAnswer) -> Told
+    ensures { λ r. ⌜ toldOf r ≡ addAnswer answer ⌝ }
+{
+    match answer {
+        AddAnswer::Accepted => Told {
+            number: 0,
+            place: 0,
+        },
+        AddAnswer::Unsound => Told {
+            number: 20,
+            place: 0,
+        },
+        AddAnswer::BadNumber => Told {
+            number: 21,
+            place: 0,
+        },
+        AddAnswer::NumberTaken => Told {
+            number: 22,
+            place: 0,
+        },
+        AddAnswer::NoVertex(place) => Told { number: 23, place },
+        AddAnswer::SameVertex => Told {
+            number: 24,
+            place: 0,
+        },
+        AddAnswer::PinsTaken(place) => Told { number: 25, place },
+    }
+}
+
+pub fn withdraw_told(answer: WithdrawAnswer) -> Told
+    ensures { λ r. ⌜ toldOf r ≡ withdrawAnswer answer ⌝ }
+{
+    match answer {
+        WithdrawAnswer::Accepted => Told {
+            number: 0,
+            place: 0,
+        },
+        WithdrawAnswer::Unsound => Told {
+            number: 20,
+            place: 0,
+        },
+        WithdrawAnswer::NotOnBoard => Told {
+            number: 26,
+            place: 0,
+        },
+    }
+}
+
+pub fn take_back_told(answer: TakeBackAnswer) -> Told
+    ensures { λ r. ⌜ toldOf r ≡ takeBackAnswer answer ⌝ }
+{
+    match answer {
+        TakeBackAnswer::Accepted => Told {
+            number: 0,
+            place: 0,
+        },
+        TakeBackAnswer::Unsound => Told {
+            number: 20,
+            place: 0,
+        },
+        TakeBackAnswer::PileEmpty => Told {
+            number: 27,
+            place: 0,
+        },
+    }
 }
 
 // A session on the board, with no nets and an empty pile.

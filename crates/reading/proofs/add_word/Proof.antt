@@ -1,0 +1,77 @@
+-- `add_word` is `addedWord`.
+use Rattle.reading.specs.Adding.{addedWord, told-added, told-kept}
+use Rattle.session.specs.Check.{check-answer}
+use Rattle.session.specs.Answers.{addAnswer}
+use Rattle.places.specs.Places.{netsOf}
+use Rattle.board.specs.View.{boardOf}
+use mathlib.Core.Path.{refl, ap, sym, _∙_}
+use borrow.Author.Needs.{needs}
+use Rattle.reading.proofs.add_word.Statement.{statement}
+use Rattle.reading.proofs.add_word.Tie as tie
+use Rattle.reading.proofs.add_word.Reads as reads
+use Rattle.reading.proofs.add_word.Lts as lts
+use Rattle.places.proofs.stored.Reads as stored-reads
+use Rattle.session.proofs.add_told.Reads as add-told-reads
+use Rattle.session.proofs.check.Reads as check-reads
+
+enum-known-w : tie.Need-enum-known-w
+enum-known-w c = search needs
+
+check-requires : tie.Need-check-requires
+check-requires c κs = search needs
+
+add-told-requires : tie.Need-add-told-requires
+add-told-requires c κs = search needs
+
+stored-requires : tie.Need-stored-requires
+stored-requires c κs = search needs
+
+enum-told : tie.Need-enum-told
+enum-told c = search needs
+
+enum-told-2 : tie.Need-enum-told-2
+enum-told-2 c = search needs
+
+enum-told-3 : tie.Need-enum-told-3
+enum-told-3 c = search needs
+
+returns : tie.Need-returns
+returns c =
+    let b = boardOf (c .before .before .before .before .before .before .before .before .before .args .b) in let ps = c .before .before .before .before .before .before .before .before .before .args .nets in
+    let e = c .before .before .before .before .add-told .ensures ∙ (ap addAnswer (c .before .before .before .before .before .check .ensures) ∙ check-answer b (netsOf ps) _) in
+    rw (c .before .before .before .before .before .before .before .w .given .1, told-added (c .before .before .before .before .add-told .result) b ps _ e (c .before .before .if1 .taken), c .stored .ensures) refl
+
+returns-2 : tie.Need-returns-2
+returns-2 c =
+    let b = boardOf (c .before .before .before .before .before .before .before .args .b) in let ps = c .before .before .before .before .before .before .before .args .nets in
+    let e = c .before .before .add-told .ensures ∙ (ap addAnswer (c .before .before .before .check .ensures) ∙ check-answer b (netsOf ps) _) in
+    rw (c .before .before .before .before .before .w .given .1) (sym (told-kept (c .before .before .add-told .result) b ps _ e (c .if1 .left)))
+
+returns-3 : tie.Need-returns-3
+unfolding addedWord
+returns-3 c = rw (c .enum-told .given .1) refl
+
+returns-4 : tie.Need-returns-4
+unfolding addedWord
+returns-4 c = rw (c .enum-told2 .given .1) refl
+
+returns-5 : tie.Need-returns-5
+unfolding addedWord
+returns-5 c = rw (c .enum-told3 .given .1) refl
+
+pub add-word-spec : {M : Type 1} → statement M
+add-word-spec =
+    tie.close
+    (tie.spec
+    enum-known-w
+    check-requires
+    add-told-requires
+    stored-requires
+    enum-told
+    enum-told-2
+    enum-told-3
+    returns
+    returns-2
+    returns-3
+    returns-4
+    returns-5)

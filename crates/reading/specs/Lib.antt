@@ -1,0 +1,4 @@
+pub mod Value
+pub mod Listed
+pub mod Adding
+pub mod Promise

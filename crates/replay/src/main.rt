@@ -1,0 +1,296 @@
+// Replays a list of calls on a session.
+//
+// Standard input is text, at most 65,536 bytes of it: a line for each row of the board and for each call, told by its first letter.
+//     row LEFT RIGHT                        one more row of the board, from the top; starts afresh on the board so far
+//     add NUMBER LINE COLUMN LINE COLUMN    the net with its first and its second terminal
+//     withdraw NUMBER
+//     back                                  takes the last change back
+// Numbers stand in decimal, parted by spaces; one above 249 is read as 255, and one that is missing as 0. Other lines are passed over.
+//
+// Each call prints a line: "accepted", or "refused", the number and the place. Then come the nets in rising number, each a line "net" with
+// what add was given, and the pile from its top, each a line "added" or "withdrawn" with the net.
+ghost use Prim.Native.Nat.{_≤_};
+use board::Board;
+use board::Row;
+use board::Vertex;
+use net::Change;
+use net::Held;
+use net::Net;
+use net::Pair;
+use net::Place;
+use places::Pile;
+use session::Session;
+use session::Told;
+
+// A number that was read, and where it ended.
+struct Read {
+    value: u8,
+    next: usize,
+}
+
+// ── reading ──
+
+fn byte_at(s: &[u8], at: usize) -> u8 {
+    if at < s.len() { s[at] } else { b'\n' }
+}
+
+fn is_digit(b: u8) -> bool {
+    (b'0' <= b) & (b <= b'9')
+}
+
+// The value of a digit, 0 of any other byte.
+fn digit(b: u8) -> u8
+    ensures { λ r. ⌜ r ≤ 9 ⌝ }
+{
+    if b < b'0' {
+        0
+    } else if b'9' < b {
+        0
+    } else {
+        b - b'0'
+    }
+}
+
+// The value with one more digit.
+fn longer(value: u8, b: u8) -> u8 {
+    if value < 25 {
+        value * 10 + digit(b)
+    } else {
+        255
+    }
+}
+
+// Where the next digit or the line's end stands.
+fn skip(s: &[u8], from: usize) -> usize {
+    let mut at = from;
+    while at < s.len() {
+        let b = s[at];
+        if is_digit(b) | (b == b'\n') {
+            return at;
+        }
+        at += 1;
+    }
+    at
+}
+
+fn number(s: &[u8], from: usize) -> Read {
+    let mut at = skip(s, from);
+    let mut value: u8 = 0;
+    while at < s.len() {
+        let b = s[at];
+        if !is_digit(b) {
+            return Read { value, next: at };
+        }
+        value = longer(value, b);
+        at += 1;
+    }
+    Read { value, next: at }
+}
+
+// Where the next line begins.
+fn next_line(s: &[u8], from: usize) -> usize {
+    let mut at = from;
+    while at < s.len() {
+        if s[at] == b'\n' {
+            return at + 1;
+        }
+        at += 1;
+    }
+    at
+}
+
+// A terminal that was read, and where it ended.
+struct ReadVertex {
+    vertex: Vertex,
+    next: usize,
+}
+
+fn vertex(s: &[u8], from: usize) -> ReadVertex {
+    let line = number(s, from);
+    let column = number(s, line.next);
+    ReadVertex {
+        vertex: Vertex {
+            line: line.value,
+            column: column.value,
+        },
+        next: column.next,
+    }
+}
+
+fn net(s: &[u8], from: usize) -> Net {
+    let n = number(s, from);
+    let first = vertex(s, n.next);
+    let second = vertex(s, first.next);
+    let u = first.vertex;
+    let v = second.vertex;
+    Net {
+        number: n.value,
+        ends: Pair {
+            first: u,
+            second: v,
+        },
+    }
+}
+
+// ── writing ──
+
+fn print_number(n: u8) {
+    io::write_all(1, b" ");
+    io::print_decimal(1, n as u64);
+}
+
+fn print_told(told: Told) {
+    if told.number == 0 {
+        io::write_all(1, b"accepted\n");
+    } else {
+        io::write_all(1, b"refused");
+        print_number(told.number);
+        print_number(told.place);
+        io::write_all(1, b"\n");
+    }
+}
+
+fn print_vertex(v: Vertex) {
+    print_number(v.line);
+    print_number(v.column);
+}
+
+fn print_net(n: Net) {
+    let ends = n.ends;
+    print_number(n.number);
+    print_vertex(ends.first);
+    print_vertex(ends.second);
+    io::write_all(1, b"\n");
+}
+
+fn print_place(number: u8, place: Place) {
+    let held = place.held;
+    match held {
+        Held::Nothing => {}
+        Held::Ends(ends) => {
+            io::write_all(1, b"net");
+            print_net(Net { number, ends });
+        }
+    }
+}
+
+fn print_change(change: Change) {
+    match change {
+        Change::Added(n) => {
+            io::write_all(1, b"added");
+            print_net(n);
+        }
+        Change::Withdrawn(n) => {
+            io::write_all(1, b"withdrawn");
+            print_net(n);
+        }
+    }
+}
+
+fn print_nets(nets: [Place; 64]) {
+    let mut number: u8 = 1;
+    while number <= 64 {
+        print_place(number, places::place_of(nets, number));
+        number += 1;
+    }
+}
+
+fn print_pile(pile: Pile) {
+    let mut rest = pile;
+    let mut left = pile.depth;
+    while 0 < left {
+        print_change(rest.top());
+        rest = rest.lift();
+        left -= 1;
+    }
+}
+
+// ── the calls ──
+
+// The board with one more row. More than 31 are counted and not kept.
+fn with_row(b: Board, row: Row) -> Board {
+    let count = b.count;
+    let mut rows = b.rows;
+    if count < 31 {
+        rows[count as usize] = row;
+    }
+    Board {
+        count: if count < 255 { count + 1 } else { 255 },
+        rows,
+    }
+}
+
+fn row_line(session: Session, s: &[u8], at: usize) -> Session {
+    let left = number(s, at);
+    let right = number(s, left.next);
+    let row = Row {
+        left: left.value,
+        right: right.value,
+    };
+    session::fresh(with_row(session.board, row))
+}
+
+fn add_line(session: Session, s: &[u8], at: usize) -> Session {
+    let after = session.add(net(s, at));
+    let answer = after.answer;
+    print_told(session::add_told(answer));
+    after.session
+}
+
+fn withdraw_line(session: Session, s: &[u8], at: usize) -> Session {
+    let n = number(s, at);
+    let after = session.withdraw(n.value);
+    let answer = after.answer;
+    print_told(session::withdraw_told(answer));
+    after.session
+}
+
+fn back_line(session: Session) -> Session {
+    let after = session.take_back();
+    let answer = after.answer;
+    print_told(session::take_back_told(answer));
+    after.session
+}
+
+fn line(session: Session, s: &[u8], at: usize) -> Session {
+    let kind = byte_at(s, at);
+    if kind == b'r' {
+        return row_line(session, s, at);
+    }
+    if kind == b'a' {
+        return add_line(session, s, at);
+    }
+    if kind == b'w' {
+        return withdraw_line(session, s, at);
+    }
+    if kind == b'b' {
+        return back_line(session);
+    }
+    session
+}
+
+fn replay(s: &[u8]) -> Session {
+    let none = Row { left: 0, right: 0 };
+    let mut session = session::fresh(Board {
+        count: 0,
+        rows: [none; 31],
+    });
+    let mut at: usize = 0;
+    let mut turns = s.len();
+    while 0 < turns {
+        session = line(session, s, at);
+        at = next_line(s, at);
+        turns -= 1;
+    }
+    session
+}
+
+fn main() {
+    let mut text = io::large_buffer();
+    let n = io::read_full(0, &mut text);
+    let last = replay(&text[..n]);
+    let nets = last.nets;
+    let pile = last.pile;
+    print_nets(nets);
+    print_pile(pile);
+}
