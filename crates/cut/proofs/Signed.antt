@@ -13,7 +13,7 @@ pick : (t : Bool) (m n : ℕ) → m < 256 → n < 256 → mag (cond t (negsuc m)
 pick true m n h k = h
 pick false m n h k = k
 
-small : (a b : ℕ) → a < 256 → b < 256 → mag (pos a -ℤ pos b) < 256
+pub small : (a b : ℕ) → a < 256 → b < 256 → mag (pos a -ℤ pos b) < 256
 small a zero h k = omega arith
 small a (suc b) h k = pick (ltb a (suc b)) (suc b - suc a) (a - suc b) (omega arith) (omega arith)
 
