@@ -54,8 +54,8 @@ fn line(name: &[u8], b: Board, nets: [Place; 64]) {
     say::end();
 }
 
-// A line with the margin of row 0 besides.
-fn with_row_margin(name: &[u8], b: Board, nets: [Place; 64]) {
+// The same, and the margin of row 0.
+fn answers_and_row(name: &[u8], b: Board, nets: [Place; 64]) {
     answers(name, b, nets);
     say::then();
     say::cut_margin(b, nets, Cut::Row(0));
@@ -65,12 +65,12 @@ fn main() {
     let cell = row(0, 1);
     let two = row(0, 2);
     line(b"a", cell, ring());
-    with_row_margin(b"b", cell, diagonal());
+    answers_and_row(b"b", cell, diagonal());
     say::then();
     say::cut_margin(cell, diagonal(), Cut::Column(0));
     say::end();
     line(b"c", cell, diagonals());
-    with_row_margin(b"d", two, with_net(no_nets(), 0, pair(0, 1, 1, 1)));
+    answers_and_row(b"d", two, with_net(no_nets(), 0, pair(0, 1, 1, 1)));
     say::end();
     line(b"e", two, no_nets());
     line(b"f", with_row(cell, 1, 2), no_nets());

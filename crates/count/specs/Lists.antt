@@ -181,3 +181,21 @@ module _ {A : Type 0} (t : A → Bool) where
     | inl h ↦ record { k = i; from = omega arith; to = omega arith; here = h; before = λ m a b. absurd (omega arith) }
     | inr h ↦ least-more (λ k. first t (s k) ≡ some x) (λ m. select t (s m) ≡ []) i n (h .0) (first-flat s (suc i) n x (h .1))
   ]
+
+-- ── a first element is the only one ──
+-- an order of any two
+abbrev pub Ordered : {A : Type 0} → (A → A → Type 0) → Type 0
+Ordered {A} Before = (x y : A) → Before x y ⊎ ((x ≡ y) ⊎ Before y x)
+
+pub first-only : {A : Type 0} (Good : A → Type 0) (Before : A → A → Type 0) → Ordered Before → (x y : A)
+    → Good x → ((z : A) → Good z → Before z x → ⊥) → Good y → ((z : A) → Good z → Before z y → ⊥) → x ≡ y
+first-only Good Before order x y p f q g = elim (order x y) [
+  | inl h ↦ absurd (g x p h)
+  | inr (inl e) ↦ e
+  | inr (inr h) ↦ absurd (f y q h)
+]
+
+-- where there is an element and each head is it, it is the head
+pub head-is {ℓ} : {A : Type ℓ} (xs : List A) (x : A) → (xs ≡ [] → ⊥) → ((y : A) → head? xs ≡ some y → y ≡ x) → head? xs ≡ some x
+head-is [] x n h = absurd (n refl)
+head-is (y ∷ xs) x n h = ap some (h y refl)

@@ -1,6 +1,6 @@
 -- What the lists of overfull cuts and of odd vertices say: they are empty exactly when there is none, and their head is the first in order.
 -- Assumes for vertices that the board is within the limits: the reading order has lines and columns 0 to 31.
-use mathlib.Core.Path.{_≡_, refl, sym, _∙_}
+use mathlib.Core.Path.{_≡_, refl, ap, sym}
 use mathlib.Core.Bool.{Bool, true, false, _&&_}
 use mathlib.Core.List.{List, [], map, head?}
 use mathlib.Core.Logic.{_⊎_, inl, inr, _↔_}
@@ -9,8 +9,8 @@ use Prim.Native.Nat.{ℕ, _+_, _%_, _≤_, _<_}
 use native.Mathlib.Omega.{arith}
 use lib.Dec.{eqb}
 use borrow.Author.Tests.{eqb-true, eq-eqb}
-use Rattle.count.specs.Truth.{bool, clash, not-true, and-true, and-yes}
-use Rattle.count.specs.Lists.{upTo, select, head-none, none-append, first-append, none-map, first-map, none-flat, first-flat}
+use Rattle.count.specs.Truth.{clash, not-true, and-true, and-yes, le-or-lt, eq-or-ne}
+use Rattle.count.specs.Lists.{upTo, select, head-none, none-append, first-append, none-map, first-map, none-flat, first-flat, Ordered, first-only, head-is}
 use Rattle.board.specs.Board.{Board, Within, height, at, IsVertex}
 use Rattle.board.specs.Degree.{vertex?, degree}
 use Rattle.board.specs.Tests.{vertex-exact}
@@ -29,6 +29,19 @@ use Rattle.cut.specs.declared.FoundCut as code-cut
 use Rattle.cut.specs.declared.FoundVertex as code-vertex
 
 -- ── overfull cuts ──
+number-order : (i k : ℕ) → (i < k) ⊎ ((i ≡ k) ⊎ (k < i))
+number-order i k = elim (le-or-lt k i) [
+  | inr h ↦ inl h
+  | inl h ↦ elim (eq-or-ne i k) [ inl e ↦ inr (inl e) | inr n ↦ inr (inr (omega arith)) ]
+]
+
+pub cut-order : Ordered CutBefore
+cut-order (Row i) (Row k) = elim (number-order i k) [ inl h ↦ inl (higher h) | inr (inl e) ↦ inr (inl (ap Row e)) | inr (inr h) ↦ inr (inr (higher h)) ]
+cut-order (Row i) (Column k) = inl row-first
+cut-order (Column i) (Row k) = inr (inr row-first)
+cut-order (Column i) (Column k) =
+    elim (number-order i k) [ inl h ↦ inl (further-left h) | inr (inl e) ↦ inr (inl (ap Column e)) | inr (inr h) ↦ inr (inr (further-left h)) ]
+
 module _ (b : Board) (ps : List Pair) where
   overfull-no : (x : Cut) → (overfull? b ps x ≡ false) ↔ (Overfull b ps x → ⊥)
   overfull-no x = (
@@ -69,9 +82,9 @@ module _ (b : Board) (ps : List Pair) where
       earlier y c (row-first {i}) = overfull-no (Row i) .0 (r i c)
       earlier y c (further-left {i} p) = overfull-no (Column i) .0 (n i p)
 
-  pub first-overfull : (x : Cut) → head? (overfullCuts b ps) ≡ some x → FirstOverfull b ps x
+  head-overfull : (x : Cut) → head? (overfullCuts b ps) ≡ some x → FirstOverfull b ps x
   unfolding overfullCuts cuts
-  first-overfull x e =
+  head-overfull x e =
       let t = overfull? b ps in
       elim (first-append t (map Row (upTo (height b))) (map Column (upTo 31)) x e) [
         | inl f ↦ let l = first-map t Row 0 (height b) x f in let h = l .here in
@@ -81,14 +94,35 @@ module _ (b : Board) (ps : List Pair) where
             (λ i p. r i (omega arith) (omega arith)) (λ j p. l .before j (omega arith) p))
       ]
 
+  only-overfull : (x y : Cut) → FirstOverfull b ps x → FirstOverfull b ps y → x ≡ y
+  only-overfull x y p q = first-only (λ z. IsCut b z × Overfull b ps z) CutBefore cut-order x y
+      (p .cut, p .overfull) (λ z g h. p .before z (g .0) h (g .1)) (q .cut, q .overfull) (λ z g h. q .before z (g .0) h (g .1))
+
+  pub first-overfull : (x : Cut) → (head? (overfullCuts b ps) ≡ some x) ↔ FirstOverfull b ps x
+  first-overfull x = (
+    head-overfull x,
+    λ p. head-is (overfullCuts b ps) x (λ e. no-overfull .0 e x (p .cut) (p .overfull)) (λ y e. only-overfull y x (head-overfull y e) p),
+  )
+
   -- the answer of `first_overfull`
   pub overfull-named : (x : Cut) → code-cut.the-variants.At x ≡ foundCut (head? (overfullCuts b ps)) → FirstOverfull b ps x
-  overfull-named x e = first-overfull x (found-some (head? (overfullCuts b ps)) x e)
+  overfull-named x e = first-overfull x .0 (found-some (head? (overfullCuts b ps)) x e)
 
   pub overfull-nothing : code-cut.the-variants.Nothing ≡ foundCut (head? (overfullCuts b ps)) → (x : Cut) → IsCut b x → Overfull b ps x → ⊥
   overfull-nothing e = no-overfull .0 (head-none (overfullCuts b ps) .0 (found-none (head? (overfullCuts b ps)) e))
 
 -- ── odd vertices ──
+pub vertex-order : Ordered VertexBefore
+vertex-order u v = elim (number-order (u .line) (v .line)) [
+  | inl h ↦ inl (inl h)
+  | inr (inr h) ↦ inr (inr (inl h))
+  | inr (inl e) ↦ elim (number-order (u .column) (v .column)) [
+    | inl h ↦ inl (inr (e, h))
+    | inr (inr h) ↦ inr (inr (inr (sym e, h)))
+    | inr (inl f) ↦ inr (inl (let s : at (u .line) (u .column) ≡ at (v .line) (v .column) = rw (e, f) refl in s))
+  ]
+]
+
 vertex-some : (o : Option Vertex) (v : Vertex) → code-vertex.the-variants.At v ≡ foundVertex o → o ≡ some v
 vertex-some none v e = absurd (let z : _≡_ {A = ℕ} 0 1 = cc in omega arith)
 vertex-some (some u) v e = cc
@@ -131,9 +165,9 @@ module _ (b : Board) (ps : List Pair) where
           λ h. all .1 (λ l a k. none-map t (at l) 0 32 .1 (λ c d m. even-not-odd (at l c) (h (at l c)))),
         )
 
-    pub first-odd : (v : Vertex) → head? (oddVertices b ps) ≡ some v → FirstOdd b ps v
+    head-odd : (v : Vertex) → head? (oddVertices b ps) ≡ some v → FirstOdd b ps v
     unfolding oddVertices
-    first-odd v e =
+    head-odd v e =
         let t = odd? b ps in
         let lines = first-flat t (λ l. map (at l) (upTo 32)) 0 32 v e in
         let columns = first-map t (at (lines .k)) 0 32 v (lines .here) in
@@ -147,9 +181,20 @@ module _ (b : Board) (ps : List Pair) where
           ];
         }
 
+    only-odd : (u v : Vertex) → FirstOdd b ps u → FirstOdd b ps v → u ≡ v
+    only-odd u v p q = first-only (λ w. IsVertex b w × Odd b ps w) VertexBefore vertex-order u v
+        (p .vertex, p .odd) (λ w g h. let e = p .before w (g .0) h in omega (arith, g .1))
+        (q .vertex, q .odd) (λ w g h. let e = q .before w (g .0) h in omega (arith, g .1))
+
+    pub first-odd : (v : Vertex) → (head? (oddVertices b ps) ≡ some v) ↔ FirstOdd b ps v
+    first-odd v = (
+      head-odd v,
+      λ p. head-is (oddVertices b ps) v (λ e. let k = no-odd .0 e v (p .vertex) in let o = p .odd in omega arith) (λ u e. only-odd u v (head-odd u e) p),
+    )
+
     -- the answer of `first_odd`
     pub odd-named : (v : Vertex) → code-vertex.the-variants.At v ≡ foundVertex (head? (oddVertices b ps)) → FirstOdd b ps v
-    odd-named v e = first-odd v (vertex-some (head? (oddVertices b ps)) v e)
+    odd-named v e = first-odd v .0 (vertex-some (head? (oddVertices b ps)) v e)
 
     pub odd-nothing : code-vertex.the-variants.Nothing ≡ foundVertex (head? (oddVertices b ps)) → (v : Vertex) → IsVertex b v → Even b ps v
     odd-nothing e = no-odd .0 (head-none (oddVertices b ps) .0 (vertex-none (head? (oddVertices b ps)) e))
