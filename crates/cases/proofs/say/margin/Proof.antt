@@ -4,11 +4,6 @@ use Rattle.cases.proofs.Sign.{at-least-zero, below-zero, below-zero-cas
 use borrow.Author.Needs.{needs}
 use Rattle.cases.proofs.say.margin.Statement.{statement}
 use Rattle.cases.proofs.say.margin.Tie as tie
-use Rattle.cases.proofs.say.margin.Reads as reads
-use Rattle.cases.proofs.say.margin.Lts as lts
-use Rattle.cut.proofs.margin_of.Reads as margin-of-reads
-use Rattle.io.proofs.print_decimal.Reads as print-decimal-reads
-use Rattle.io.proofs.write_all.Reads as write-all-reads
 
 margin-of-requires : tie.Need-margin-of-requires
 margin-of-requires c κs = search needs
