@@ -3,3 +3,4 @@ pub mod Path
 pub mod Degree
 pub mod View
 pub mod Tests
+pub mod EdgesAt

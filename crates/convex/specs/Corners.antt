@@ -4,39 +4,26 @@
 use mathlib.Core.Path.{_≡_, refl, ap}
 use mathlib.Core.Bool.{Bool, true, false, _&&_, _||_}
 use mathlib.Core.Logic.{_⊎_, inl, inr}
-use Prim.Native.Nat.{ℕ, suc, _+_, _-_, _≤_, min}
+use Prim.Native.Nat.{ℕ, suc, _+_, _≤_, _<_, min}
 use native.Mathlib.Omega.{arith}
 use Rattle.count.specs.Truth.{bool, and-true, or-true, one}
-use Rattle.board.specs.Board.{Board, Within, top-left, top-right, bottom-left, bottom-right, IsVertex}
+use Rattle.board.specs.Board.{Board, Within, height, left, right, IsVertex}
 use Rattle.board.specs.Path.{Convex}
 use Rattle.board.specs.Degree.{belowRight, belowLeft, aboveRight, aboveLeft, vertex?, edge?, degree, pins}
+use Rattle.board.specs.Tests.{Meets, corner-meets, below-right, below-left, above-right, above-left}
 use Rattle.board.specs.declared.Vertex.{Vertex}
 use Rattle.convex.specs.Needed.{convex-nested}
 use Rattle.convex.specs.Cells.{cellsAt, Concave}
-use Rattle.convex.specs.CellTests.{
-  below-right-yes,
-  below-left-yes,
-  above-right-yes,
-  above-left-yes,
-  below-right-true,
-  below-left-true,
-  above-right-true,
-  above-left-true,
-}
 
 -- ── a vertex has a cell ──
 some-cell : (b : Board) (v : Vertex) → IsVertex b v → 1 ≤ cellsAt b v
 unfolding cellsAt
-some-cell b v (i, j, c, top-left) = omega (arith, ap one (below-right-yes b v c))
-some-cell b v (i, j, c, top-right) =
-    let e : suc j - 1 ≡ j = omega arith in
-    omega (arith, ap one (below-left-yes b v (omega arith) (rw e c)))
-some-cell b v (i, j, c, bottom-left) =
-    let e : suc i - 1 ≡ i = omega arith in
-    omega (arith, ap one (above-right-yes b v (omega arith) (rw e c)))
-some-cell b v (i, j, c, bottom-right) =
-    let e : suc i - 1 ≡ i = omega arith in let f : suc j - 1 ≡ j = omega arith in
-    omega (arith, ap one (above-left-yes b v (omega arith) (omega arith) (rw (e, f) c)))
+some-cell b v (i, j, c, k) = elim (corner-meets c v k) [
+  | inl (inl h) ↦ omega (arith, ap one (below-right b v .1 h))
+  | inl (inr h) ↦ omega (arith, ap one (below-left b v .1 h))
+  | inr (inl h) ↦ omega (arith, ap one (above-right b v .1 h))
+  | inr (inr h) ↦ omega (arith, ap one (above-left b v .1 h))
+]
 
 -- ── the degree by the four cells: p and q above, r and s below, p and r left, q and s right ──
 abbrev cells : (p q r s : Bool) → ℕ
@@ -99,24 +86,26 @@ concave-pins b v h = elim (bool (vertex? b v)) [
 
 -- ── a convex board ──
 module _ (b : Board) (W : Within b) (C : Convex b) (v : Vertex) where
+  -- a cell in the row of one cell and the column of another
+  beside : {i j m n : ℕ} → i < height b → left b i ≤ j → j < right b i → v .line ≡ i + m → v .column ≡ j + n → Meets b v m n
+  beside {i} {j} r p q l c = record { i = i; j = j; cell = record { row = r; from = p; to = q }; line = l; column = c }
+
   -- where the cells above left and below right of v are both the board's, so is one of the two others
   pub falling-pair : aboveLeft b v ≡ true → belowRight b v ≡ true → (aboveRight b v ≡ true) ⊎ (belowLeft b v ≡ true)
   falling-pair e f =
-      let p = above-left-true b v e in let q = below-right-true b v f in
-      let a = p .0 in let d = p .1 in let k = p .2 in
-      elim (convex-nested b W C (v .line - 1) (v .line) (k .row) (q .row)) [
-        | inl t ↦ inl (above-right-yes b v a (record { row = k .row; from = omega arith; to = omega arith }))
-        | inr t ↦ inr (below-left-yes b v d (record { row = q .row; from = omega arith; to = omega arith }))
+      let p = above-left b v .0 e in let q = below-right b v .0 f in let c = p .cell in let d = q .cell in
+      elim (convex-nested b W C (p .i) (q .i) (c .row) (d .row)) [
+        | inl t ↦ inl (above-right b v .1 (beside (c .row) (omega arith) (omega arith) (p .line) (q .column)))
+        | inr t ↦ inr (below-left b v .1 (beside (d .row) (omega arith) (omega arith) (q .line) (p .column)))
       ]
 
   -- and likewise above right and below left
   pub rising-pair : aboveRight b v ≡ true → belowLeft b v ≡ true → (aboveLeft b v ≡ true) ⊎ (belowRight b v ≡ true)
   rising-pair e f =
-      let p = above-right-true b v e in let q = below-left-true b v f in
-      let a = p .0 in let d = q .0 in let k = p .1 in let m = q .1 in
-      elim (convex-nested b W C (v .line - 1) (v .line) (k .row) (m .row)) [
-        | inl t ↦ inl (above-left-yes b v a d (record { row = k .row; from = omega arith; to = omega arith }))
-        | inr t ↦ inr (below-right-yes b v (record { row = m .row; from = omega arith; to = omega arith }))
+      let p = above-right b v .0 e in let q = below-left b v .0 f in let c = p .cell in let d = q .cell in
+      elim (convex-nested b W C (p .i) (q .i) (c .row) (d .row)) [
+        | inl t ↦ inl (above-left b v .1 (beside (c .row) (omega arith) (omega arith) (p .line) (q .column)))
+        | inr t ↦ inr (below-right b v .1 (beside (d .row) (omega arith) (omega arith) (q .line) (p .column)))
       ]
 
   never-diagonal : cellsAt b v ≡ 2 → (aboveLeft b v && belowRight b v) || (aboveRight b v && belowLeft b v) ≡ true → ⊥

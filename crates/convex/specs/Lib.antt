@@ -16,6 +16,5 @@ pub mod PeelLoop
 pub mod Exact
 pub mod Value
 pub mod Lines
-pub mod CellTests
 pub mod Corners
 pub mod Examples

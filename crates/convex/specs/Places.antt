@@ -20,7 +20,6 @@ use Rattle.board.specs.Board.{
   top-right,
   bottom-left,
   bottom-right,
-  Side,
   top-side,
   bottom-side,
   left-side,
@@ -28,6 +27,7 @@ use Rattle.board.specs.Board.{
   IsVertex,
   IsEdge,
 }
+use Rattle.board.specs.Tests.{corner-at, side-across, side-down, side-case}
 use Rattle.board.specs.declared.Vertex.{Vertex}
 
 -- ── vertices ──
@@ -71,19 +71,11 @@ beside-cell b i c n h = elim (le-or-lt (right b i) c) [
   | inr k ↦ (c, record { row = h .row; from = h .from; to = k }, inl refl)
 ]
 
-top-corner : (i j c : ℕ) → (c ≡ j) ⊎ (c ≡ suc j) → Corner i j (at i c)
-top-corner i j c (inl e) = rw e top-left
-top-corner i j c (inr e) = rw e top-right
-
-bottom-corner : (i j c : ℕ) → (c ≡ j) ⊎ (c ≡ suc j) → Corner i j (at (suc i) c)
-bottom-corner i j c (inl e) = rw e bottom-left
-bottom-corner i j c (inr e) = rw e bottom-right
-
 pub vertex-on-top : (b : Board) (i c : ℕ) → left b i < right b i → HasColumn b i c → IsVertex b (at i c)
-vertex-on-top b i c n h = let k = beside-cell b i c n h in (i, k .0, k .1, top-corner i (k .0) c (k .2))
+vertex-on-top b i c n h = let k = beside-cell b i c n h in (i, k .0, k .1, corner-at i (k .0) i c (inl refl) (k .2))
 
 pub vertex-at-bottom : (b : Board) (i c : ℕ) → left b i < right b i → HasColumn b i c → IsVertex b (at (suc i) c)
-vertex-at-bottom b i c n h = let k = beside-cell b i c n h in (i, k .0, k .1, bottom-corner i (k .0) c (k .2))
+vertex-at-bottom b i c n h = let k = beside-cell b i c n h in (i, k .0, k .1, corner-at i (k .0) (suc i) c (inr refl) (k .2))
 
 -- ── edges ──
 -- the ends of an edge are vertices
@@ -94,28 +86,23 @@ edge-ends b e (i, j, c, left-side) = ((i, j, c, top-left), (i, j, c, bottom-left
 edge-ends b e (i, j, c, right-side) = ((i, j, c, top-right), (i, j, c, bottom-right))
 
 -- a vertical edge is a column of its row
-side-down : {i j : ℕ} {e : Edge} → Side i j e → e .to .line ≡ suc (e .from .line)
-    → (e .from .line ≡ i) × (j ≤ e .from .column) × (e .from .column ≤ suc j)
-side-down top-side e = absurd (omega arith)
-side-down bottom-side e = absurd (omega arith)
-side-down left-side e = (refl, omega arith, omega arith)
-side-down right-side e = (refl, omega arith, omega arith)
-
 pub down-column : (b : Board) (i c : ℕ) → IsEdge b (edge (at i c) (at (suc i) c)) → HasColumn b i c
-down-column b i c (k, j, h, s) =
-    let n = side-down s refl in
-    rw (n .0) (record { row = h .row; from = omega (arith, h .from, n .1); to = omega (arith, h .to, n .2) })
-
-upright-side : (i j c m : ℕ) → (c ≡ j) ⊎ (c ≡ suc j) → m ≡ suc i → Side i j (edge (at i c) (at m c))
-upright-side i j c m (inl e) h = rw (h, e) left-side
-upright-side i j c m (inr e) h = rw (h, e) right-side
+down-column b i c (k, j, h, s) = elim (side-case s) [
+  | inl a ↦ absurd (omega (arith, a .level))
+  | inr d ↦
+      let f : i ≡ k = d .start in
+      rw f (elim (d .touch) [
+        | inl t ↦ record { row = h .row; from = omega (arith, h .from); to = omega (arith, h .to) }
+        | inr t ↦ record { row = h .row; from = omega (arith, h .from); to = omega (arith, h .to) }
+      ])
+]
 
 pub column-down : (b : Board) (i c m : ℕ) → left b i < right b i → HasColumn b i c → m ≡ suc i → IsEdge b (edge (at i c) (at m c))
-column-down b i c m n w h = let k = beside-cell b i c n w in (i, k .0, k .1, upright-side i (k .0) c m (k .2) h)
+column-down b i c m n w h = let k = beside-cell b i c n w in (i, k .0, k .1, side-down i (k .0) i m c refl h (k .2))
 
 -- a horizontal edge on line l, the top or the bottom of row i, is a side of a cell
 pub cell-across : (b : Board) (i l c m : ℕ) → Cell b i c → i ≤ l → l ≤ suc i → m ≡ suc c → IsEdge b (edge (at l c) (at l m))
 cell-across b i l c m k p q h = elim (le-or-lt l i) [
-  | inl r ↦ let f : l ≡ i = omega arith in (i, c, k, rw (h, f) top-side)
-  | inr r ↦ let f : l ≡ suc i = omega arith in (i, c, k, rw (h, f) bottom-side)
+  | inl r ↦ (i, c, k, side-across i c l c m refl h (inl (omega arith)))
+  | inr r ↦ (i, c, k, side-across i c l c m refl h (inr (omega arith)))
 ]

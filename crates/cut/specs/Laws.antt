@@ -86,11 +86,11 @@ unfolding margin
 margin-tally b ps x t h = rw (h .edges-are, h .nets-are) refl
 
 -- the first overfull cut is the first overfull row, and where there is none the first overfull column
-found-some : (o : Option Cut) (x : Cut) → At x ≡ foundCut o → o ≡ some x
+pub found-some : (o : Option Cut) (x : Cut) → At x ≡ foundCut o → o ≡ some x
 found-some none x e = absurd (let z : _≡_ {A = ℕ} 0 1 = cc in omega arith)
 found-some (some y) x e = cc
 
-found-none : (o : Option Cut) → Nothing ≡ foundCut o → o ≡ none
+pub found-none : (o : Option Cut) → Nothing ≡ foundCut o → o ≡ none
 found-none none e = refl
 found-none (some y) e = absurd (let z : _≡_ {A = ℕ} 0 1 = cc in omega arith)
 

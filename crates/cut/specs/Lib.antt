@@ -3,3 +3,6 @@ pub mod Odd
 pub mod View
 pub mod Laws
 pub mod Reading
+pub mod RowEdges
+pub mod Order
+pub mod First

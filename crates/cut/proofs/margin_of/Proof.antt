@@ -1,4 +1,4 @@
-use Rattle.cut.proofs.Signed.{difference-fits}
+use Rattle.cut.proofs.Signed.{difference-fits, cast-difference-fits}
 use mir.Facts.{toZ-pos, toZ-ofZ}
 use mir.Syntax.{w32}
 use native.Mathlib.Omega.{arith}
@@ -15,7 +15,7 @@ cast-result-2 : tie.Need-cast-result-2
 cast-result-2 c = search needs
 
 sub-result : tie.Need-sub-result
-sub-result c = rw (toZ-pos w32 {n = c .before .before .args .t .edges} (omega arith), toZ-pos w32 {n = c .before .before .args .t .nets} (omega arith)) (difference-fits (c .before .before .args .t .edges) (c .before .before .args .t .nets) (omega arith) (omega arith))
+sub-result c = search (needs, cast-difference-fits)
 
 returns : tie.Need-returns
 returns c = rw (toZ-pos w32 {n = c .before .before .args .t .edges} (omega arith), toZ-pos w32 {n = c .before .before .args .t .nets} (omega arith)) (toZ-ofZ (difference-fits (c .before .before .args .t .edges) (c .before .before .args .t .nets) (omega arith) (omega arith)))
