@@ -91,6 +91,7 @@ pub map-rising {ℓ} : {A : Type ℓ} (f g : ℕ → A) (i n : ℕ) → ((k : �
 map-rising f g i zero h = refl
 map-rising f g i (suc n) h =
     rw (h i (omega arith) (omega arith), map-rising f g (suc i) n (λ k p q. h k (omega arith) (omega arith))) refl
+
 -- ── what a search through a list says: it finds none exactly when no element passes, and those before the one found do not pass ──
 pub none-cons {ℓ} : {A : Type ℓ} (t : A → Bool) (x : A) (xs : List A) → (select t (x ∷ xs) ≡ []) ↔ ((t x ≡ false) × (select t xs ≡ []))
 none-cons t x xs = (

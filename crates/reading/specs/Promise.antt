@@ -25,9 +25,12 @@ use Rattle.session.specs.declared.Session as code
 use Rattle.calls.specs.Result.{Result, no, yes, andThen, unless}
 use Rattle.calls.specs.Reading.{Taken, nothingTaken, takeWords, addListed, reverse, boardIn, readNets, readTaken, readWords, badLength, handedBack}
 use Rattle.scan.specs.Follows.{Follows, count-is}
-use Rattle.scan.specs.Promise.{takeAll}
+use Rattle.scan.specs.Promise.{takeAll, ScanPromise}
+use Rattle.scan.specs.declared.Scanned.{Scanned}
 use Rattle.reading.specs.Value.{boardValue, placesFor, valueFor, readValue, places-for}
 use Rattle.reading.specs.Listed.{listed, taken-nets}
+use Rattle.reading.specs.Adding.{AllPromise}
+use Rattle.reading.specs.declared.AddedAll.{AddedAll}
 use Rattle.reading.specs.declared.ReadAnswer.{ReadAnswer}
 use Rattle.reading.specs.declared.ReadAnswer.the-variants as answer
 use Rattle.reading.specs.declared.AfterRead.{AfterRead}
@@ -111,3 +114,39 @@ read-done x t b ps s e c a l f h =
       value = λ i. record { board = v i; nets = sym (places-for ps l) i; pile = p i };
       session = λ i. record { board = e i; nets = netsOf ps; pile = ap (λ (z : Session). z .pile) (f .bare) i };
     })
+
+-- ── what the two passes over the words promise, put together ──
+pub scan-refused : (ws : List ℕ) (r : Scanned) → ScanPromise ws r → (r .number ≡ 0 → ⊥) → readWords ws ≡ no (refusal (r .number) (r .index))
+scan-refused ws r (inl (k, e, f)) z = words-refused ws (refusal (r .number) (r .index)) (rw e f)
+scan-refused ws r (inr (t, e, f, g)) z = absurd (z e)
+
+pub scan-taken : (ws : List ℕ) (r : Scanned) → ScanPromise ws r → r .number ≡ 0 → (t : Taken) × (takeAll ws ≡ yes t) × Follows t (r .scan)
+scan-taken ws r (inl (k, e, f)) z = absurd (omega arith)
+scan-taken ws r (inr (t, e, f, g)) z = (t, f, g)
+
+module _ (ws : List ℕ) (r : Scanned) (S : ScanPromise ws r) (z : r .number ≡ 0) where
+  pub bent-refused : isConvex (boardOf (r .scan .board)) ≡ false → readWords ws ≡ no (refusal 16 0)
+  bent-refused e = let t = scan-taken ws r S z in convex-refused ws (t .0) (t .1) (rw (t .2 .board-is) at e)
+
+  pub net-refused : isConvex (boardOf (r .scan .board)) ≡ true → (a : AddedAll) → AllPromise (boardOf (r .scan .board)) ws a → (a .number ≡ 0 → ⊥)
+      → readWords ws ≡ no (refusal (a .number) (a .index))
+  net-refused e a A y = go A
+    where
+      go : AllPromise (boardOf (r .scan .board)) ws a → readWords ws ≡ no (refusal (a .number) (a .index))
+      go (inl (k, f, g)) =
+          let t = scan-taken ws r S z in
+          nets-refused ws (t .0) (t .1) (rw (t .2 .board-is) at e) (refusal (a .number) (a .index)) (rw f (rw (t .2 .board-is) at g))
+      go (inr g) = absurd (y (g .0))
+
+  pub session-read : isConvex (boardOf (r .scan .board)) ≡ true → (a : AddedAll) → AllPromise (boardOf (r .scan .board)) ws a → a .number ≡ 0
+      → (s : code.Session) → FreshPromise (r .scan .board) s
+      → ReadPromise (readWords ws) (record { answer = answer.Accepted; session = record { board = r .scan .board; nets = a .nets; pile = s .pile } })
+  session-read e a A y s f = go A
+    where
+      go : AllPromise (boardOf (r .scan .board)) ws a
+          → ReadPromise (readWords ws) (record { answer = answer.Accepted; session = record { board = r .scan .board; nets = a .nets; pile = s .pile } })
+      go (inl (k, g, h)) = absurd (omega arith)
+      go (inr (g, h, l)) =
+          let t = scan-taken ws r S z in
+          read-done (readWords ws) (t .0) (r .scan .board) (a .nets) s (t .2 .board-is) (count-is (t .0) (r .scan) (t .2)) (t .2 .array-is) l f
+          (all-read ws (t .0) (t .1) (rw (t .2 .board-is) at e) (a .nets) (rw (t .2 .board-is) at h))

@@ -4,7 +4,6 @@ ghost use Rattle.board.specs.View.{boardOf};
 ghost use Rattle.calls.specs.Reading.{readWords};
 ghost use Rattle.reading.specs.Adding.{addedWord, AllPromise};
 ghost use Rattle.reading.specs.Promise.{RefusedPromise, ReadPromise};
-
 use board::Board;
 use net::Held;
 use net::Place;
@@ -47,10 +46,19 @@ fn add_word(b: Board, nets: [Place; 64], w: BoardWord) -> Added
                 let ends = net.ends;
                 Added {
                     number: 0,
-                    nets: places::stored(nets, net.number, Place { held: Held::Ends(ends) }),
+                    nets: places::stored(
+                        nets,
+                        net.number,
+                        Place {
+                            held: Held::Ends(ends),
+                        },
+                    ),
                 }
             } else {
-                Added { number: told.number, nets }
+                Added {
+                    number: told.number,
+                    nets,
+                }
             }
         }
         BoardWord::Row(_) => Added { number: 0, nets },
@@ -63,16 +71,26 @@ fn add_word(b: Board, nets: [Place; 64], w: BoardWord) -> Added
 fn add_words(b: Board, words: &[u32]) -> AddedAll
     ensures { λ r. ⌜ AllPromise (boardOf b) (now (words .entry)) r ⌝ }
 {
-    let mut nets = [Place { held: Held::Nothing }; 64];
+    let mut nets = [Place {
+        held: Held::Nothing,
+    }; 64];
     let n = words.len();
     for i in 0..n {
         let added = add_word(b, nets, words::board_word(words[i]));
         if added.number != 0 {
-            return AddedAll { number: added.number, index: i, nets };
+            return AddedAll {
+                number: added.number,
+                index: i,
+                nets,
+            };
         }
         nets = added.nets;
     }
-    AddedAll { number: 0, index: n, nets }
+    AddedAll {
+        number: 0,
+        index: n,
+        nets,
+    }
 }
 
 fn refused(number: u8, place: usize) -> AfterRead

@@ -105,7 +105,7 @@ length-small n e = elim (bool (ltb 96 n)) [
   | inr h ↦ ltb-false 96 n h
 ]
 
-nonzero : (n : ℕ) → (n ≡ 0 → ⊥) → (k : ℕ) × (n ≡ suc k)
+pub nonzero : (n : ℕ) → (n ≡ 0 → ⊥) → (k : ℕ) × (n ≡ suc k)
 nonzero zero h = absurd (h refl)
 nonzero (suc k) h = (k, refl)
 

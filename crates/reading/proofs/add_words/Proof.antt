@@ -1,3 +1,15 @@
+-- `add_words` adds the nets of the words as the definition does.
+use native.Mathlib.Omega.{arith}
+use borrow.Author.Needs.{needs}
+use Rattle.reading.specs.declared.Added.{Added}
+use Rattle.reading.specs.Adding.{addedWord, Adding, adding-start, adding-more, adding-refused, adding-end}
+use Rattle.scan.specs.Promise.{nonzero}
+use Rattle.words.specs.BoardWord.{boardWord}
+use Rattle.board.specs.View.{boardOf}
+use lib.ListN.{length, getD}
+use mathlib.Core.Logic.{inl, inr}
+use mathlib.Core.Path.{_≡_, refl, ap, sym, _∙_}
+use Prim.Native.Nat.{_-_, _≤_}
 use Rattle.reading.proofs.add_words.Statement.{statement}
 use Rattle.reading.proofs.add_words.Tie as tie
 use Rattle.reading.proofs.add_words.Reads as reads
@@ -6,50 +18,50 @@ use Rattle.reading.proofs.add_word.Reads as add-word-reads
 use Rattle.words.proofs.board_word.Reads as board-word-reads
 
 abbrev Inv-loop : tie.InvT-loop
-Inv-loop b words nets₀ n i₀ nets i = ?
+Inv-loop b words nets₀ n i₀ nets i =
+    (i ≤ n) × (n ≡ length words) × Adding (boardOf b) words i nets
 
 abbrev μ-loop : tie.MeasureT-loop
-μ-loop b words nets₀ n i₀ nets i = ?
+μ-loop b words nets₀ n i₀ nets i = n - i
 
--- src/lib.rt:68:5
 loop-holds : tie.Need-loop-holds Inv-loop μ-loop
-loop-holds c = ?
+loop-holds c = (omega arith, refl, adding-start (boardOf (c .before .args .b)) (c .before .args .words .now))
 
--- src/lib.rt:69:57
 mul-board-word : tie.Need-mul-board-word Inv-loop μ-loop
-mul-board-word c = ?
+mul-board-word c = search needs
 
--- src/lib.rt:69:57
 shared-slice-read-board-word : tie.Need-shared-slice-read-board-word Inv-loop μ-loop
-shared-slice-read-board-word c = ?
+shared-slice-read-board-word c = omega arith
 
--- src/lib.rt:69:39
 board-word-requires : tie.Need-board-word-requires Inv-loop μ-loop
-board-word-requires c κs = ?
+board-word-requires c κs = search needs
 
--- src/lib.rt:69:13
 add-word-requires : tie.Need-add-word-requires Inv-loop μ-loop
-add-word-requires c κs = ?
+add-word-requires c κs = search needs
 
--- src/lib.rt:71:13
 returns : tie.Need-returns Inv-loop μ-loop
-returns c = ?
+returns c =
+    let b = boardOf (c .before .before .before .before .before .before .before .before .args .b) in let ws = c .before .before .before .before .before .before .before .before .args .words .now in let at = c .before .before .before .before .before .before .loop in
+    let e : addedWord b (at .nets) (boardWord (getD ws (at .i) 0)) ≡ c .before .before .add-word .result = rw (← c .before .before .before .board-word .ensures) (sym (c .before .before .add-word .ensures)) in
+    let k = nonzero (c .before .before .add-word .result .number) (c .if1 .taken) in
+    inl (k .0, k .1, adding-refused b ws (at .i) (at .nets) (at .inv .2) (omega arith) (k .0) (ap (λ (a : Added). a .number) e ∙ k .1))
 
--- src/lib.rt:68:9
 add-i : tie.Need-add-i Inv-loop μ-loop
-add-i c = ?
+add-i c = search needs
 
--- src/lib.rt:68:5
 loop-less : tie.Need-loop-less Inv-loop μ-loop
-loop-less c = ?
+loop-less c = search needs
 
--- src/lib.rt:68:5
 loop-again : tie.Need-loop-again Inv-loop μ-loop
-loop-again c = ?
+loop-again c =
+    let b = boardOf (c .before .before .before .before .before .before .before .before .before .args .b) in let ws = c .before .before .before .before .before .before .before .before .before .args .words .now in let at = c .before .before .before .before .before .before .before .loop in
+    let e : addedWord b (at .nets) (boardWord (getD ws (at .i) 0)) ≡ c .before .before .before .add-word .result = rw (← c .before .before .before .before .board-word .ensures) (sym (c .before .before .before .add-word .ensures)) in
+    (omega arith, at .inv .1, rw e at (adding-more b ws (at .i) (at .nets) (at .inv .2) (omega arith) (ap (λ (a : Added). a .number) e ∙ c .before .if1 .left)))
 
--- src/lib.rt:63:1
 returns-2 : tie.Need-returns-2 Inv-loop μ-loop
-returns-2 c = ?
+returns-2 c =
+    let b = boardOf (c .before .before .before .args .b) in let ws = c .before .before .before .args .words .now in let at = c .before .loop in
+    inr (refl, adding-end b ws (at .i) (at .nets) (at .inv .2) (omega arith), at .inv .2 .size)
 
 pub add-words-spec : {M : Type 1} → statement M
 add-words-spec =

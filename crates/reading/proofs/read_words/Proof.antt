@@ -1,0 +1,75 @@
+-- `read_words` is refused as the definition refuses, and else hands back the session that the words give.
+use Rattle.reading.specs.Promise.{refused-read, scan-refused, bent-refused, net-refused, session-read}
+use Rattle.calls.specs.Reading.{readWords}
+use borrow.Author.Tests.{not-true, not-false}
+use mathlib.Core.Path.{sym, _∙_}
+use borrow.Author.Needs.{needs}
+use Rattle.reading.proofs.read_words.Statement.{statement}
+use Rattle.reading.proofs.read_words.Tie as tie
+use Rattle.reading.proofs.read_words.Reads as reads
+use Rattle.reading.proofs.read_words.Lts as lts
+use Rattle.convex.proofs.is_convex.Reads as is-convex-reads
+use Rattle.reading.proofs.add_words.Reads as add-words-reads
+use Rattle.reading.proofs.refused.Reads as refused-reads
+use Rattle.scan.proofs.scan_words.Reads as scan-words-reads
+use Rattle.session.proofs.fresh.Reads as fresh-reads
+
+scan-words-requires : tie.Need-scan-words-requires
+scan-words-requires c κs = search needs
+
+refused-requires : tie.Need-refused-requires
+refused-requires c κs = search needs
+
+returns : tie.Need-returns
+returns c =
+    let ws = c .before .before .before .before .before .args .words .now in let s = c .before .before .before .scan-words in
+    refused-read (readWords ws) (s .result .number) (s .result .index) _ (c .refused .ensures) (scan-refused ws (s .result) (s .ensures) (c .before .if1 .taken))
+
+is-convex-requires : tie.Need-is-convex-requires
+is-convex-requires c κs = search needs
+
+refused-requires-2 : tie.Need-refused-requires-2
+refused-requires-2 c κs = search needs
+
+returns-2 : tie.Need-returns-2
+returns-2 c =
+    let ws = c .before .before .before .before .before .before .before .before .before .args .words .now in let s = c .before .before .before .before .before .before .before .scan-words in
+    refused-read (readWords ws) 16 0 _ (c .refused2 .ensures)
+    (bent-refused ws (s .result) (s .ensures) (c .before .before .before .before .before .if1 .left) (sym (c .before .before .is-convex .ensures .same) ∙ not-true (c .before .before .is-convex .result) (c .before .if2 .taken)))
+
+add-words-requires : tie.Need-add-words-requires
+add-words-requires c κs = search needs
+
+refused-requires-3 : tie.Need-refused-requires-3
+refused-requires-3 c κs = search needs
+
+returns-3 : tie.Need-returns-3
+returns-3 c =
+    let ws = c .before .before .before .before .before .before .before .before .before .before .before .before .args .words .now in let s = c .before .before .before .before .before .before .before .before .before .before .scan-words in let a = c .before .before .before .add-words in
+    refused-read (readWords ws) (a .result .number) (a .result .index) _ (c .refused3 .ensures)
+    (net-refused ws (s .result) (s .ensures) (c .before .before .before .before .before .before .before .before .if1 .left) (sym (c .before .before .before .before .before .is-convex .ensures .same) ∙ not-false (c .before .before .before .before .before .is-convex .result) (c .before .before .before .before .if2 .left)) (a .result) (a .ensures) (c .before .if3 .taken))
+
+fresh-requires : tie.Need-fresh-requires
+fresh-requires c κs = search needs
+
+returns-4 : tie.Need-returns-4
+returns-4 c =
+    let ws = c .before .before .before .before .before .before .before .before .before .before .before .before .before .before .args .words .now in let s = c .before .before .before .before .before .before .before .before .before .before .before .before .scan-words in let a = c .before .before .before .before .before .add-words in
+    session-read ws (s .result) (s .ensures) (c .before .before .before .before .before .before .before .before .before .before .if1 .left) (sym (c .before .before .before .before .before .before .before .is-convex .ensures .same) ∙ not-false (c .before .before .before .before .before .before .before .is-convex .result) (c .before .before .before .before .before .before .if2 .left)) (a .result) (a .ensures) (c .before .before .before .if3 .left)
+    (c .before .before .fresh .result) (c .before .before .fresh .ensures)
+
+pub read-words-spec : {M : Type 1} → statement M
+read-words-spec =
+    tie.close
+    (tie.spec
+    scan-words-requires
+    refused-requires
+    returns
+    is-convex-requires
+    refused-requires-2
+    returns-2
+    add-words-requires
+    refused-requires-3
+    returns-3
+    fresh-requires
+    returns-4)
