@@ -5,9 +5,13 @@ use mathlib.Core.Bool.{Bool, true, false, not}
 use mathlib.Core.List.{List, [], _∷_, _++_}
 use mathlib.Core.Logic.{_⊎_, inl, inr}
 use mathlib.Core.Option.{Option, none, some}
-use Prim.Native.Nat.{ℕ, zero, suc, _-_}
+use Prim.Native.Nat.{ℕ, zero, suc, _-_, _/_, _%_, _<_}
 use native.Mathlib.Omega.{arith}
-use lib.ListN.{length, replicate}
+use lib.Dec.{eqb, ltb}
+use lib.ListN.{length, replicate, take, drop}
+use lib.Seq.{take-all, take-at}
+use borrow.Author.Tests.{eq-eqb, ne-eqb, lt-ltb}
+use Rattle.count.specs.Truth.{or-right}
 use Rattle.board.specs.Board.{Board, noRow}
 use Rattle.board.specs.View.{boardOf}
 use Rattle.board.specs.declared.Row.{Row}
@@ -23,7 +27,9 @@ use Rattle.session.specs.View.{sessionOf}
 use Rattle.session.specs.Promise.{FreshPromise, BlankPromise}
 use Rattle.session.specs.declared.Session as code
 use Rattle.calls.specs.Result.{Result, no, yes, andThen, unless}
-use Rattle.calls.specs.Reading.{Taken, nothingTaken, takeWords, addListed, reverse, boardIn, readNets, readTaken, readWords, badLength, handedBack}
+use Rattle.calls.specs.Reading.{Taken, nothingTaken, takeWords, addListed, reverse, boardIn, readNets, readTaken, readWords, readBytes, badLength, handedBack}
+use Rattle.words.specs.Bytes.{wordsIn}
+use Rattle.octets.specs.Words.{words-length, FilledWith}
 use Rattle.scan.specs.Follows.{Follows, count-is}
 use Rattle.scan.specs.Promise.{takeAll, ScanPromise}
 use Rattle.scan.specs.declared.Scanned.{Scanned}
@@ -150,3 +156,28 @@ module _ (ws : List ℕ) (r : Scanned) (S : ScanPromise ws r) (z : r .number ≡
           let t = scan-taken ws r S z in
           read-done (readWords ws) (t .0) (r .scan .board) (a .nets) s (t .2 .board-is) (count-is (t .0) (r .scan) (t .2)) (t .2 .array-is) l f
           (all-read ws (t .0) (t .1) (rw (t .2 .board-is) at e) (a .nets) (rw (t .2 .board-is) at h))
+
+-- ── from bytes ──
+module _ (bs : List ℕ) where
+  pub bytes-uneven : (length bs % 4 ≡ 0 → ⊥) → readBytes bs ≡ no (refusal 10 0)
+  unfolding readBytes
+  bytes-uneven h = rw (ne-eqb (length bs % 4) 0 h) refl
+
+  pub bytes-even : length bs % 4 ≡ 0 → readBytes bs ≡ readWords (wordsIn bs)
+  unfolding readBytes
+  bytes-even h = rw (eq-eqb (length bs % 4) 0 h) refl
+
+  pub bytes-long : length bs % 4 ≡ 0 → 96 < length bs / 4 → readBytes bs ≡ no (refusal 11 0)
+  unfolding readWords
+  bytes-long h k =
+      let l : ltb 96 (length (wordsIn bs)) ≡ true = lt-ltb 96 (length (wordsIn bs)) (omega (arith, words-length bs)) in
+      let b : badLength (wordsIn bs) ≡ true = or-right (eqb (length (wordsIn bs)) 0) (ltb 96 (length (wordsIn bs))) l in
+      bytes-even h ∙ rw b refl
+
+  -- the words in the buffer are all of them
+  pub bytes-words : (before after : List ℕ) (n : ℕ) → length bs % 4 ≡ 0 → n ≡ length bs / 4 → FilledWith bs n before after → readBytes bs ≡ readWords (take n after)
+  bytes-words before after n h e F =
+      let l : length (wordsIn bs) ≡ n = words-length bs ∙ sym e in
+      let w : take n (wordsIn bs) ≡ wordsIn bs = take-all n (wordsIn bs) (omega arith) in
+      let t : take n after ≡ wordsIn bs = rw (F .buffer, w) (take-at (wordsIn bs) (drop n before) n l) in
+      bytes-even h ∙ ap readWords (sym t)

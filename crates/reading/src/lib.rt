@@ -1,7 +1,7 @@
 // Reading a board from words and from bytes: a session with an empty pile, or a refusal and the blank session.
 ghost use mathlib.Core.Path.{_≡_};
 ghost use Rattle.board.specs.View.{boardOf};
-ghost use Rattle.calls.specs.Reading.{readWords};
+ghost use Rattle.calls.specs.Reading.{readWords, readBytes};
 ghost use Rattle.reading.specs.Adding.{addedWord, AllPromise};
 ghost use Rattle.reading.specs.Promise.{RefusedPromise, ReadPromise};
 use board::Board;
@@ -126,4 +126,21 @@ pub fn read_words(words: &[u32]) -> AfterRead
         answer: ReadAnswer::Accepted,
         session: Session { board, nets, pile },
     }
+}
+
+// The same of bytes: 10 where their count is no multiple of 4.
+pub fn read_bytes(bytes: &[u8]) -> AfterRead
+    ensures { λ r. ⌜ ReadPromise (readBytes (now (bytes .entry))) r ⌝ }
+{
+    let size = bytes.len();
+    if size % 4 != 0 {
+        return refused(10, 0);
+    }
+    let n = size / 4;
+    if 96 < n {
+        return refused(11, 0);
+    }
+    let mut words = [0u32; 96];
+    octets::fill_words(bytes, n, &mut words);
+    read_words(&words[..n])
 }

@@ -1,0 +1,36 @@
+// Words in bytes: four bytes a word, lowest first.
+ghost use mathlib.Core.Path.{_≡_};
+ghost use Prim.Native.Nat.{_+_, _*_, _≤_, _<_};
+ghost use lib.ListN.{length};
+ghost use Rattle.octets.specs.Words.{wordAt, FilledWith};
+
+fn wide(x: u8) -> u32
+    ensures { λ r. ⌜ r ≡ x ⌝ }
+    ensures { λ r. ⌜ r ≤ 255 ⌝ }
+{
+    x as u32
+}
+
+// The word of four bytes from index i on.
+fn word_at(bytes: &[u8], i: usize) -> u32
+    requires { ⌜ i + 3 < length (now bytes) ⌝ }
+    ensures { λ r. ⌜ r ≡ wordAt (now (bytes .entry)) i ⌝ }
+{
+    wide(bytes[i])
+        + wide(bytes[i + 1]) * 256
+        + wide(bytes[i + 2]) * 65536
+        + wide(bytes[i + 3]) * 16777216
+}
+
+// The first n words of the bytes, at the start of the buffer. There must be as many, and room for them.
+pub fn fill_words(bytes: &[u8], n: usize, out: &mut [u32])
+    requires { ⌜ 4 * n ≤ length (now bytes) ⌝ }
+    requires { ⌜ n ≤ length (now out) ⌝ }
+    ensures { λ _. ⌜ FilledWith (now (bytes .entry)) n (now (out .entry)) (now (out .exit)) ⌝ }
+{
+    let mut at: usize = 0;
+    for i in 0..n {
+        out[i] = word_at(bytes, at);
+        at += 4;
+    }
+}
