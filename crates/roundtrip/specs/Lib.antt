@@ -1,0 +1,10 @@
+pub mod RoundTrip
+pub mod Parts
+pub mod Results
+pub mod Adds
+pub mod Packed
+pub mod Fits
+pub mod Accepted
+pub mod Written
+pub mod Read
+pub mod InBytes
