@@ -1,27 +1,26 @@
 -- One call on a sound session: it is the machine's step, it does not get 20, and it hands back a sound session.
--- Assumes nothing.
-use mathlib.Core.Path.{_≡_, refl, ap, sym, _∙_}
+-- Assumes of the call only its promise.
+use mathlib.Core.Path.{_≡_, refl, ap}
 use mathlib.Core.Bool.{Bool, true, false, not}
 use mathlib.Core.List.{List, [], _∷_}
 use mathlib.Core.Option.{Option, none, some}
-use Prim.Native.Nat.{ℕ}
 use native.Mathlib.Omega.{arith}
-use Rattle.board.specs.Board.{Board}
 use Rattle.board.specs.Degree.{vertex?}
 use Rattle.net.specs.Terminals.{same}
 use Rattle.net.specs.declared.Net.{Net}
 use Rattle.net.specs.declared.Change.{Change}
 use Rattle.machine.specs.Session as machine
 use Rattle.machine.specs.Session.{holds, netOf}
-use Rattle.machine.specs.Refusal.{Refusal, line, firstRefusal}
+use Rattle.machine.specs.Refusal.{line, firstRefusal}
 use Rattle.machine.specs.Add.{goodNumber, full, addLines, addRefused}
-use Rattle.machine.specs.Machine.{Call, add, withdraw, takeBack, Answer, accepted, refused, step, addStep, withdrawStep, takeBackStep}
+use Rattle.machine.specs.Machine.{Call, add, withdraw, takeBack, Answer, step, addStep, withdrawStep, takeBackStep, after, answers}
 use Rattle.machine.specs.Sound.{Sound, call}
 use Rattle.soundness.specs.Exact.{sound-exact}
 use Rattle.soundness.specs.Stays.{stays-sound}
 use Rattle.session.specs.declared.Session.{Session}
 use Rattle.session.specs.View.{sessionOf}
-use Rattle.history.specs.Made.{Made, added, withdrew, tookBack, Meets, handed, callsOf, answersOf, numberOf}
+use Rattle.session.specs.Answers.{addAnswer, withdrawAnswer, takeBackAnswer}
+use Rattle.history.specs.Made.{Made, added, withdrew, tookBack, Meets, handed, callOf, answerOf, numberOf, Never}
 
 pub call-step : (s : machine.Session) (c : Call) → Sound s → call s c ≡ step s c
 unfolding call
@@ -58,17 +57,31 @@ step-not-20 s (withdraw k) = withdraw-not-20 (netOf k (s .nets)) s
 step-not-20 s takeBack = back-not-20 (s .pile) s
 
 -- ── a call that met its promise ──
--- DEFINITION: the answer a and the session t are those of the machine's step
-pub record Steps (s : Session) (c : Call) (a : Answer) (t : Session) : Type 0 where
-  pub answer : a ≡ step (sessionOf s) c .answer
-  pub next : sessionOf t ≡ step (sessionOf s) c .next
+-- DEFINITION: after one call from the session s, all is as the machine has it
+pub record MadeAs (s : Session) (m : Made) : Type 0 where
+  pub session : sessionOf (handed s m) ≡ after (sessionOf s) (callOf m)
+  pub answer : answerOf m ≡ answers (sessionOf s) (callOf m)
+  pub no-20 : Never 20 (answerOf m)
+  pub sound : Sound (sessionOf (handed s m))
 
-pub steps : (s : Session) (c : Call) (a : Answer) (t : Session) → Sound (sessionOf s) → a ≡ call (sessionOf s) c .answer
-    → sessionOf t ≡ call (sessionOf s) c .next → Steps s c a t
-steps s c a t h e f =
+-- the answer and the session are those of the machine's step
+as-step : (s t : Session) (c : Call) (a : Answer) → Sound (sessionOf s) → a ≡ call (sessionOf s) c .answer → sessionOf t ≡ call (sessionOf s) c .next
+    → (sessionOf t ≡ after (sessionOf s) (c ∷ [])) × (a ∷ [] ≡ answers (sessionOf s) (c ∷ [])) × (numberOf a ≡ 20 → ⊥) × Sound (sessionOf t)
+unfolding after answers
+as-step s t c a h e f =
     let g = call-step (sessionOf s) c h in
-    record { answer = rw g at e; next = rw g at f }
+    let x : a ≡ step (sessionOf s) c .answer = rw g at e in
+    let y : sessionOf t ≡ step (sessionOf s) c .next = rw g at f in
+    (y, ap (λ (b : Answer). b ∷ []) x, rw x (step-not-20 (sessionOf s) c), rw y (stays-sound (sessionOf s) c h))
 
--- a sound session stays sound
-pub steps-sound : (s : Session) (c : Call) (a : Answer) (t : Session) → Sound (sessionOf s) → Steps s c a t → Sound (sessionOf t)
-steps-sound s c a t h k = rw (k .next) (stays-sound (sessionOf s) c h)
+-- A sound session stays sound, and the call was the machine's.
+pub made-as : (s : Session) (m : Made) → Sound (sessionOf s) → Meets s m → MadeAs s m
+made-as s (added n r) h k =
+    let x = as-step s (r .session) (add n) (addAnswer (r .answer)) h (k .answers) (k .next) in
+    record { session = x .0; answer = x .1; no-20 = (x .2, tt); sound = x .3 }
+made-as s (withdrew j r) h k =
+    let x = as-step s (r .session) (withdraw j) (withdrawAnswer (r .answer)) h (k .answers) (k .next) in
+    record { session = x .0; answer = x .1; no-20 = (x .2, tt); sound = x .3 }
+made-as s (tookBack r) h k =
+    let x = as-step s (r .session) takeBack (takeBackAnswer (r .answer)) h (k .answers) (k .next) in
+    record { session = x .0; answer = x .1; no-20 = (x .2, tt); sound = x .3 }

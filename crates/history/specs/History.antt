@@ -1,21 +1,20 @@
 -- Demand 3 for adds, withdrawals and take-backs: over every list of calls from a fresh session, refused ones included, the session handed
 -- back last is the list machine's, and each answer is the machine's.
 -- Assumes of each call only its promise.
-use mathlib.Core.Path.{_≡_, refl, ap, sym, _∙_}
-use mathlib.Core.List.{List, [], _∷_}
-use Prim.Native.Nat.{ℕ}
+use mathlib.Core.Path.{_≡_, refl, ap}
+use mathlib.Core.List.{List, [], _∷_, _++_}
 use Rattle.board.specs.Board.{Within}
 use Rattle.board.specs.Path.{Convex}
 use Rattle.board.specs.View.{boardOf}
 use Rattle.board.specs.declared.Board as code-board
-use Rattle.machine.specs.Machine.{Call, add, withdraw, takeBack, Answer, step, after, answers}
+use Rattle.machine.specs.Session as machine
+use Rattle.machine.specs.Machine.{Call, Answer, step, after, answers}
 use Rattle.machine.specs.Sound.{Sound, Fresh, bare}
 use Rattle.session.specs.declared.Session.{Session}
-use Rattle.session.specs.Answers.{addAnswer, withdrawAnswer, takeBackAnswer}
 use Rattle.session.specs.View.{sessionOf}
 use Rattle.session.specs.Promise.{FreshPromise}
-use Rattle.history.specs.Made.{Made, added, withdrew, tookBack, Meets, handed, Chain, last, callsOf, answersOf, numberOf, Never}
-use Rattle.history.specs.Call.{Steps, steps, steps-sound, step-not-20}
+use Rattle.history.specs.Made.{Made, Meets, handed, callOf, answerOf, Chain, last, callsOf, answersOf, Everywhere, Never}
+use Rattle.history.specs.Call.{MadeAs, made-as}
 
 -- DEFINITION: after the calls ms from the session s, all is as the machine has it
 pub record AsTheMachine (s : Session) (ms : List Made) : Type 0 where
@@ -27,36 +26,38 @@ pub record AsTheMachine (s : Session) (ms : List Made) : Type 0 where
   pub no-20 : Never 20 (answersOf ms)
   pub sound : Sound (sessionOf (last s ms))
 
--- one call, and the rest
-more : (s t : Session) (c : Call) (a : Answer) (ms : List Made) → Steps s c a t → AsTheMachine t ms
-    → (sessionOf (last t ms) ≡ after (step (sessionOf s) c .next) (callsOf ms))
-    × (a ∷ answersOf ms ≡ step (sessionOf s) c .answer ∷ answers (step (sessionOf s) c .next) (callsOf ms))
-    × (numberOf a ≡ 20 → ⊥)
-more s t c a ms k r = (
-  rw (← k .next) (r .session),
-  rw (← k .answer, ← k .next) (ap (λ (l : List Answer). a ∷ l) (r .answer)),
-  rw (k .answer) (step-not-20 (sessionOf s) c),
-)
+-- ── lists joined ──
+after-append : (s : machine.Session) (xs ys : List Call) → after s (xs ++ ys) ≡ after (after s xs) ys
+unfolding after
+after-append s [] ys = refl
+after-append s (x ∷ xs) ys = after-append (step s x .next) xs ys
+
+answers-append : (s : machine.Session) (xs ys : List Call) → answers s (xs ++ ys) ≡ answers s xs ++ answers (after s xs) ys
+unfolding after answers
+answers-append s [] ys = refl
+answers-append s (x ∷ xs) ys = ap (λ (l : List Answer). step s x .answer ∷ l) (answers-append (step s x .next) xs ys)
+
+never-append : (xs ys : List Answer) → Never 20 xs → Never 20 ys → Never 20 (xs ++ ys)
+never-append [] ys f g = g
+never-append (x ∷ xs) ys f g = (f .0, never-append xs ys (f .1) g)
+
+-- ── one call, and the rest ──
+more : (s : Session) (m : Made) (ms : List Made) → MadeAs s m → AsTheMachine (handed s m) ms → AsTheMachine s (m ∷ ms)
+more s m ms k r = record {
+  session = rw (after-append (sessionOf s) (callOf m) (callsOf ms), ← k .session) (r .session);
+  answer = rw (answers-append (sessionOf s) (callOf m) (callsOf ms), ← k .session, ← k .answer) (ap (λ (l : List Answer). answerOf m ++ l) (r .answer));
+  no-20 = never-append (answerOf m) (answersOf ms) (k .no-20) (r .no-20);
+  sound = r .sound;
+}
 
 from-sound : (s : Session) (ms : List Made) → Sound (sessionOf s) → Chain s ms → AsTheMachine s ms
 unfolding after answers
 from-sound s [] h k = record { session = refl; answer = refl; no-20 = tt; sound = h }
-from-sound s (added n r ∷ ms) h k =
-    let x = steps s (add n) (addAnswer (r .answer)) (r .session) h (k .0 .answers) (k .0 .next) in
-    let rest = from-sound (r .session) ms (steps-sound s (add n) (addAnswer (r .answer)) (r .session) h x) (k .1) in
-    let m = more s (r .session) (add n) (addAnswer (r .answer)) ms x rest in
-    record { session = m .0; answer = m .1; no-20 = (m .2, rest .no-20); sound = rest .sound }
-from-sound s (withdrew j r ∷ ms) h k =
-    let x = steps s (withdraw j) (withdrawAnswer (r .answer)) (r .session) h (k .0 .answers) (k .0 .next) in
-    let rest = from-sound (r .session) ms (steps-sound s (withdraw j) (withdrawAnswer (r .answer)) (r .session) h x) (k .1) in
-    let m = more s (r .session) (withdraw j) (withdrawAnswer (r .answer)) ms x rest in
-    record { session = m .0; answer = m .1; no-20 = (m .2, rest .no-20); sound = rest .sound }
-from-sound s (tookBack r ∷ ms) h k =
-    let x = steps s takeBack (takeBackAnswer (r .answer)) (r .session) h (k .0 .answers) (k .0 .next) in
-    let rest = from-sound (r .session) ms (steps-sound s takeBack (takeBackAnswer (r .answer)) (r .session) h x) (k .1) in
-    let m = more s (r .session) takeBack (takeBackAnswer (r .answer)) ms x rest in
-    record { session = m .0; answer = m .1; no-20 = (m .2, rest .no-20); sound = rest .sound }
+from-sound s (m ∷ ms) h k =
+    let x = made-as s m h (k .0) in
+    more s m ms x (from-sound (handed s m) ms (x .sound) (k .1))
 
+-- ── the claim ──
 -- From any fresh session.
 pub as-the-machine : (s : Session) (ms : List Made) → Fresh (sessionOf s) → Chain s ms → AsTheMachine s ms
 as-the-machine s ms f k = from-sound s ms (f .sound) k
@@ -69,3 +70,12 @@ pub history : (b : code-board.Board) (s : Session) (ms : List Made) → Within (
 history b s ms w c p k =
     let r = as-the-machine s ms (p .fresh w c) k in
     (r, rw (← p .bare) (r .session), rw (← p .bare) (r .answer))
+
+-- What holds of every call that is made on a sound session and meets its promise, holds of each call of the list, and of the session that
+-- the machine holds at that call.
+pub everywhere : (P : machine.Session → Made → Type 0) → ((s : Session) (m : Made) → Sound (sessionOf s) → Meets s m → P (sessionOf s) m)
+    → (s : Session) (ms : List Made) → Sound (sessionOf s) → Chain s ms → Everywhere P (sessionOf s) ms
+everywhere P each s [] h k = tt
+everywhere P each s (m ∷ ms) h k =
+    let x = made-as s m h (k .0) in
+    (each s m h (k .0), rw (← x .session) (everywhere P each (handed s m) ms (x .sound) (k .1)))

@@ -1,19 +1,17 @@
 -- The pile of a value: its length, its top, and the pile after a change is laid on.
 -- Assumes nothing.
 use mathlib.Core.Path.{_≡_, refl, ap, sym, _∙_}
-use mathlib.Core.Bool.{true, false, cond}
 use mathlib.Core.List.{List, [], _∷_, _++_}
 use mathlib.Core.Logic.{inl, inr}
 use Prim.Native.Nat.{ℕ, zero, suc, _+_, _-_, _<_, _≤_}
 use native.Mathlib.Omega.{arith}
 use native.Mathlib.Numerals.{add-one}
-use lib.Dec.{ltb}
 use lib.ListN.{length, getD, set, take, drop, length-drop, List·getD-append}
 use lib.Seq.{getD-set-same, getD-set-other, getD-drop, getD-at, take-all}
 use borrow.Author.Tests.{lt-ltb, le-ltb}
 use Rattle.count.specs.Truth.{le-or-lt}
 use Rattle.net.specs.declared.Change.{Change}
-use Rattle.machine.specs.Machine.{lay, pileLimit}
+use Rattle.machine.specs.Machine.{lay}
 use Rattle.places.specs.Numbered.{entry}
 use Rattle.places.specs.Pile.{noSlot, slot, changesOf, pileOf, topOf, lifted, laid}
 use Rattle.places.specs.declared.Slot.{Slot}

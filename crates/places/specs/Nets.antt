@@ -3,11 +3,11 @@
 -- Assumes nothing.
 use mathlib.Core.Path.{_≡_, refl, ap, sym, _∙_}
 use mathlib.Core.Bool.{Bool, true, false, cond, _&&_, _||_}
-use mathlib.Core.List.{List, [], _∷_, map}
+use mathlib.Core.List.{List, [], _∷_}
 use mathlib.Core.Option.{Option, none, some}
-use Prim.Native.Nat.{ℕ, zero, suc, _+_, _-_, _<_, _≤_}
+use Prim.Native.Nat.{ℕ, zero, suc, _+_, _<_, _≤_}
 use native.Mathlib.Omega.{arith}
-use lib.Dec.{eqb, ltb}
+use lib.Dec.{eqb}
 use lib.ListN.{length, getD, set}
 use borrow.Author.Tests.{lt-ltb, le-ltb, eq-eqb, ne-eqb}
 use Rattle.net.specs.Terminals.{same}
@@ -17,9 +17,9 @@ use Rattle.net.specs.declared.Net.{Net}
 use Rattle.net.specs.declared.Held.{Held}
 use Rattle.net.specs.declared.Held.the-variants.{Nothing, Ends}
 use Rattle.net.specs.declared.Place.{Place}
-use Rattle.machine.specs.Session.{pairs, holds, insert, remove, netOf, sameNet, recorded}
+use Rattle.machine.specs.Session.{pairs, holds, insert, remove, netOf, recorded}
 use Rattle.machine.specs.Sound.{rising?}
-use Rattle.places.specs.Numbered.{entry, replaced}
+use Rattle.places.specs.Numbered.{replaced}
 use Rattle.places.specs.Places.{net, holding, heldNet, netsFrom, netsOf, placeAt}
 
 -- ── their terminals ──

@@ -10,7 +10,7 @@ ghost use mathlib.Core.List.{_++_};
 ghost use lib.ListN.{drop};
 ghost use Rattle.machine.specs.Session.{holds, recorded};
 ghost use Rattle.places.specs.Numbered.{replaced, indexOf};
-ghost use Rattle.places.specs.Places.{netsOf, placeAt, reversedIn};
+ghost use Rattle.places.specs.Places.{netsOf, placeAt, holding, reversedIn};
 ghost use Rattle.places.specs.Nets.{samePair};
 ghost use Rattle.places.specs.Pile.{noSlot, topOf, lifted, laid};
 
@@ -94,6 +94,17 @@ pub fn is_recorded(nets: [Place; 64], net: Net) -> bool
     }
 }
 
+// The place that holds a net's terminals.
+pub fn holding(ends: Pair) -> Place
+    ensures { λ r. ⌜ r ≡ holding ends ⌝ }
+{
+    let first = ends.first;
+    let second = ends.second;
+    Place {
+        held: Held::Ends(Pair { first, second }),
+    }
+}
+
 // The places once a change is reversed: an added net leaves, a withdrawn net returns with its terminals.
 pub fn reversed(nets: [Place; 64], change: Change) -> [Place; 64]
     ensures { λ r. ⌜ r ≡ reversedIn change nets ⌝ }
@@ -108,13 +119,7 @@ pub fn reversed(nets: [Place; 64], change: Change) -> [Place; 64]
         ),
         Change::Withdrawn(net) => {
             let ends = net.ends;
-            stored(
-                nets,
-                net.number,
-                Place {
-                    held: Held::Ends(ends),
-                },
-            )
+            stored(nets, net.number, holding(ends))
         }
     }
 }
@@ -154,12 +159,14 @@ impl Pile {
         if depth < 64 {
             let mut next = changes;
             next[wide(depth)] = Slot { change };
+            let more = depth + 1;
             return Pile {
-                depth: depth + 1,
+                depth: more,
                 changes: next,
             };
         }
-        let mut next = moved_down(changes);
+        let down = moved_down(changes);
+        let mut next = down;
         next[63] = Slot { change };
         Pile {
             depth: 64,
@@ -189,8 +196,9 @@ impl Pile {
         let depth = self.depth;
         let changes = self.changes;
         if 0 < depth {
+            let less = depth - 1;
             Pile {
-                depth: depth - 1,
+                depth: less,
                 changes,
             }
         } else {

@@ -12,7 +12,6 @@ use Rattle.machine.specs.Refusal.{Refusal, line, firstRefusal}
 use Rattle.machine.specs.Session.{holds}
 use Rattle.machine.specs.Machine.{Answer, accepted, refused}
 use Rattle.machine.specs.Add.{goodNumber, full, addLines, addRefused, isNone, accepts}
-use Rattle.session.specs.declared.AddAnswer.{AddAnswer}
 use Rattle.session.specs.Answers.{addAnswer, isAccepted}
 use Rattle.session.specs.Value.{firstOf, checkOf}
 

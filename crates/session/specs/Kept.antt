@@ -1,7 +1,7 @@
 -- A call that hands back the value of its definition keeps its promise.
 -- Assumes nothing.
-use mathlib.Core.Path.{_≡_, refl, ap, sym, _∙_}
-use mathlib.Core.Bool.{Bool, true, false, cond}
+use mathlib.Core.Path.{_≡_, refl}
+use mathlib.Core.Bool.{true}
 use mathlib.Core.Logic.{inl, inr}
 use Prim.Native.Nat.{ℕ}
 use lib.Dec.{eqb}
@@ -10,8 +10,8 @@ use Rattle.board.specs.View.{boardOf}
 use Rattle.net.specs.declared.Net.{Net}
 use Rattle.net.specs.declared.Held.{Held}
 use Rattle.net.specs.declared.Held.the-variants.{Nothing, Ends}
-use Rattle.machine.specs.Machine.{Answer, accepted, add, withdraw, takeBack}
-use Rattle.machine.specs.Sound.{Sound, sound?, call}
+use Rattle.machine.specs.Machine.{accepted, add, withdraw, takeBack}
+use Rattle.machine.specs.Sound.{sound?, call}
 use Rattle.soundness.specs.Exact.{sound-exact}
 use Rattle.places.specs.Places.{netsOf, placeAt}
 use Rattle.session.specs.declared.Session.{Session}

@@ -2,13 +2,12 @@
 -- Assumes nothing.
 use mathlib.Core.Path.{_≡_, refl, ap, sym, _∙_}
 use mathlib.Core.Bool.{Bool, true, false, _&&_}
-use mathlib.Core.List.{List, [], _∷_}
+use mathlib.Core.List.{List, []}
 use Prim.Native.Nat.{ℕ, zero, suc, _+_, _-_, _≤_, _<_}
 use native.Mathlib.Omega.{arith}
-use native.Mathlib.Numerals.{add-one}
-use lib.ListN.{length, getD, set, drop, replicate, length-set, getD-replicate, length-replicate}
+use lib.ListN.{length, getD, set, drop, replicate}
 use lib.Seq.{drop-cons, drop-length, set-getD, getD-set-other}
-use Rattle.count.specs.Truth.{bool, and-assoc}
+use Rattle.count.specs.Truth.{and-assoc}
 use Rattle.board.specs.Board.{Board}
 use Rattle.net.specs.View.{nothing}
 use Rattle.net.specs.declared.Pair.{Pair}
@@ -19,7 +18,7 @@ use Rattle.net.specs.declared.Place.{Place}
 use Rattle.machine.specs.Session.{holds, insert}
 use Rattle.machine.specs.Add.{accepts}
 use Rattle.machine.specs.Sound.{addable?}
-use Rattle.places.specs.Numbered.{entry, replaced}
+use Rattle.places.specs.Numbered.{replaced}
 use Rattle.places.specs.Places.{net, holding, heldNet, netsFrom, netsOf, placeAt}
 use Rattle.places.specs.Nets.{isHeld, holds-of, insert-of}
 use Rattle.session.specs.Reverse.{and-none}

@@ -1,19 +1,16 @@
 -- The sessions to start from: bare on their boards, and fresh where the board is convex.
 -- Assumes nothing.
-use mathlib.Core.Path.{_≡_, refl, sym, ap, _∙_}
+use mathlib.Core.Path.{_≡_, refl, _∙_}
 use mathlib.Core.Bool.{true}
-use mathlib.Core.List.{[], _∷_}
-use lib.ListN.{replicate}
 use Rattle.board.specs.Board.{Board}
 use Rattle.board.specs.View.{boardOf}
 use Rattle.board.specs.declared.Board as code-board
 use Rattle.convex.specs.Test.{isConvex, inLimits, rowsFit, peels, contains?}
 use Rattle.convex.specs.Exact.{is-convex}
-use Rattle.net.specs.View.{nothing}
 use Rattle.machine.specs.Session as machine
 use Rattle.machine.specs.Sound.{Fresh, bare, blank}
 use Rattle.soundness.specs.Stays.{fresh-bare}
-use Rattle.places.specs.Pile.{noSlot, pileOf, changesOf}
+use Rattle.places.specs.Pile.{pileOf, changesOf}
 use Rattle.session.specs.declared.Session.{Session}
 use Rattle.session.specs.View.{sessionOf}
 use Rattle.session.specs.Value.{freshOf, blankBoard}

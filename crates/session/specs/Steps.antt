@@ -1,8 +1,7 @@
 -- On a sound session each call hands back what the list machine's step gives.
 -- Assumes nothing.
-use mathlib.Core.Path.{_≡_, refl, ap, sym, _∙_}
-use mathlib.Core.Bool.{Bool, true, false, cond}
-use mathlib.Core.List.{List, [], _∷_}
+use mathlib.Core.Path.{_≡_, refl, _∙_}
+use mathlib.Core.Bool.{true, cond}
 use mathlib.Core.Logic.{inl, inr}
 use mathlib.Core.Option.{Option, none, some}
 use Prim.Native.Nat.{ℕ, _≤_, _<_}
@@ -12,27 +11,24 @@ use lib.ListN.{length}
 use borrow.Author.Tests.{eqb-true, eqb-false}
 use Rattle.count.specs.Truth.{bool, and-true}
 use Rattle.board.specs.View.{boardOf}
-use Rattle.net.specs.View.{nothing}
 use Rattle.net.specs.declared.Net.{Net}
 use Rattle.net.specs.declared.Change.the-variants.{Added, Withdrawn}
 use Rattle.net.specs.declared.Held.{Held}
 use Rattle.net.specs.declared.Held.the-variants.{Nothing, Ends}
 use Rattle.machine.specs.Refusal.{Refusal}
 use Rattle.machine.specs.Session as machine
-use Rattle.machine.specs.Session.{netOf}
 use Rattle.machine.specs.Add.{addRefused, isNone, accepts}
-use Rattle.machine.specs.Machine.{add, withdraw, takeBack, addStep, withdrawStep, takeBackStep, step, added, withdrawn, takenBack, reversed}
+use Rattle.machine.specs.Machine.{add, withdraw, takeBack, addStep, withdrawStep, step, added, withdrawn, takenBack, reversed}
 use Rattle.machine.specs.Sound.{liftable?, lifts?, Sound}
 use Rattle.places.specs.Numbered.{replaced}
-use Rattle.places.specs.Places.{net, holding, netsOf, placeAt, reversedIn}
+use Rattle.places.specs.Places.{net, holding, netsOf, placeAt}
 use Rattle.places.specs.Nets.{heldAs, net-of, remove-of}
 use Rattle.places.specs.Pile.{pileOf, topOf, lifted}
 use Rattle.places.specs.Changes.{laid-pile, pile-top, pile-empty, length-pile}
 use Rattle.session.specs.declared.Session.{Session}
-use Rattle.session.specs.declared.AfterWithdraw.{AfterWithdraw}
-use Rattle.session.specs.Answers.{addAnswer, isAccepted, withdrawAnswer, takeBackAnswer}
+use Rattle.session.specs.Answers.{addAnswer, withdrawAnswer, takeBackAnswer}
 use Rattle.session.specs.View.{sessionOf}
-use Rattle.session.specs.Value.{checkOf, changed, addSound, withdrawHeld, withdrawSound, back, takeBackSound}
+use Rattle.session.specs.Value.{changed, addSound, withdrawHeld, withdrawSound, takeBackSound}
 use Rattle.session.specs.Check.{answered, check-answer, check-accepts}
 use Rattle.session.specs.Reverse.{insert-accepted, reversed-of}
 

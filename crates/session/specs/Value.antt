@@ -1,7 +1,7 @@
 -- Definitions only: what each call hands back, as a value of the code. Nothing is proved here:
 -- `add-promise`, `withdraw-promise` and `take-back-promise` in Kept say that it is what the list machine gives.
 use mathlib.Core.Bool.{Bool, not, cond}
-use mathlib.Core.List.{List, [], _∷_}
+use mathlib.Core.List.{List}
 use Prim.Native.Nat.{ℕ}
 use lib.Dec.{eqb}
 use lib.ListN.{replicate}

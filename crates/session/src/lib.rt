@@ -320,13 +320,7 @@ impl Session {
             };
         }
         let ends = net.ends;
-        let next = places::stored(
-            nets,
-            net.number,
-            Place {
-                held: Held::Ends(ends),
-            },
-        );
+        let next = places::stored(nets, net.number, places::holding(ends));
         AfterAdd {
             answer,
             session: self.changed(next, Change::Added(net)),
@@ -372,13 +366,14 @@ impl Session {
         }
         let board = self.board;
         let nets = self.nets;
+        let next = Session {
+            board,
+            nets: places::reversed(nets, pile.top()),
+            pile: pile.lift(),
+        };
         AfterTakeBack {
             answer: TakeBackAnswer::Accepted,
-            session: Session {
-                board,
-                nets: places::reversed(nets, pile.top()),
-                pile: pile.lift(),
-            },
+            session: next,
         }
     }
 

@@ -2,21 +2,20 @@
 -- Putting in a net that add accepts, and taking one out, keep it.
 -- Assumes nothing.
 use mathlib.Core.Path.{_≡_, refl, ap, sym, _∙_}
-use mathlib.Core.Bool.{Bool, true, false, cond, _&&_}
+use mathlib.Core.Bool.{Bool, true, false, cond}
 use mathlib.Core.List.{List, [], _∷_}
-use mathlib.Core.Logic.{inl, inr}
-use mathlib.Core.Option.{Option, none, some}
-use Prim.Native.Nat.{ℕ, suc, _+_, _≤_, _<_}
+use mathlib.Core.Option.{Option, some}
+use Prim.Native.Nat.{ℕ, _+_, _≤_}
 use native.Mathlib.Omega.{arith}
 use lib.Dec.{eqb, ltb}
-use borrow.Author.Tests.{eqb-true, eq-eqb}
-use Rattle.count.specs.Truth.{bool, clash, and-true, one}
+use borrow.Author.Tests.{eqb-true}
+use Rattle.count.specs.Truth.{clash, and-true}
 use Rattle.board.specs.Board.{Board}
 use Rattle.board.specs.Degree.{vertex?, pins}
 use Rattle.board.specs.declared.Vertex.{Vertex}
 use Rattle.net.specs.Terminals.{same, ends, terminals}
 use Rattle.net.specs.declared.Net.{Net}
-use Rattle.machine.specs.Session.{pairs, holds, insert, remove, netOf}
+use Rattle.machine.specs.Session.{pairs, insert, remove, netOf}
 use Rattle.soundness.specs.Accept.{Free}
 use Rattle.soundness.specs.Insert.{same-itself, terminals-insert, terminals-remove, holds-removed, netOf-number}
 use Rattle.soundness.specs.Rising.{From, from-insert, from-remove, insert-remove}

@@ -1,15 +1,14 @@
 -- A net put in and a net taken out: which numbers are held, which nets are recorded, and how many terminals stand at a vertex.
 -- Assumes nothing.
 use mathlib.Core.Path.{_≡_, refl, ap, sym, _∙_}
-use mathlib.Core.Bool.{Bool, true, false, cond, _&&_, _||_}
+use mathlib.Core.Bool.{Bool, true, false, cond, _||_}
 use mathlib.Core.List.{List, [], _∷_}
-use mathlib.Core.Logic.{inl, inr}
-use mathlib.Core.Option.{Option, none, some}
+use mathlib.Core.Option.{Option, some}
 use Prim.Native.Nat.{ℕ, _+_, _≤_}
 use native.Mathlib.Omega.{arith}
 use lib.Dec.{eqb, ltb}
-use borrow.Author.Tests.{eq-eqb, eqb-true, eqb-false}
-use Rattle.count.specs.Truth.{bool, clash, or-left, or-right}
+use borrow.Author.Tests.{eq-eqb, eqb-true}
+use Rattle.count.specs.Truth.{clash, or-left, or-right}
 use Rattle.board.specs.declared.Vertex.{Vertex}
 use Rattle.net.specs.Terminals.{same, ends, terminals}
 use Rattle.net.specs.declared.Net.{Net}

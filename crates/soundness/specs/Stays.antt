@@ -1,10 +1,10 @@
 -- Every call leads from a sound session of the machine to a sound one. A bare convex board is a sound session.
 -- Assumes nothing.
-use mathlib.Core.Path.{_≡_, refl, ap, sym, _∙_}
-use mathlib.Core.Bool.{Bool, true, false, cond, _&&_}
+use mathlib.Core.Path.{_≡_, refl, ap}
+use mathlib.Core.Bool.{true, _&&_}
 use mathlib.Core.List.{List, [], _∷_}
 use mathlib.Core.Option.{Option, none, some}
-use Prim.Native.Nat.{ℕ, zero, suc, min, _≤_}
+use Prim.Native.Nat.{ℕ, zero, suc, _≤_}
 use native.Mathlib.Omega.{arith}
 use lib.ListN.{length, take, length-take}
 use Rattle.count.specs.Truth.{and-true, and-yes}
@@ -13,12 +13,12 @@ use Rattle.board.specs.Path.{Convex}
 use Rattle.net.specs.declared.Net.{Net}
 use Rattle.net.specs.declared.Change.{Change}
 use Rattle.net.specs.declared.Change.the-variants.{Added, Withdrawn}
-use Rattle.machine.specs.Session.{Session, insert, remove, netOf, recorded}
-use Rattle.machine.specs.Add.{isNone, addRefused, accepts}
+use Rattle.machine.specs.Session.{Session, insert, remove, netOf}
+use Rattle.machine.specs.Add.{addRefused, accepts}
 use Rattle.machine.specs.Refusal.{Refusal}
-use Rattle.machine.specs.Machine.{Call, add, withdraw, takeBack, Step, addStep, withdrawStep, takeBackStep, step, lay, pileLimit, added, withdrawn, reversed, takenBack}
+use Rattle.machine.specs.Machine.{Call, add, withdraw, takeBack, addStep, withdrawStep, takeBackStep, step, lay, pileLimit, added, withdrawn, reversed, takenBack}
 use Rattle.machine.specs.Sound.{rising?, addable?, liftable?, lifts?, Sound, Fresh, bare}
-use Rattle.soundness.specs.Accept.{Free, free-of, free-accepted}
+use Rattle.soundness.specs.Accept.{free-of, free-accepted}
 use Rattle.soundness.specs.Insert.{netOf-number, recorded-insert, remove-insert}
 use Rattle.soundness.specs.Rising.{rising-from, from-rising, insert-remove}
 use Rattle.soundness.specs.Fine.{Fine, fine-insert, fine-remove, free-removed}

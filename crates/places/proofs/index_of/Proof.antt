@@ -1,6 +1,6 @@
 -- `index_of` gives the index of a number.
 use native.Mathlib.Omega.{arith}
-use mathlib.Core.Path.{_≡_, refl, sym, ap, _∙_}
+use mathlib.Core.Path.{_≡_, refl, _∙_}
 use Rattle.places.specs.Numbered.{index-of}
 use borrow.Author.Needs.{needs}
 use Rattle.places.proofs.index_of.Statement.{statement}

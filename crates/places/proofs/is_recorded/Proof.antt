@@ -20,7 +20,15 @@ returns : tie.Need-returns
 returns c = rw (recorded-of (c .before .before .before .args .nets) (c .before .before .before .args .net), ← c .before .before .place-of .ensures) (cc)
 
 returns-2 : tie.Need-returns-2
-returns-2 c = rw (recorded-of (c .before .before .before .before .before .args .nets) (c .before .before .before .before .before .args .net), ← c .before .before .before .before .place-of .ensures) (cc)
+returns-2 c =
+    let at2 = c .before .before in
+    let at4 = at2 .before .before in
+    let at5 = at4 .before in
+    rw (
+      recorded-of (at5 .args .nets) (at5 .args .net),
+      ← at4 .place-of .ensures,
+      at2 .held .given .1,
+    ) (c .same-pair .ensures)
 
 pub is-recorded-spec : {M : Type 1} → statement M
 is-recorded-spec =

@@ -3,9 +3,8 @@ use Rattle.places.proofs.moved_down.Statement.{statement}
 use Rattle.places.proofs.moved_down.Tie as tie
 use borrow.Author.Needs.{needs}
 use native.Mathlib.Omega.{arith}
-use Prim.Native.Nat.{_+_, _*_, _-_, _≤_}
+use Prim.Native.Nat.{_-_, _≤_}
 use mathlib.Core.Path.{_≡_}
-use lib.ListN.{length, drop}
 use Rattle.places.specs.Pile.{noSlot}
 use Rattle.places.specs.Shift.{movedTo, moved-none, moved-step, moved-all}
 

@@ -16,10 +16,15 @@ array-copy-out-result : tie.Need-array-copy-out-result
 array-copy-out-result c = search needs
 
 returns : tie.Need-returns
-returns c = entry-in (c .before .before .before .args .t1) (c .before .before .before .args .number) (c .before .before .index-of .result) nothing (c .before .before .index-of .ensures) (omega arith)
+returns c =
+    let at2 = c .before .before in
+    let at3 = at2 .before in
+    entry-in (at3 .args .t1) (at3 .args .number) (at2 .index-of .result) nothing (at2 .index-of .ensures) (omega arith)
 
 returns-2 : tie.Need-returns-2
-returns-2 c = entry-out (c .before .before .args .t1) (c .before .before .args .number) (c .before .index-of .result) nothing (c .before .index-of .ensures) (omega arith) (search needs)
+returns-2 c =
+    let at2 = c .before .before in
+    entry-out (at2 .args .t1) (at2 .args .number) (c .before .index-of .result) nothing (c .before .index-of .ensures) (omega arith) (search needs)
 
 pub place-of-spec : {M : Type 1} → statement M
 place-of-spec =

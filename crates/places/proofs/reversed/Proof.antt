@@ -13,6 +13,9 @@ stored-requires c κs = search needs
 enum-known-change-2 : tie.Need-enum-known-change-2
 enum-known-change-2 c = search needs
 
+holding-requires : tie.Need-holding-requires
+holding-requires c κs = search needs
+
 stored-requires-2 : tie.Need-stored-requires-2
 stored-requires-2 c κs = search needs
 
@@ -22,7 +25,7 @@ returns c = rw (c .before .before .change .given .1) (c .stored .ensures)
 
 returns-2 : tie.Need-returns-2
 unfolding reversedIn
-returns-2 c = rw (c .before .before .before .change2 .given .1) (c .stored2 .ensures)
+returns-2 c = rw (c .before .before .before .before .change2 .given .1, ← c .before .holding .ensures) (c .stored2 .ensures)
 
 pub reversed-spec : {M : Type 1} → statement M
 reversed-spec =
@@ -31,6 +34,7 @@ reversed-spec =
     enum-known-change
     stored-requires
     enum-known-change-2
+    holding-requires
     stored-requires-2
     returns
     returns-2)

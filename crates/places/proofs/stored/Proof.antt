@@ -15,10 +15,15 @@ array-set-from-next : tie.Need-array-set-from-next
 array-set-from-next c = search needs
 
 returns : tie.Need-returns
-returns c = replaced-in (c .before .before .args .nets) (c .before .before .args .number) (c .before .index-of .result) (c .before .before .args .place) (c .before .index-of .ensures) (omega arith)
+returns c =
+    let at2 = c .before .before in
+    replaced-in (at2 .args .nets) (at2 .args .number) (c .before .index-of .result) (at2 .args .place) (c .before .index-of .ensures) (omega arith)
 
 returns-2 : tie.Need-returns-2
-returns-2 c = replaced-out (c .before .before .args .nets) (c .before .before .args .number) (c .before .index-of .result) (c .before .before .args .place) (c .before .index-of .ensures) (omega arith) (search needs)
+returns-2 c =
+    let at2 = c .before .before in
+    replaced-out (at2 .args .nets) (at2 .args .number) (c .before .index-of .result) (at2 .args .place) (c .before .index-of .ensures) (omega arith)
+    (search needs)
 
 pub stored-spec : {M : Type 1} → statement M
 stored-spec = tie.close (tie.spec index-of-requires mul-next array-set-from-next returns returns-2)

@@ -1,7 +1,6 @@
 -- `next_line` ends: each turn is one byte further.
 use borrow.Author.Needs.{needs}
-use native.Mathlib.Omega.{arith}
-use Prim.Native.Nat.{_-_, _≤_}
+use Prim.Native.Nat.{_-_}
 use lib.ListN.{length}
 use Rattle.replay.proofs.next_line.Statement.{statement}
 use Rattle.replay.proofs.next_line.Tie as tie

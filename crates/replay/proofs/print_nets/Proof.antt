@@ -1,6 +1,5 @@
 -- `print_nets` ends: each turn is one number higher.
 use borrow.Author.Needs.{needs}
-use native.Mathlib.Omega.{arith}
 use Prim.Native.Nat.{_-_, _≤_}
 use Rattle.replay.proofs.print_nets.Statement.{statement}
 use Rattle.replay.proofs.print_nets.Tie as tie

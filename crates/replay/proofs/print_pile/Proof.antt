@@ -1,6 +1,5 @@
 -- `print_pile` ends: each turn is one change lower.
 use borrow.Author.Needs.{needs}
-use native.Mathlib.Omega.{arith}
 use Rattle.replay.proofs.print_pile.Statement.{statement}
 use Rattle.replay.proofs.print_pile.Tie as tie
 

@@ -1,7 +1,6 @@
 -- `skip` ends: each turn is one byte further.
 use borrow.Author.Needs.{needs}
-use native.Mathlib.Omega.{arith}
-use Prim.Native.Nat.{_-_, _≤_}
+use Prim.Native.Nat.{_-_}
 use lib.ListN.{length}
 use Rattle.replay.proofs.skip.Statement.{statement}
 use Rattle.replay.proofs.skip.Tie as tie

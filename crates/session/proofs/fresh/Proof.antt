@@ -1,5 +1,5 @@
 -- `fresh` gives the session with no nets and an empty pile.
-use mathlib.Core.Path.{_≡_, refl, sym, ap, _∙_}
+use mathlib.Core.Path.{refl}
 use Rattle.session.specs.Value.{freshOf}
 use Rattle.session.specs.Starts.{fresh-promise}
 use borrow.Author.Needs.{needs}

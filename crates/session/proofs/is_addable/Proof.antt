@@ -1,7 +1,7 @@
 -- `is_addable` tells whether the nets could all be added to the bare board.
 use native.Mathlib.Omega.{arith}
 use borrow.Author.Needs.{needs}
-use mathlib.Core.Path.{_≡_, refl, sym, ap, _∙_}
+use mathlib.Core.Path.{_≡_, _∙_}
 use mathlib.Core.Bool.{_&&_}
 use mathlib.Core.List.{[]}
 use Prim.Native.Nat.{ℕ, _-_, _≤_}
@@ -16,7 +16,12 @@ use Rattle.session.proofs.is_addable.Statement.{statement}
 use Rattle.session.proofs.is_addable.Tie as tie
 
 abbrev Inv-loop : tie.InvT-loop
-Inv-loop b nets on₀ ok₀ number₀ on ok number = (1 ≤ number) × (number ≤ 65) × (length on ≡ 64) × ((j : ℕ) → number ≤ j → placeAt on j ≡ nothing) × (ok && restAddable (boardOf b) on nets number ≡ addable? (boardOf b) [] (netsOf nets))
+Inv-loop b nets on₀ ok₀ number₀ on ok number =
+    (1 ≤ number)
+    × (number ≤ 65)
+    × (length on ≡ 64)
+    × ((j : ℕ) → number ≤ j → placeAt on j ≡ nothing)
+    × (ok && restAddable (boardOf b) on nets number ≡ addable? (boardOf b) [] (netsOf nets))
 
 abbrev μ-loop : tie.MeasureT-loop
 μ-loop b nets on₀ ok₀ number₀ on ok number = 65 - number
@@ -40,10 +45,29 @@ loop-less : tie.Need-loop-less Inv-loop μ-loop
 loop-less c = search needs
 
 loop-again : tie.Need-loop-again Inv-loop μ-loop
-loop-again c = let at = c .before .before .before .before .loop in let inv = at .inv in let k : at .number ≤ 64 = search needs in (omega arith, omega arith, rw (c .stored .ensures) (length-replaced (at .on) (at .number) (c .before .before .place-of .result) ∙ inv .2), λ j h. rw (c .stored .ensures) (above-next (at .on) (at .number) j (c .before .before .place-of .result) (omega arith) ∙ inv .3 j (omega arith)), rw (c .stored .ensures, c .before .before .place-of .ensures) (rest-next (boardOf (c .before .before .before .before .before .args .b)) (at .on) (c .before .before .before .before .before .args .nets) (at .number) (at .ok) (c .before .is-held-free .result) _ (inv .2) (search needs) (inv .0) k (inv .3 (at .number) (omega arith)) (cc) (inv .4)))
+loop-again c =
+    let at2 = c .before .before in
+    let at4 = at2 .before .before in
+    let at5 = at4 .before in
+    let at = at4 .loop in
+    let inv = at .inv in
+    let k : at .number ≤ 64 = search needs in (
+      omega arith,
+      omega arith,
+      rw (c .stored .ensures) (length-replaced (at .on) (at .number) (at2 .place-of .result) ∙ inv .2),
+      λ j h.
+          rw (c .stored .ensures)
+          (above-next (at .on) (at .number) j (at2 .place-of .result) (omega arith) ∙ inv .3 j (omega arith)),
+      rw (c .stored .ensures, at2 .place-of .ensures)
+          (rest-next (boardOf (at5 .args .b)) (at .on) (at5 .args .nets) (at .number) (at .ok) (c .before .is-held-free .result) _
+          (inv .2) (search needs) (inv .0) k (inv .3 (at .number) (omega arith)) (cc) (inv .4)),
+    )
 
 returns : tie.Need-returns Inv-loop μ-loop
-returns c = let at = c .before .loop in rest-last (boardOf (c .before .before .args .b)) (at .on) (c .before .before .args .nets) (at .number) (at .ok) _ (search needs) (omega arith) (at .inv .4)
+returns c =
+    let at2 = c .before .before in
+    let at = c .before .loop in
+    rest-last (boardOf (at2 .args .b)) (at .on) (at2 .args .nets) (at .number) (at .ok) _ (search needs) (omega arith) (at .inv .4)
 
 pub is-addable-spec : {M : Type 1} → statement M
 is-addable-spec =

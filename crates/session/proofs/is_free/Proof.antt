@@ -1,5 +1,5 @@
 -- `is_free` tells whether add accepts the net.
-use mathlib.Core.Path.{_≡_, refl, sym, ap, _∙_}
+use mathlib.Core.Path.{ap, _∙_}
 use Rattle.board.specs.View.{boardOf}
 use Rattle.places.specs.Places.{netsOf}
 use Rattle.session.specs.Answers.{isAccepted}
@@ -15,7 +15,10 @@ is-accepted-requires : tie.Need-is-accepted-requires
 is-accepted-requires c κs = search needs
 
 returns : tie.Need-returns
-returns c = c .is-accepted .ensures ∙ ap isAccepted (c .before .check .ensures) ∙ check-accepts (boardOf (c .before .before .args .b)) (netsOf (c .before .before .args .nets)) (c .before .before .args .net)
+returns c =
+    let at2 = c .before .before in
+    c .is-accepted .ensures ∙ ap isAccepted (c .before .check .ensures) ∙ check-accepts (boardOf (at2 .args .b)) (netsOf (at2 .args .nets))
+    (at2 .args .net)
 
 pub is-free-spec : {M : Type 1} → statement M
 is-free-spec = tie.close (tie.spec check-requires is-accepted-requires returns)

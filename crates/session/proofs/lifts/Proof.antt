@@ -1,7 +1,7 @@
 -- `lifts` tells whether the pile can be lifted to the bottom.
 use native.Mathlib.Omega.{arith}
 use borrow.Author.Needs.{needs}
-use mathlib.Core.Path.{_≡_, refl, sym, ap, _∙_}
+use mathlib.Core.Path.{_≡_, refl, _∙_}
 use mathlib.Core.Bool.{_&&_}
 use lib.ListN.{length}
 use Rattle.board.specs.View.{boardOf}
@@ -13,7 +13,9 @@ use Rattle.session.proofs.lifts.Statement.{statement}
 use Rattle.session.proofs.lifts.Tie as tie
 
 abbrev Inv-loop : tie.InvT-loop
-Inv-loop b on₀ rest₀ ok₀ on rest ok = (length on ≡ 64) × (ok && lifts? (boardOf b) (netsOf on) (pileOf rest) ≡ lifts? (boardOf b) (netsOf on₀) (pileOf rest₀))
+Inv-loop b on₀ rest₀ ok₀ on rest ok =
+    (length on ≡ 64)
+    × (ok && lifts? (boardOf b) (netsOf on) (pileOf rest) ≡ lifts? (boardOf b) (netsOf on₀) (pileOf rest₀))
 
 abbrev μ-loop : tie.MeasureT-loop
 μ-loop b on₀ rest₀ ok₀ on rest ok = rest .depth
@@ -37,7 +39,16 @@ loop-less : tie.Need-loop-less Inv-loop μ-loop
 loop-less c = rw (c .lift .ensures) (omega arith)
 
 loop-again : tie.Need-loop-again Inv-loop μ-loop
-loop-again c = let at = c .before .before .before .before .before .before .loop in (rw (c .before .reversed .ensures) (length-reversed (c .before .before .before .top .result) (at .on) ∙ at .inv .0), lifts-turn (boardOf (c .before .before .before .before .before .before .before .args .b)) (at .on) (c .before .reversed .result) (at .rest) (c .lift .result) (at .ok) (c .before .before .is-liftable .result) _ (at .inv .0) (search needs) (cc) (cc) (c .lift .ensures) (at .inv .1))
+loop-again c =
+    let at2 = c .before .before in
+    let at3 = at2 .before in
+    let at6 = at3 .before .before .before in
+    let at7 = at6 .before in
+    let at = at6 .loop in (
+      rw (c .before .reversed .ensures) (length-reversed (at3 .top .result) (at .on) ∙ at .inv .0),
+      lifts-turn (boardOf (at7 .args .b)) (at .on) (c .before .reversed .result) (at .rest) (c .lift .result) (at .ok)
+          (at2 .is-liftable .result) _ (at .inv .0) (search needs) (cc) (cc) (c .lift .ensures) (at .inv .1),
+    )
 
 returns : tie.Need-returns Inv-loop μ-loop
 returns c = let at = c .before .before .loop in lifts-done (boardOf (c .before .before .before .args .b)) (at .on) (at .rest) (at .ok) _ (omega arith) (at .inv .1)

@@ -1,5 +1,9 @@
 -- `lay` gives the pile with one more change; a full one loses its lowest.
-use mathlib.Core.Path.{_≡_, refl, sym, ap, _∙_}
+use mathlib.Core.Path.{_≡_, refl, ap}
+use mathlib.Core.List.{List, [], _∷_, _++_}
+use lib.ListN.{set, drop}
+use Rattle.places.specs.declared.Slot.{Slot}
+use Rattle.places.specs.declared.Pile.{Pile}
 use borrow.Author.Tests.{lt-ltb, le-ltb}
 use Rattle.places.specs.Pile.{laid, slot, noSlot}
 use Rattle.places.specs.Shift.{last-set, length-unmapped-by}
@@ -16,8 +20,8 @@ mul-next c = search needs
 array-set-from-next : tie.Need-array-set-from-next
 array-set-from-next c = search needs
 
-add-t13 : tie.Need-add-t13
-add-t13 c = search needs
+add-more : tie.Need-add-more
+add-more c = search needs
 
 returns : tie.Need-returns
 unfolding laid
@@ -31,7 +35,14 @@ array-set-from-next-2 c = search needs
 
 returns-2 : tie.Need-returns-2
 unfolding laid
-returns-2 c = rw (le-ltb _ _ (c .before .if1 .left), c .moved-down .ensures, last-set (c .before .before .before .args .self .changes) 63 (slot (c .before .before .before .args .change)) noSlot (search (needs, length-unmapped-by))) refl
+returns-2 c =
+    let a = c .before .before .before .args in
+    let e : set (c .moved-down .result) 63 (slot (a .change)) ≡ drop 1 (a .self .changes) ++ (slot (a .change) ∷ [])
+    = rw (c .moved-down .ensures) (last-set (a .self .changes) 63 (slot (a .change)) noSlot (search (needs, length-unmapped-by))) in
+    rw (le-ltb _ _ (c .before .if1 .left)) (ap (λ (cs : List Slot). pile cs) e)
+  where
+    pile : List Slot → Pile
+    pile cs = record { depth = 64; changes = cs }
 
 pub lay-spec : {M : Type 1} → statement M
 lay-spec =
@@ -40,7 +51,7 @@ lay-spec =
     wide-requires
     mul-next
     array-set-from-next
-    add-t13
+    add-more
     returns
     moved-down-requires
     array-set-from-next-2

@@ -1,6 +1,6 @@
 -- `top` gives the change on top of the pile.
 use native.Mathlib.Omega.{arith}
-use mathlib.Core.Path.{_≡_, refl, sym, ap, _∙_}
+use mathlib.Core.Path.{ap, _∙_}
 use Rattle.places.specs.Pile.{noSlot}
 use Rattle.places.specs.declared.Slot.{Slot}
 use Rattle.places.specs.Shift.{length-unmapped-by}
@@ -22,10 +22,18 @@ no-slot-requires : tie.Need-no-slot-requires
 no-slot-requires c κs = search needs
 
 returns : tie.Need-returns
-returns c = ap (λ (s : Slot). s .change) (entry-in (c .before .before .before .before .args .self .changes) (c .before .before .before .before .args .self .depth) (c .before .before .index-of .result) noSlot (c .before .before .index-of .ensures) (omega arith))
+returns c =
+    let at2 = c .before .before in
+    let at4 = at2 .before .before in
+    ap (λ (s : Slot). s .change)
+    (entry-in (at4 .args .self .changes) (at4 .args .self .depth) (at2 .index-of .result) noSlot (at2 .index-of .ensures) (omega arith))
 
 returns-2 : tie.Need-returns-2
-returns-2 c = ap (λ (s : Slot). s .change) (c .no-slot .ensures ∙ entry-out (c .before .before .before .before .args .self .changes) (c .before .before .before .before .args .self .depth) (c .before .before .index-of .result) noSlot (c .before .before .index-of .ensures) (omega arith) (search (needs, length-unmapped-by)))
+returns-2 c =
+    let at2 = c .before .before in
+    let at4 = at2 .before .before in
+    ap (λ (s : Slot). s .change)
+    (c .no-slot .ensures ∙ entry-out (at4 .args .self .changes) (at4 .args .self .depth) (at2 .index-of .result) noSlot (at2 .index-of .ensures) (omega arith) (search (needs, length-unmapped-by)))
 
 pub top-spec : {M : Type 1} → statement M
 top-spec =

@@ -1,5 +1,5 @@
 -- `add` keeps its promise.
-use mathlib.Core.Path.{_≡_, refl, sym, ap, _∙_}
+use mathlib.Core.Path.{refl, sym, _∙_}
 use borrow.Author.Tests.{not-true, not-false}
 use Rattle.places.specs.Shift.{length-unmapped-by}
 use Rattle.session.specs.Value.{addOf}
@@ -13,14 +13,20 @@ sound-requires c κs = search needs
 
 returns : tie.Need-returns
 unfolding addOf
-returns c = add-promise (c .before .before .args .self) (c .before .before .args .net) _ (record { nets64 = search (needs, length-unmapped-by); pile64 = search (needs, length-unmapped-by) }) (rw (sym (c .before .sound .ensures .same) ∙ not-true (c .before .sound .result) (c .if1 .taken)) refl)
+returns c =
+    add-promise (c .before .before .args .self) (c .before .before .args .net) _
+    (record { nets64 = search (needs, length-unmapped-by); pile64 = search (needs, length-unmapped-by) })
+    (rw (sym (c .before .sound .ensures .same) ∙ not-true (c .before .sound .result) (c .if1 .taken)) refl)
 
 add-sound-requires : tie.Need-add-sound-requires
 add-sound-requires c κs = search needs
 
 returns-2 : tie.Need-returns-2
 unfolding addOf
-returns-2 c = add-promise (c .before .before .before .args .self) (c .before .before .before .args .net) _ (record { nets64 = search (needs, length-unmapped-by); pile64 = search (needs, length-unmapped-by) }) (rw (sym (c .before .before .sound .ensures .same) ∙ not-false (c .before .before .sound .result) (c .before .if1 .left)) (c .add-sound .ensures))
+returns-2 c =
+    add-promise (c .before .before .before .args .self) (c .before .before .before .args .net) _
+    (record { nets64 = search (needs, length-unmapped-by); pile64 = search (needs, length-unmapped-by) })
+    (rw (sym (c .before .before .sound .ensures .same) ∙ not-false (c .before .before .sound .result) (c .before .if1 .left)) (c .add-sound .ensures))
 
 pub add-spec : {M : Type 1} → statement M
 add-spec = tie.close (tie.spec sound-requires returns add-sound-requires returns-2)

@@ -1,5 +1,5 @@
 -- `changed` gives the session with other places and one more change.
-use mathlib.Core.Path.{_≡_, refl, sym, ap, _∙_}
+use mathlib.Core.Path.{refl}
 use borrow.Author.Needs.{needs}
 use Rattle.session.proofs.Session.changed.Statement.{statement}
 use Rattle.session.proofs.Session.changed.Tie as tie

@@ -1,5 +1,5 @@
 -- `sound` decides whether the session is sound.
-use mathlib.Core.Path.{_≡_, refl, sym, ap, _∙_}
+use mathlib.Core.Path.{refl}
 use Rattle.count.specs.Truth.{decides}
 use Rattle.machine.specs.Sound.{sound?}
 use Rattle.soundness.specs.Exact.{sound-exact}
@@ -21,7 +21,13 @@ lifts-requires c κs = search needs
 
 returns : tie.Need-returns
 unfolding sound?
-returns c = let s = c .before .before .before .before .before .before .before .args .self in decides _ (sound? (sessionOf s)) (sound-exact (sessionOf s)) (rw (rising-of (s .nets), length-pile (s .pile), ← c .before .before .before .is-convex .ensures .same, ← c .before .before .is-addable .ensures, ← c .lifts .ensures) refl)
+returns c =
+    let at2 = c .before .before in
+    let at3 = at2 .before in
+    let at7 = at3 .before .before .before .before in
+    let s = at7 .args .self in
+    decides _ (sound? (sessionOf s)) (sound-exact (sessionOf s))
+    (rw (rising-of (s .nets), length-pile (s .pile), ← at3 .is-convex .ensures .same, ← at2 .is-addable .ensures, ← c .lifts .ensures) refl)
 
 pub sound-spec : {M : Type 1} → statement M
 sound-spec = tie.close (tie.spec is-convex-requires is-addable-requires lifts-requires returns)

@@ -1,6 +1,6 @@
 -- `withdraw_sound` hands back what withdraw does on a sound session.
 use Rattle.net.specs.declared.Held.the-variants.{Nothing}
-use mathlib.Core.Path.{_≡_, refl, sym, ap, _∙_}
+use mathlib.Core.Path.{_≡_, refl}
 use Rattle.session.specs.Value.{withdrawSound}
 use borrow.Author.Needs.{needs}
 use Rattle.session.proofs.Session.withdraw_sound.Statement.{statement}
@@ -27,7 +27,13 @@ returns c = let e : c .before .before .place-of .result .held ≡ Nothing = cc i
 
 returns-2 : tie.Need-returns-2
 unfolding withdrawSound
-returns-2 c = rw (← c .before .before .before .before .before .place-of .ensures, c .before .before .before .held .given .1, c .changed .ensures, c .before .stored .ensures) refl
+returns-2 c =
+    rw (
+      ← c .before .before .before .before .before .place-of .ensures,
+      c .before .before .before .held .given .1,
+      c .changed .ensures,
+      c .before .stored .ensures,
+    ) refl
 
 pub withdraw-sound-spec : {M : Type 1} → statement M
 withdraw-sound-spec =
