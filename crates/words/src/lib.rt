@@ -9,6 +9,8 @@ ghost use Rattle.words.specs.RoutingWord.{
   runWord,
   routingEndWord,
   direction,
+  pathIn,
+  runIn,
   asPath,
   asRun,
   asRoutingEnd,
@@ -208,13 +210,20 @@ pub fn pack_routing_end(paths: u8) -> u32
     3758096384 + wide(paths)
 }
 
+// The fields of a path word.
+pub fn path_in(w: u32) -> Path
+    ensures { λ r. ⌜ r ≡ pathIn w ⌝ }
+{
+    Path {
+        number: (w / 1048576 % 256) as u8,
+        runs: (w / 1 % 2048) as u16,
+    }
+}
+
 fn as_path(w: u32) -> RoutingWord
     ensures { λ r. ⌜ r ≡ asPath w ⌝ }
 {
-    let path = Path {
-        number: (w / 1048576 % 256) as u8,
-        runs: (w / 1 % 2048) as u16,
-    };
+    let path = path_in(w);
     if pack_path(path) == w {
         RoutingWord::Path(path)
     } else {
@@ -222,13 +231,21 @@ fn as_path(w: u32) -> RoutingWord
     }
 }
 
+// The fields of a run word.
+pub fn run_in(w: u32) -> Run
+    ensures { λ r. ⌜ r ≡ runIn w ⌝ }
+    ensures { λ r. ⌜ r .length ≤ 31 ⌝ }
+{
+    Run {
+        direction: direction_of(w / 67108864 % 4),
+        length: (w / 1 % 32) as u8,
+    }
+}
+
 fn as_run(w: u32) -> RoutingWord
     ensures { λ r. ⌜ r ≡ asRun w ⌝ }
 {
-    let run = Run {
-        direction: direction_of(w / 67108864 % 4),
-        length: (w / 1 % 32) as u8,
-    };
+    let run = run_in(w);
     if pack_run(run) == w {
         RoutingWord::Run(run)
     } else {

@@ -1,33 +1,36 @@
+-- `as_path` says what a path word says: the packed word of its fields is compared with the word.
 use Rattle.words.specs.RoutingWord.{pathWord, pathIn, asPath}
 use borrow.Author.Tests.{eq-eqb, ne-eqb}
-use mathlib.Core.Path.{refl, sym, _∙_}
+use mathlib.Core.Path.{refl, ap, sym, _∙_}
 use borrow.Author.Needs.{needs}
 use Rattle.words.proofs.as_path.Statement.{statement}
 use Rattle.words.proofs.as_path.Tie as tie
 use Rattle.words.proofs.as_path.Reads as reads
 use Rattle.words.proofs.as_path.Lts as lts
 use Rattle.words.proofs.pack_path.Reads as pack-path-reads
+use Rattle.words.proofs.path_in.Reads as path-in-reads
 
-cast-t5 : tie.Need-cast-t5
-cast-t5 c = search needs
+-- src/lib.rt:214:9
+path-in-requires : tie.Need-path-in-requires
+path-in-requires c κs = search needs
 
-cast-t8 : tie.Need-cast-t8
-cast-t8 c = search needs
-
+-- src/lib.rt:215:8
 pack-path-requires : tie.Need-pack-path-requires
 pack-path-requires c κs = search needs
 
+-- src/lib.rt:211:1
 returns : tie.Need-returns
 unfolding asPath
 returns c =
-    let w = c .before .before .args .w in
-    rw (eq-eqb (pathWord (pathIn w)) w (sym (c .before .pack-path .ensures) ∙ c .if1 .taken)) refl
+    let w = c .before .before .before .args .w in
+    rw (c .before .before .path-in .ensures, eq-eqb (pathWord (pathIn w)) w (ap pathWord (sym (c .before .before .path-in .ensures)) ∙ (sym (c .before .pack-path .ensures) ∙ c .if1 .taken))) refl
 
+-- src/lib.rt:211:1
 returns-2 : tie.Need-returns-2
 unfolding asPath
 returns-2 c =
-    let w = c .before .before .args .w in
-    rw (ne-eqb (pathWord (pathIn w)) w (λ e. c .if1 .left (c .before .pack-path .ensures ∙ e))) refl
+    let w = c .before .before .before .args .w in
+    rw (ne-eqb (pathWord (pathIn w)) w (λ e. c .if1 .left (c .before .pack-path .ensures ∙ (ap pathWord (c .before .before .path-in .ensures) ∙ e)))) refl
 
 pub as-path-spec : {M : Type 1} → statement M
-as-path-spec = tie.close (tie.spec cast-t5 cast-t8 pack-path-requires returns returns-2)
+as-path-spec = tie.close (tie.spec path-in-requires pack-path-requires returns returns-2)

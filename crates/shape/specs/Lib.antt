@@ -1,0 +1,4 @@
+pub mod Refused
+pub mod States
+pub mod Moves
+pub mod Whole
