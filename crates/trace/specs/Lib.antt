@@ -1,0 +1,5 @@
+pub mod Hops
+pub mod Traces
+pub mod Writes
+pub mod Writing
+pub mod Walks
