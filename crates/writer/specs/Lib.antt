@@ -1,0 +1,4 @@
+pub mod Written
+pub mod Steps
+pub mod Blocks
+pub mod Runs
