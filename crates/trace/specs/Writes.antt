@@ -13,7 +13,8 @@ pub record Room (w : List ℕ) (at : ℕ) (out : List ℕ) : Type 0 where
   pub size : length out ≡ 2048
   pub fits : at + length w ≤ 2048
 
--- where there is room, w is written at `at`, and the answer is its end
+-- the buffer keeps its length; where there is room, w is written at `at`, and the answer is its end
 pub record Writes (w : List ℕ) (at : ℕ) (out : List ℕ) (r : ℕ) (out' : List ℕ) : Type 0 where
+  pub kept : length out' ≡ length out
   pub end : Room w at out → r ≡ at + length w
   pub text : Room w at out → out' ≡ wrote out at w

@@ -1,17 +1,19 @@
 -- Texts written one after the other: what two writers leave is what one writer of both texts leaves.
 -- Assumes nothing.
 use Prim.Native.Nat.{ℕ, _+_, _<_, _≤_}
-use mathlib.Core.Path.{_≡_, sym, _∙_}
+use mathlib.Core.Path.{_≡_, refl, sym, _∙_}
 use mathlib.Core.List.{List, [], _∷_, _++_, append-assoc}
 use native.Mathlib.Omega.{arith}
 use native.Mathlib.Numerals.{add-one}
-use lib.ListN.{set, take, drop, length, length-append, length-drop, take-append-drop}
+use lib.ListN.{set, take, drop, length, length-append, length-set, take-append-drop}
 use lib.Seq.{take-suc-set, drop-set-lt, length-take-le, take-at, drop-at, drop-drop}
 use Rattle.trace.specs.Writes.{wrote, Room, Writes}
 
 pub wrote-none : (out : List ℕ) (at : ℕ) → wrote out at [] ≡ out
 unfolding wrote
-wrote-none out at = let e : at + 0 ≡ at = omega arith in rw e (take-append-drop at out)
+wrote-none out at =
+    let e : at + 0 ≡ at = omega arith in
+    rw e (take-append-drop at out)
 
 pub wrote-front : (out : List ℕ) (at x : ℕ) (w : List ℕ) → at < length out → wrote (set out at x) (at + 1) w ≡ wrote out at (x ∷ w)
 unfolding wrote
@@ -31,36 +33,30 @@ wrote-more out at v w h =
     rw (← drop-drop (length w) (at + length v) (take at out ++ (v ++ drop (at + length v) out)), b, drop-drop, length-append) (let e : at + length v + length w ≡ at + (length v + length w) = omega arith in rw e) in
     rw (a, c) (simp append-assoc)
 
-pub length-wrote : (out : List ℕ) (at : ℕ) (w : List ℕ) → at + length w ≤ length out → length (wrote out at w) ≡ length out
-unfolding wrote
-length-wrote out at w h = rw (length-append, length-append, length-drop, length-take-le at out (omega arith)) (omega arith)
-
 pub set-wrote : (out : List ℕ) (at x : ℕ) → at < length out → set out at x ≡ wrote out at (x ∷ [])
 set-wrote out at x h = sym (wrote-none (set out at x) (at + 1)) ∙ wrote-front out at x [] h
 
 pub writes-none : (at : ℕ) (out : List ℕ) → Writes [] at out at out
-writes-none at out = record { end = λ h. omega arith; text = λ h. sym (wrote-none out at) }
+writes-none at out = record { kept = refl; end = λ h. omega arith; text = λ h. sym (wrote-none out at) }
 
 pub writes-set : (at x : ℕ) (out : List ℕ) → at < 2048 → Writes (x ∷ []) at out (at + 1) (set out at x)
-writes-set at x out h = record { end = λ k. omega arith; text = λ k. set-wrote out at x (omega arith) }
+writes-set at x out h = record { kept = length-set out at x; end = λ k. omega arith; text = λ k. set-wrote out at x (omega arith) }
 
-pub writes-full : (at x r : ℕ) (out out' : List ℕ) → 2048 ≤ at → Writes (x ∷ []) at out r out'
-writes-full at x r out out' h = record { end = λ k. absurd (omega arith); text = λ k. absurd (omega arith) }
+pub writes-full : (at x : ℕ) (out : List ℕ) → 2048 ≤ at → Writes (x ∷ []) at out at out
+writes-full at x out h = record { kept = refl; end = λ k. absurd (omega arith); text = λ k. absurd (omega arith) }
 
 -- one text after the other
 pub writes-join : {at r s : ℕ} {v w out out1 out2 : List ℕ} → Writes v at out r out1 → Writes w r out1 s out2 → Writes (v ++ w) at out s out2
 writes-join {at} {r} {s} {v} {w} {out} {out1} {out2} a b = record {
+  kept = b .kept ∙ a .kept;
   end = λ h. omega (arith, b .end (second h), a .end (first h), length-append v w);
-  text = λ h. b .text (second h) ∙ rw (a .end (first h), a .text (first h)) (wrote-more out at v w (omega (arith, length-append v w, h .fits)));
+  text = λ h.
+      b .text (second h)
+      ∙ rw (a .end (first h), a .text (first h)) (wrote-more out at v w (omega (arith, length-append v w, h .fits)));
 }
   where
     first : Room (v ++ w) at out → Room v at out
     first h = record { size = h .size; fits = omega (arith, length-append v w, h .fits) }
 
     second : Room (v ++ w) at out → Room w r out1
-    second h =
-        let g = first h in
-        record {
-          size = rw (a .text g) (length-wrote out at v (omega (arith, g .fits)) ∙ h .size);
-          fits = omega (arith, length-append v w, h .fits, a .end g);
-        }
+    second h = record { size = a .kept ∙ h .size; fits = omega (arith, length-append v w, h .fits, a .end (first h)) }

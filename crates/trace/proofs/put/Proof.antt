@@ -16,7 +16,7 @@ returns : tie.Need-returns
 returns c = writes-set (c .before .args .at) (c .before .args .d) (c .before .args .out .now) (c .if1 .taken)
 
 returns-2 : tie.Need-returns-2
-returns-2 c = writes-full (c .before .args .at) (c .before .args .d) _ _ _ (c .if1 .left)
+returns-2 c = writes-full (c .before .args .at) (c .before .args .d) (c .before .args .out .now) (c .if1 .left)
 
 pub put-spec : {M : Type 1} → statement M
 put-spec = tie.close (tie.spec element-write-out add-result returns returns-2)
