@@ -5,7 +5,8 @@ use mathlib.Core.List.{List, [], _∷_, _++_}
 use Prim.Native.Nat.{ℕ, zero, suc, _+_, _/_, _%_}
 use lib.Dec.{ltb, eqb}
 use lib.ListN.{getD}
-use Rattle.trace.specs.Hops.{hopD, lineD, columnD, oppD}
+use Rattle.notes.specs.Arrays.{hopD}
+use Rattle.trace.specs.Hops.{lineD, columnD, oppD}
 
 -- the moves of pair k's end that stands at line l and column c
 unfoldable pub foreD : (side vert : List ℕ) (k fuel l c : ℕ) → List ℕ

@@ -7,7 +7,8 @@ use mathlib.Core.Logic.{_⊎_, inl, inr}
 use native.Mathlib.Omega.{arith}
 use lib.ListN.{getD}
 use borrow.Author.Tests.{eq-eqb, ne-eqb, lt-ltb, le-ltb}
-use Rattle.trace.specs.Hops.{hopD, lineD, columnD, oppD}
+use Rattle.notes.specs.Arrays.{hopD}
+use Rattle.trace.specs.Hops.{lineD, columnD, oppD}
 use Rattle.trace.specs.Traces.{foreD, backD, pathD}
 use Rattle.trace.specs.Writes.{Writes}
 use Rattle.trace.specs.Writing.{writes-none, writes-join}

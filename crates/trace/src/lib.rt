@@ -6,7 +6,8 @@
 ghost use mathlib.Core.Path.{_≡_};
 ghost use mathlib.Core.List.{[], _∷_};
 ghost use Prim.Native.Nat.{_≤_, _<_};
-ghost use Rattle.trace.specs.Hops.{hopAt, hopD, lineD, columnD, oppD, Hops};
+ghost use Rattle.notes.specs.Arrays.{hopAt, hopD};
+ghost use Rattle.trace.specs.Hops.{lineD, columnD, oppD, Hops};
 ghost use Rattle.trace.specs.Traces.{foreD, backD, pathD};
 ghost use Rattle.trace.specs.Writes.{Writes};
 

@@ -1,7 +1,7 @@
 -- `hop` is `hopD`: the notes of the vertex where line and column meet, and none past the frame.
 use borrow.Author.Tests.{lt-ltb, le-ltb}
 use mathlib.Core.Path.{refl}
-use Rattle.trace.specs.Hops.{hopD}
+use Rattle.notes.specs.Arrays.{hopD}
 use borrow.Author.Needs.{needs}
 use Rattle.trace.proofs.hop.Statement.{statement}
 use Rattle.trace.proofs.hop.Tie as tie

@@ -1,6 +1,6 @@
 -- `hop_at` is `hopAt`, case by case.
 use borrow.Author.Tests.{eq-eqb, ne-eqb}
-use Rattle.trace.specs.Hops.{hopAt}
+use Rattle.notes.specs.Arrays.{hopAt}
 use borrow.Author.Needs.{needs}
 use Rattle.trace.proofs.hop_at.Statement.{statement}
 use Rattle.trace.proofs.hop_at.Tie as tie
