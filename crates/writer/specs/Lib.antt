@@ -5,3 +5,4 @@ pub mod Runs
 pub mod Nets
 pub mod Paths
 pub mod Through
+pub mod Routes
