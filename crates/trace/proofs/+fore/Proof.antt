@@ -24,140 +24,9 @@ fore-at t = and 3 fore-kinds.ps (is 3 fore-kinds.ps μ-fore t) fore.Pre
 abbrev fore-below : ℕ → In 3 fore-kinds.ps
 fore-below t = and 3 fore-kinds.ps (falls 3 fore-kinds.ps _<_ μ-fore t) fore.Pre
 
-fore-returns : (t : ℕ) → fore-lts.Need-returns (
-  hop-reads.Asked,
-  hop-reads.Learnt,
-  put-reads.Asked,
-  put-reads.Learnt,
-  line-after-reads.Asked,
-  line-after-reads.Learnt,
-  column-after-reads.Asked,
-  column-after-reads.Learnt,
-  fore-below t,
-  fore.Post,
-) (fore-at t) fore.Post
-fore-returns t c =
-    let a = c .before .args in
-    fore-none (a .side .now) (a .vert .now) (a .k) (a .l) (a .c) 0 (a .at) (a .out .now) (a .fuel) (c .if1 .taken)
-
-fore-hop-requires : (t : ℕ) → fore-lts.Need-hop-requires (
-  hop-reads.Asked,
-  hop-reads.Learnt,
-  put-reads.Asked,
-  put-reads.Learnt,
-  line-after-reads.Asked,
-  line-after-reads.Learnt,
-  column-after-reads.Asked,
-  column-after-reads.Learnt,
-  fore-below t,
-  fore.Post,
-) (fore-at t) fore.Post
-fore-hop-requires t c κs = search needs
-
-fore-returns-2 : (t : ℕ) → fore-lts.Need-returns-2 (
-  hop-reads.Asked,
-  hop-reads.Learnt,
-  put-reads.Asked,
-  put-reads.Learnt,
-  line-after-reads.Asked,
-  line-after-reads.Learnt,
-  column-after-reads.Asked,
-  column-after-reads.Learnt,
-  fore-below t,
-  fore.Post,
-) (fore-at t) fore.Post
-fore-returns-2 t c =
-    let a = c .before .before .before .args in
-    fore-stop (a .side .now) (a .vert .now) (a .k) (a .l) (a .c) (c .before .hop .result) (a .at) (a .out .now) (a .fuel) (c .before .hop .ensures .0) (c .if2 .taken)
-
-fore-put-requires : (t : ℕ) → fore-lts.Need-put-requires (
-  hop-reads.Asked,
-  hop-reads.Learnt,
-  put-reads.Asked,
-  put-reads.Learnt,
-  line-after-reads.Asked,
-  line-after-reads.Learnt,
-  column-after-reads.Asked,
-  column-after-reads.Learnt,
-  fore-below t,
-  fore.Post,
-) (fore-at t) fore.Post
-fore-put-requires t c κs = search needs
-
-fore-sub-fore : (t : ℕ) → fore-lts.Need-sub-fore (
-  hop-reads.Asked,
-  hop-reads.Learnt,
-  put-reads.Asked,
-  put-reads.Learnt,
-  line-after-reads.Asked,
-  line-after-reads.Learnt,
-  column-after-reads.Asked,
-  column-after-reads.Learnt,
-  fore-below t,
-  fore.Post,
-) (fore-at t) fore.Post
-fore-sub-fore t c = omega (arith, c .before .before .before .before .if1 .left)
-
-fore-line-after-requires : (t : ℕ) → fore-lts.Need-line-after-requires (
-  hop-reads.Asked,
-  hop-reads.Learnt,
-  put-reads.Asked,
-  put-reads.Learnt,
-  line-after-reads.Asked,
-  line-after-reads.Learnt,
-  column-after-reads.Asked,
-  column-after-reads.Learnt,
-  fore-below t,
-  fore.Post,
-) (fore-at t) fore.Post
-fore-line-after-requires t c κs = c .before .before .before .hop .ensures .1 .line (c .before .before .if2 .left)
-
-fore-column-after-requires : (t : ℕ) → fore-lts.Need-column-after-requires (
-  hop-reads.Asked,
-  hop-reads.Learnt,
-  put-reads.Asked,
-  put-reads.Learnt,
-  line-after-reads.Asked,
-  line-after-reads.Learnt,
-  column-after-reads.Asked,
-  column-after-reads.Learnt,
-  fore-below t,
-  fore.Post,
-) (fore-at t) fore.Post
-fore-column-after-requires t c κs = c .before .before .before .before .hop .ensures .1 .column (c .before .before .before .if2 .left)
-
-fore-fore-requires : (t : ℕ) → fore-lts.Need-fore-requires (
-  hop-reads.Asked,
-  hop-reads.Learnt,
-  put-reads.Asked,
-  put-reads.Learnt,
-  line-after-reads.Asked,
-  line-after-reads.Learnt,
-  column-after-reads.Asked,
-  column-after-reads.Learnt,
-  fore-below t,
-  fore.Post,
-) (fore-at t) fore.Post
-fore-fore-requires t c κs = (omega (arith, c .before .before .before .before .before .before .before .before .pre .0, c .before .before .before .before .before .before .before .if1 .left), c .before .before .before .before .before .before .before .before .pre .1)
-
-fore-returns-3 : (t : ℕ) → fore-lts.Need-returns-3 (
-  hop-reads.Asked,
-  hop-reads.Learnt,
-  put-reads.Asked,
-  put-reads.Learnt,
-  line-after-reads.Asked,
-  line-after-reads.Learnt,
-  column-after-reads.Asked,
-  column-after-reads.Learnt,
-  fore-below t,
-  fore.Post,
-) (fore-at t) fore.Post
-fore-returns-3 t c =
-    let a = c .before .before .before .before .before .before .before .before .before .args in
-    fore-step (a .side .now) (a .vert .now) (a .k) (a .l) (a .c) (c .before .before .before .before .before .before .before .hop .result) (a .at) (a .out .now) (a .fuel) (c .before .before .before .line-after .result) (c .before .before .column-after .result) (c .before .before .before .before .before .before .before .before .if1 .left) (c .before .before .before .before .before .before .before .hop .ensures .0) (c .before .before .before .before .before .before .if2 .left) (c .before .before .before .line-after .ensures) (c .before .before .column-after .ensures) (c .before .before .before .before .put .ensures) (c .fore .ensures)
-
-pub +fore-spec : {M : Type 1} → statement M
-+fore-spec = close μ-fore λ t. fore-lts.spec (
+-- what is asked and promised of each callee
+abbrev claims : ℕ → fore-lts.Claims
+claims t = (
   hop-reads.Asked,
   hop-reads.Learnt,
   put-reads.Asked,
@@ -169,8 +38,42 @@ pub +fore-spec : {M : Type 1} → statement M
   fore-below t,
   fore.Post,
 )
-    (fore-at t)
-    fore.Post
+
+fore-returns : (t : ℕ) → fore-lts.Need-returns (claims t) (fore-at t) fore.Post
+fore-returns t c =
+    let a = c .before .args in
+    fore-none (a .side .now) (a .vert .now) (a .k) (a .l) (a .c) 0 (a .at) (a .out .now) (a .fuel) (c .if1 .taken)
+
+fore-hop-requires : (t : ℕ) → fore-lts.Need-hop-requires (claims t) (fore-at t) fore.Post
+fore-hop-requires t c κs = search needs
+
+fore-returns-2 : (t : ℕ) → fore-lts.Need-returns-2 (claims t) (fore-at t) fore.Post
+fore-returns-2 t c =
+    let a = c .before .before .before .args in
+    fore-stop (a .side .now) (a .vert .now) (a .k) (a .l) (a .c) (c .before .hop .result) (a .at) (a .out .now) (a .fuel) (c .before .hop .ensures .0) (c .if2 .taken)
+
+fore-put-requires : (t : ℕ) → fore-lts.Need-put-requires (claims t) (fore-at t) fore.Post
+fore-put-requires t c κs = search needs
+
+fore-sub-fore : (t : ℕ) → fore-lts.Need-sub-fore (claims t) (fore-at t) fore.Post
+fore-sub-fore t c = omega (arith, c .before .before .before .before .if1 .left)
+
+fore-line-after-requires : (t : ℕ) → fore-lts.Need-line-after-requires (claims t) (fore-at t) fore.Post
+fore-line-after-requires t c κs = c .before .before .before .hop .ensures .1 .line (c .before .before .if2 .left)
+
+fore-column-after-requires : (t : ℕ) → fore-lts.Need-column-after-requires (claims t) (fore-at t) fore.Post
+fore-column-after-requires t c κs = c .before .before .before .before .hop .ensures .1 .column (c .before .before .before .if2 .left)
+
+fore-fore-requires : (t : ℕ) → fore-lts.Need-fore-requires (claims t) (fore-at t) fore.Post
+fore-fore-requires t c κs = (omega (arith, c .before .before .before .before .before .before .before .before .pre .0, c .before .before .before .before .before .before .before .if1 .left), c .before .before .before .before .before .before .before .before .pre .1)
+
+fore-returns-3 : (t : ℕ) → fore-lts.Need-returns-3 (claims t) (fore-at t) fore.Post
+fore-returns-3 t c =
+    let a = c .before .before .before .before .before .before .before .before .before .args in
+    fore-step (a .side .now) (a .vert .now) (a .k) (a .l) (a .c) (c .before .before .before .before .before .before .before .hop .result) (a .at) (a .out .now) (a .fuel) (c .before .before .before .line-after .result) (c .before .before .column-after .result) (c .before .before .before .before .before .before .before .before .if1 .left) (c .before .before .before .before .before .before .before .hop .ensures .0) (c .before .before .before .before .before .before .if2 .left) (c .before .before .before .line-after .ensures) (c .before .before .column-after .ensures) (c .before .before .before .before .put .ensures) (c .fore .ensures)
+
+pub +fore-spec : {M : Type 1} → statement M
++fore-spec = close μ-fore λ t. fore-lts.spec (claims t) (fore-at t) fore.Post
     (fore-returns t)
     (fore-hop-requires t)
     (fore-returns-2 t)
