@@ -1,21 +1,20 @@
 -- The end: a routing in the theorem's sense, and no path is longer than the frame has unit edges.
 -- Assumes a routing read off notes, under a bound that the shape's unit edges set.
-use mathlib.Core.Path.{_≡_, refl, ap, _∙_}
+use mathlib.Core.Path.{_≡_, refl, ap}
 use mathlib.Core.List.{List, [], _∷_}
 use mathlib.Core.Logic.{inl, inr}
-use Prim.Native.Nat.{ℕ, zero, suc, _+_, _*_, _≤_, _<_}
+use Prim.Native.Nat.{ℕ, zero, suc, _+_, _≤_, _<_}
 use native.Mathlib.Omega.{arith}
 use lib.ListN.{length}
 use Rattle.count.specs.Truth.{one}
-use Rattle.count.specs.Sum.{sum, sum-eq}
-use Rattle.count.specs.Sums.{sum-le, sum-add, sum-get}
+use Rattle.count.specs.Sum.{sum}
+use Rattle.count.specs.Sums.{sum-get}
 use Rattle.board.specs.declared.Vertex.{Vertex}
-use Rattle.corner.specs.Shape.{Shape, size}
-use Rattle.corner.specs.Trails.{Routed as Routing, Link, hor, ver, lo, hi, sameLink, joined, Walk, used, Trails, total}
-use Rattle.corner.specs.TrailLaws.{link-self}
+use Rattle.corner.specs.Shape.{Shape}
+use Rattle.corner.specs.Trails.{Routed as Routing, Link, lo, hi, sameLink, joined, Walk, used, Trails, total}
 use Rattle.notes.specs.Notes.{Move, edge, Goes, uses, Item, Notes, Routed, fwd, bwd}
-use Rattle.notes.specs.Moves.{uses-cons}
 use Rattle.notes.specs.Table.{pairsOf}
+use Rattle.notes.specs.Frame.{InFrame, all-le, all-ones, length-all}
 
 abbrev pub edgesOf : List Move → List Link
 edgesOf [] = []
@@ -42,48 +41,6 @@ pub routing-of : (N : Notes) (B : Link → ℕ) (n : ℕ) (it : ℕ → Item) (S
 routing-of N B n it S R h = let t = trails-of n it (R .ms) (R .goes) in record { trails = t .0; once = λ e. omega (arith, t .1 e, R .bound e, h e) }
 
 -- ── length ──
-abbrev pub InFrame : Link → Type 0
-InFrame (hor l c) = (l < size) × (c < size)
-InFrame (ver l c) = (l < size) × (c < size)
-
-unfoldable both : (Link → ℕ) → ℕ → ℕ → ℕ
-both f l c = f (hor l c) + f (ver l c)
-
-unfoldable all : (Link → ℕ) → ℕ
-all f = sum size (λ l. sum size (λ c. both f l c))
-
-all-add : (f g : Link → ℕ) → all (λ e. f e + g e) ≡ all f + all g
-unfolding all both
-all-add f g = sum-eq size _ _ (λ l h. sum-eq size _ (λ c. (f (hor l c) + f (ver l c)) + (g (hor l c) + g (ver l c))) (λ c k. omega arith) ∙ sum-add size _ _) ∙ sum-add size _ _
-
-all-le : (f g : Link → ℕ) → ((e : Link) → f e ≤ g e) → all f ≤ all g
-unfolding all both
-all-le f g h = sum-le size _ _ (λ l a. sum-le size _ _ (λ c b. omega (arith, h (hor l c), h (ver l c))))
-
-all-get : (f : Link → ℕ) (e : Link) → InFrame e → f e ≤ all f
-unfolding all both
-all-get f (hor l c) i = let a = sum-get size c (λ c. f (hor l c) + f (ver l c)) (i .1) in let b = sum-get size l (λ l. sum size (λ c. f (hor l c) + f (ver l c))) (i .0) in omega arith
-all-get f (ver l c) i = let a = sum-get size c (λ c. f (hor l c) + f (ver l c)) (i .1) in let b = sum-get size l (λ l. sum size (λ c. f (hor l c) + f (ver l c))) (i .0) in omega arith
-
-sum-const : (n k : ℕ) → sum n (λ i. k) ≡ n * k
-unfolding sum
-sum-const zero k = omega arith
-sum-const (suc n) k = omega (arith, sum-const n k)
-
-all-ones : all (λ e. 1) ≡ 2048
-unfolding all both size
-all-ones = sum-eq 32 _ (λ l. 64) (λ l h. sum-const 32 2) ∙ sum-const 32 64
-
-length-all : (ms : List Move) → ((e : Link) → 1 ≤ uses e ms → InFrame e) → length ms ≤ all (λ e. uses e ms)
-length-all [] h = omega arith
-length-all (m ∷ ms) h =
-    let r = length-all ms (λ e l. h e (omega (arith, uses-cons e m ms))) in
-    let i = h (edge m) (omega (arith, uses-cons (edge m) m ms, ap one (link-self (edge m)))) in
-    let a = all-get (λ e. one (sameLink e (edge m))) (edge m) i in
-    let b = all-add (λ e. one (sameLink e (edge m))) (λ e. uses e ms) in
-    let c = all-le (λ e. one (sameLink e (edge m)) + uses e ms) (λ e. uses e (m ∷ ms)) (λ e. omega (arith, uses-cons e m ms)) in
-    omega (arith, ap one (link-self (edge m)))
-
 pub short : (N : Notes) (B : Link → ℕ) (n : ℕ) (it : ℕ → Item) (R : Routed N B n it) → ((e : Link) → B e ≤ 1) → ((e : Link) → 1 ≤ B e → InFrame e) → (i : ℕ) → i < n → length (R .ms i) ≤ 2048
 short N B n it R b f i l =
     let u : (e : Link) → uses e (R .ms i) ≤ B e = λ e. omega (arith, R .bound e, sum-get n i (λ j. uses e (R .ms j)) l) in

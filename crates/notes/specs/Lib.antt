@@ -12,5 +12,6 @@ pub mod Split
 pub mod Turn
 pub mod Steps
 pub mod Alike
+pub mod Frame
 pub mod Final
 pub mod Arrays

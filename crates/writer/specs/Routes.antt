@@ -22,7 +22,8 @@ use Rattle.corner.specs.LinkLaws.{on-frame}
 use Rattle.corner.specs.Paths.{routed-routing}
 use Rattle.notes.specs.Notes.{Move, fwd, bwd, Goes, uses, Item, Routed}
 use Rattle.notes.specs.Arrays.{born, notesOf}
-use Rattle.notes.specs.Final.{edgesOf, count-of, InFrame, short}
+use Rattle.notes.specs.Frame.{InFrame}
+use Rattle.notes.specs.Final.{edgesOf, count-of, short}
 use Rattle.trace.specs.Traces.{pathD}
 use Rattle.trace.specs.Directions.{dirs, Ordered}
 use Rattle.trace.specs.Link.{path-is}
@@ -68,6 +69,10 @@ module _ (it : ℕ → Item) (ms : ℕ → List Move) (P : ℕ → List ℕ) whe
         ap₂ {A = List Direction} (λ d ds. d ∷ ds) (w .1 ∙ sym (ap directions (p k (omega arith)))) (r .2),
       )
 
+pub length-dirs : (ms : List Move) → length (dirs ms) ≡ length ms
+length-dirs [] = refl
+length-dirs (m ∷ ms) = ap suc (length-dirs ms)
+
 -- a unit edge of the board lies in the frame
 link-frame : (b : Board) → Within b → (e : Link) → onBoard b e ≡ true → InFrame e
 link-frame b W (hor l c) h = on-frame b W (hor l c) h
@@ -85,7 +90,7 @@ module _ (side vert half s1 s2 d1 d2 : List ℕ) (O : Ordered half d1 d2) (b : B
     | inr h ↦ omega (arith, edges e, ap one h)
   ]
 
-  in-frame : (e : Link) → 1 ≤ B e → InFrame e
+  pub in-frame : (e : Link) → 1 ≤ B e → InFrame e
   in-frame e l = elim (bool (onBoard b e)) [
     | inl h ↦ link-frame b W e h
     | inr h ↦ absurd (omega (arith, edges e, ap one h))
@@ -94,12 +99,8 @@ module _ (side vert half s1 s2 d1 d2 : List ℕ) (O : Ordered half d1 d2) (b : B
   moves-short : (i : ℕ) → i < n → length (R .ms i) ≤ 2048
   moves-short = short (notesOf side vert half s1 s2 d1 d2) B n it R one-at-most in-frame
 
-  path-moves : (i : ℕ) → i < n → P i ≡ dirs (R .ms i)
+  pub path-moves : (i : ℕ) → i < n → P i ≡ dirs (R .ms i)
   path-moves i l = path-is side vert half s1 s2 d1 d2 O 2112 i (it i) (R .ms i) (made i l) (R .reads i l) (omega arith) (omega arith) (moves-short i l)
-
-  length-dirs : (ms : List Move) → length (dirs ms) ≡ length ms
-  length-dirs [] = refl
-  length-dirs (m ∷ ms) = ap suc (length-dirs ms)
 
   pub paths-short : Short P n
   paths-short i l = omega (arith, ap length (path-moves i l), length-dirs (R .ms i), moves-short i l)
