@@ -1,10 +1,9 @@
 -- The words of a routing fit: "At most 64 + 1,984 + 1 = 2,049 words are needed."
 -- Assumes what the router's run leaves, as in Routes.
-use mathlib.Core.Path.{_≡_, refl, ap, sym, _∙_}
-use mathlib.Core.Bool.{true}
+use mathlib.Core.Path.{_≡_, refl, ap, _∙_}
 use mathlib.Core.List.{List, [], _∷_}
 use mathlib.Core.Logic.{inl, inr}
-use Prim.Native.Nat.{ℕ, zero, suc, _+_, _*_, _≤_, _<_}
+use Prim.Native.Nat.{ℕ, zero, suc, _+_, _≤_, _<_}
 use native.Mathlib.Omega.{arith}
 use lib.Dec.{ltb}
 use lib.ListN.{length, length-append}
@@ -75,7 +74,9 @@ lengths-all (suc n) ms f =
 words-from : (P : ℕ → List ℕ) (k : ℕ) (ns : List Net)
     → sum k (λ i. length (P i)) + length (pathsWords ns (pathsFrom P k (length ns))) ≤ length ns + sum (k + length ns) (λ i. length (P i))
 unfolding pathsWords pathsFrom
-words-from P k [] = let q : k + 0 ≡ k = omega arith in rw q (omega arith)
+words-from P k [] =
+    let q : k + 0 ≡ k = omega arith in
+    rw q (omega arith)
 words-from P k (n ∷ ns) =
     let q : suc k + length ns ≡ k + suc (length ns) = omega arith in
     rw (length-append, ← q) (omega (arith, words-from P (suc k) ns, sum-suc k (λ i. length (P i)), few-words n (P k)))

@@ -7,3 +7,4 @@ pub mod Paths
 pub mod Through
 pub mod Routes
 pub mod Fits
+pub mod Handed
