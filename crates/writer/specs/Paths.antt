@@ -4,11 +4,16 @@ use mathlib.Core.List.{List, [], _∷_}
 use Prim.Native.Nat.{ℕ, zero, suc, _≤_, _<_}
 use lib.ListN.{length}
 use Rattle.board.specs.declared.Direction.{Direction}
+use Rattle.net.specs.View.{heldBy}
 use Rattle.net.specs.declared.Held.{Held}
 use Rattle.net.specs.declared.Held.the-variants.{Nothing, Ends}
 use Rattle.places.specs.Places.{net}
 use Rattle.words.specs.RoutingWord.{pathWords}
 use Rattle.writer.specs.Written.{directions}
+
+-- how many nets a place holds
+abbrev pub heldOne : Held → ℕ
+heldOne h = heldBy (λ p. 1) h
 
 -- the paths of n pairs from k on
 unfoldable pub pathsFrom : (P : ℕ → List ℕ) (k n : ℕ) → List (List Direction)

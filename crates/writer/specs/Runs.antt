@@ -17,14 +17,15 @@ use Rattle.words.specs.declared.Run.{Run}
 use Rattle.writer.specs.Written.{directions, RunAt, Written}
 use Rattle.writer.specs.Blocks.{take-more, drop-more, block-inside, put-next}
 
+-- DEFINITION: the runs of the path that bytes stand for
 abbrev pub allRuns : List ℕ → List Run
 allRuns bytes = runsOf (directions bytes)
 
--- the buffer before, with the words of the first n runs after its first word
+-- DEFINITION: the buffer before, with the words of the first n runs after its first word
 abbrev pub withRuns : (bytes before : List ℕ) (n : ℕ) → List ℕ
 withRuns bytes before n = (take 1 before ++ map runWord (take n (allRuns bytes))) ++ drop (n + 1) before
 
--- so many runs are written, and the scan stands at `from`
+-- DEFINITION: so many runs are written, and the scan stands at `from`
 pub record Partly (bytes before : List ℕ) (n from : ℕ) (out : List ℕ) : Type 0 where
   pub few : n ≤ from
   pub within : from ≤ length bytes

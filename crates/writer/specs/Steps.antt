@@ -46,6 +46,7 @@ same-number Left Down h = absurd (omega arith)
 same-number Left Left h = refl
 
 -- ── n steps in one direction in front of runs ──
+-- DEFINITION
 unfoldable pub steps : Direction → ℕ → List Run → List Run
 steps d zero rs = rs
 steps d (suc n) rs = stepThen d (steps d n rs)
@@ -55,7 +56,7 @@ unfolding steps
 steps-more d zero rs = refl
 steps-more d (suc n) rs = ap (stepThen d) (steps-more d n rs)
 
--- the first of the runs, if there is one, goes in another direction
+-- DEFINITION: the first of the runs, if there is one, goes in another direction
 abbrev Other : Direction → List Run → Type 0
 Other d [] = Unit {0}
 Other d (r ∷ rs) = number d ≡ number (r .direction) → ⊥

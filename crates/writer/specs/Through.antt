@@ -1,13 +1,13 @@
 -- The words of a routing, place by place: what the buffer holds after so many of the 64 places, and once the end word is there.
 -- Assumes nothing.
 use mathlib.Core.Path.{_≡_, refl, ap, sym, _∙_}
-use mathlib.Core.List.{List, [], _∷_, _++_, append-assoc, append-nil}
+use mathlib.Core.List.{List, [], _∷_, _++_}
 use Prim.Native.Nat.{ℕ, suc, _+_, _-_, _*_, _<_, _≤_}
 use native.Mathlib.Omega.{arith}
 use native.Mathlib.Numerals.{add-one}
 use lib.ListN.{getD, set, take, drop, length, length-append, length-drop, length-take, drop-of-length-le}
-use lib.Seq.{drop-cons, take-all, take-at, drop-at, drop-drop, length-take-le}
-use Rattle.net.specs.View.{nothing, heldBy}
+use lib.Seq.{drop-cons, take-all, length-take-le}
+use Rattle.net.specs.View.{nothing}
 use Rattle.net.specs.declared.Net.{Net}
 use Rattle.net.specs.declared.Held.{Held}
 use Rattle.net.specs.declared.Held.the-variants.{Nothing, Ends}
@@ -15,15 +15,11 @@ use Rattle.net.specs.declared.Place.{Place}
 use Rattle.places.specs.Places.{heldNet, netsFrom, netsOf}
 use Rattle.words.specs.RoutingWord.{pathsWords, routingWords, routingEndWord}
 use Rattle.writer.specs.Written.{Written}
-use Rattle.writer.specs.Blocks.{take-more, drop-more, block-inside, put-next}
-use Rattle.writer.specs.Paths.{pathsFrom, Short, heldWords, HeldShort}
-
--- how many nets a place holds
-abbrev pub heldOne : Held → ℕ
-heldOne h = heldBy (λ p. 1) h
+use Rattle.writer.specs.Blocks.{take-more, drop-more, block-inside, put-next, part-back}
+use Rattle.writer.specs.Paths.{heldOne, pathsFrom, Short, heldWords, HeldShort}
 
 module _ (P : ℕ → List ℕ) where
-  -- the words of the nets ns, whose pairs are numbered from k
+  -- DEFINITION: the words of the nets ns, whose pairs are numbered from k
   abbrev pub wordsFrom : ℕ → List Net → List ℕ
   wordsFrom k ns = pathsWords ns (pathsFrom P k (length ns))
 
@@ -41,34 +37,15 @@ module _ (P : ℕ → List ℕ) where
   held-short number k total Nothing ns e s = tt
   held-short number k total (Ends p) ns e s = s k (omega arith)
 
--- A part of a buffer, lent from `at` on, has come back: what was written before it, what the callee wrote, and the untouched rest.
-module _ (p l out ws : List ℕ) (at : ℕ) (here : length p ≡ at) (is : out ≡ p ++ drop at l) (room : at + length ws ≤ length l) where
-  out-length : length out ≡ length l
-  out-length = rw (is, length-append, length-drop) (omega arith)
-
-  part-is : take (length out - at) (drop at out) ≡ drop at l
-  part-is =
-      let d : drop at out ≡ drop at l = rw is (drop-at p (drop at l) at here) in
-      let all : length (drop at l) ≤ length out - at = rw (length-drop, out-length) (omega arith) in
-      rw d (take-all (length out - at) (drop at l) all)
-
-  part-back : (last : List ℕ) → last ≡ ws ++ drop (length ws) (take (length out - at) (drop at out)) →
-      take at out ++ (last ++ drop (length out - at) (drop at out)) ≡ (p ++ ws) ++ drop (at + length ws) l
-  part-back last e =
-      let t : take at out ≡ p = rw is (take-at p (drop at l) at here) in
-      let over : length (drop at out) ≤ length out - at = rw length-drop (omega arith) in
-      let none : drop (length out - at) (drop at out) ≡ [] = drop-of-length-le (drop at out) over in
-      rw (none, t, e, part-is, drop-drop (length ws) at l, append-nil, append-assoc)
-
 module _ (P : ℕ → List ℕ) (nets : List Place) where
-  -- the nets from place i on, and the words of them all
+  -- DEFINITION: the nets from place i on, and the words of them all
   abbrev pub Rest : ℕ → List Net
   Rest i = netsFrom (i + 1) (drop i nets)
 
   abbrev pub All : List ℕ
   All = wordsFrom P 0 (netsOf nets)
 
-  -- `at` words of k nets are written after i places
+  -- DEFINITION: `at` words of k nets are written after i places
   pub record Done (before : List ℕ) (at k i : ℕ) (out : List ℕ) : Type 0 where
     pub inside : at ≤ length All
     pub rest : drop at All ≡ wordsFrom P k (Rest i)
