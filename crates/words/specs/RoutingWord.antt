@@ -18,6 +18,9 @@ use Rattle.words.specs.declared.RoutingWord.the-variants as word
 abbrev pub pathWord : Path → ℕ
 pathWord p = put 28 4 + put 20 (p .number) + p .runs
 
+abbrev pub run : Direction → ℕ → Run
+run d n = record { direction = d; length = n }
+
 -- | run | 31-28 = 5, 27-26 direction (0 up, 1 right, 2 down, 3 left), 4-0 length 1 to 31 |
 abbrev pub runWord : Run → ℕ
 runWord r = put 28 5 + put 26 (number (r .direction)) + r .length
@@ -57,10 +60,9 @@ routingWord w = cond (eqb (kind w) 4) (asPath w) (cond (eqb (kind w) 5) (asRun w
 -- ── a routing as words ──
 -- a step in front of runs: "Two runs in a row of one path differ in direction"
 abbrev pub stepThen : Direction → List Run → List Run
-stepThen d [] = record { direction = d; length = 1 } ∷ []
+stepThen d [] = run d 1 ∷ []
 stepThen d (r ∷ rs) =
-    cond (eqb (number d) (number (r .direction))) (record { direction = d; length = r .length + 1 } ∷ rs)
-    (record { direction = d; length = 1 } ∷ (r ∷ rs))
+    cond (eqb (number d) (number (r .direction))) (run d (r .length + 1) ∷ rs) (run d 1 ∷ (r ∷ rs))
 
 -- the runs of a path
 unfoldable pub runsOf : List Direction → List Run

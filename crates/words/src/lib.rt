@@ -6,6 +6,7 @@ ghost use Rattle.words.specs.Bits.{kind};
 ghost use Rattle.words.specs.BoardWord.{rowWord, netWord, endWord, asRow, asNet, asEnd, boardWord};
 ghost use Rattle.words.specs.RoutingWord.{
   pathWord,
+  run,
   runWord,
   routingEndWord,
   direction,
@@ -176,7 +177,7 @@ pub fn number_of(d: Direction) -> u8
     }
 }
 
-fn direction_of(n: u32) -> Direction
+pub fn direction_of(n: u32) -> Direction
     ensures { λ r. ⌜ r ≡ direction n ⌝ }
 {
     if n == 0 {
@@ -197,11 +198,18 @@ pub fn pack_path(p: Path) -> u32
     1073741824 + wide(p.number) * 1048576 + p.runs as u32
 }
 
+// The run word of so many edges in a direction.
+pub fn run_word(d: Direction, length: u16) -> u32
+    ensures { λ w. ⌜ w ≡ runWord (run d length) ⌝ }
+{
+    1342177280 + wide(number_of(d)) * 67108864 + length as u32
+}
+
 pub fn pack_run(r: Run) -> u32
     ensures { λ w. ⌜ w ≡ runWord r ⌝ }
 {
     let d = r.direction;
-    1342177280 + wide(number_of(d)) * 67108864 + wide(r.length)
+    run_word(d, r.length as u16)
 }
 
 pub fn pack_routing_end(paths: u8) -> u32

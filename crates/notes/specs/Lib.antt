@@ -1,0 +1,17 @@
+pub mod Notes
+pub mod Moves
+pub mod Update
+pub mod Lift
+pub mod State
+pub mod Leads
+pub mod Table
+pub mod Goods
+pub mod Inv
+pub mod Corner
+pub mod Split
+pub mod Turn
+pub mod Steps
+pub mod Alike
+pub mod Frame
+pub mod Final
+pub mod Arrays

@@ -1,0 +1,67 @@
+-- `hop` is `hopD`: the notes of the vertex where line and column meet, and none past the frame.
+use borrow.Author.Tests.{lt-ltb, le-ltb}
+use mathlib.Core.Path.{refl}
+use Rattle.notes.specs.Arrays.{hopD}
+use borrow.Author.Needs.{needs}
+use Rattle.trace.proofs.hop.Statement.{statement}
+use Rattle.trace.proofs.hop.Tie as tie
+use Rattle.trace.proofs.hop.Reads as reads
+use Rattle.trace.proofs.hop.Lts as lts
+use Rattle.trace.proofs.hop_at.Reads as hop-at-reads
+use Rattle.trace.proofs.wide.Reads as wide-reads
+
+mul-v : tie.Need-mul-v
+mul-v c = search needs
+
+add-v : tie.Need-add-v
+add-v c = search needs
+
+mul-wide : tie.Need-mul-wide
+mul-wide c = search needs
+
+element-copy-out-wide : tie.Need-element-copy-out-wide
+element-copy-out-wide c = search needs
+
+wide-requires : tie.Need-wide-requires
+wide-requires c κs = search needs
+
+mul-wide-2 : tie.Need-mul-wide-2
+mul-wide-2 c = search needs
+
+element-copy-out-wide-2 : tie.Need-element-copy-out-wide-2
+element-copy-out-wide-2 c = search needs
+
+wide-requires-2 : tie.Need-wide-requires-2
+wide-requires-2 c κs = search needs
+
+hop-at-requires : tie.Need-hop-at-requires
+hop-at-requires c κs = search needs
+
+returns : tie.Need-returns
+unfolding hopD
+returns c = (rw (lt-ltb _ _ (c .before .before .before .before .before .before .if1 .taken), lt-ltb _ _ (c .before .before .before .before .before .if2 .taken)) (cc), record { four = search needs; line = λ n. search needs; column = λ n. search needs })
+
+returns-2 : tie.Need-returns-2
+unfolding hopD
+returns-2 c = (rw (lt-ltb _ _ (c .before .if1 .taken), le-ltb _ _ (c .if2 .left)), record { four = search needs; line = λ n. absurd (n refl); column = λ n. absurd (n refl) })
+
+returns-3 : tie.Need-returns-3
+unfolding hopD
+returns-3 c = (rw (le-ltb _ _ (c .if1 .left)), record { four = search needs; line = λ n. absurd (n refl); column = λ n. absurd (n refl) })
+
+pub hop-spec : {M : Type 1} → statement M
+hop-spec =
+    tie.close
+    (tie.spec
+    mul-v
+    add-v
+    mul-wide
+    element-copy-out-wide
+    wide-requires
+    mul-wide-2
+    element-copy-out-wide-2
+    wide-requires-2
+    hop-at-requires
+    returns
+    returns-2
+    returns-3)

@@ -1,0 +1,31 @@
+-- `write_place` writes the net that the place holds, or nothing.
+use native.Mathlib.Omega.{arith}
+use Rattle.writer.specs.Nets.{held-nothing, held-net}
+use borrow.Author.Needs.{needs}
+use Rattle.writer.proofs.write_place.Statement.{statement}
+use Rattle.writer.proofs.write_place.Tie as tie
+use Rattle.writer.proofs.write_place.Reads as reads
+use Rattle.writer.proofs.write_place.Lts as lts
+use Rattle.writer.proofs.write_net.Reads as write-net-reads
+
+enum-told : tie.Need-enum-told
+enum-told c = search needs
+
+enum-known-held : tie.Need-enum-known-held
+enum-known-held c = search needs
+
+write-net-requires : tie.Need-write-net-requires
+write-net-requires c κs = search needs
+
+returns : tie.Need-returns
+returns c = (omega arith, held-nothing (c .before .before .before .args .place .held) (c .before .before .before .args .number) _ (c .before .before .before .args .out .now) (cc))
+
+same-length : tie.Need-same-length
+same-length c = search needs
+
+returns-2 : tie.Need-returns-2
+returns-2 c = (c .before .before .write-net .ensures .0, held-net (c .before .before .before .before .before .before .before .before .args .place .held) (c .before .before .before .before .before .before .before .before .args .number) _ _ (c .before .before .before .before .before .before .before .before .args .out .now) (c .before .before .write-net .result) _ (cc) (c .before .before .write-net .ensures .1))
+
+pub write-place-spec : {M : Type 1} → statement M
+write-place-spec =
+    tie.close (tie.spec enum-told enum-known-held write-net-requires returns same-length returns-2)

@@ -1,0 +1,10 @@
+pub mod Written
+pub mod Steps
+pub mod Blocks
+pub mod Runs
+pub mod Nets
+pub mod Paths
+pub mod Through
+pub mod Routes
+pub mod Fits
+pub mod Handed
