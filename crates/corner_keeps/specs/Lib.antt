@@ -1,0 +1,12 @@
+pub mod Run
+pub mod Place
+pub mod CornerNotes
+pub mod Shapes
+pub mod Rows
+pub mod Ready
+pub mod OneEdge
+pub mod TwoEnds
+pub mod Helper
+pub mod Halving
+pub mod Divide
+pub mod Drop
