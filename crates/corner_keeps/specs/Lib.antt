@@ -10,3 +10,9 @@ pub mod Helper
 pub mod Halving
 pub mod Divide
 pub mod Drop
+pub mod Ends
+pub mod Choice
+pub mod Cuts
+pub mod Nearest
+pub mod AtNul
+pub mod Turned
