@@ -16,3 +16,6 @@ pub mod Cuts
 pub mod Nearest
 pub mod AtNul
 pub mod Turned
+pub mod Step
+pub mod Sizes
+pub mod StepLaws
