@@ -1,0 +1,4 @@
+pub mod Scans
+pub mod ScanLaws
+pub mod Writes
+pub mod WriteLaws
