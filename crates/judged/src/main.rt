@@ -1,0 +1,165 @@
+// Judges stored lists of routing words and prints each verdict on a line: "passed" with edges, turns and knock-knees, or "refused" with
+// number and place. Then two comparisons.
+use board::Board;
+use board::Row;
+use board::Vertex;
+use judge::Comparison;
+use judge::Verdict;
+use net::Held;
+use net::Pair;
+use net::Place;
+
+fn number(n: u64) {
+    io::write_all(1, b" ");
+    io::print_decimal(1, n);
+}
+
+fn end_line() {
+    io::write_all(1, b"\n");
+}
+
+fn show(v: Verdict) {
+    match v {
+        Verdict::Passed(r) => {
+            io::write_all(1, b"passed");
+            number(r.edges as u64);
+            number(r.turns as u64);
+            number(r.knocks as u64);
+        }
+        Verdict::Refused(r) => {
+            io::write_all(1, b"refused");
+            number(r.number as u64);
+            number(r.place as u64);
+        }
+    }
+    end_line();
+}
+
+fn show_comparison(c: Comparison) {
+    match c {
+        Comparison::Alike(t) => {
+            if t {
+                io::write_all(1, b"alike");
+            } else {
+                io::write_all(1, b"not alike");
+            }
+        }
+        Comparison::Refused(list, r) => {
+            io::write_all(1, b"refused");
+            number(r.number as u64);
+            number(list as u64);
+            number(r.place as u64);
+        }
+    }
+    end_line();
+}
+
+fn row(left: u8, right: u8) -> Row {
+    Row { left, right }
+}
+
+// A board of n rows, at most 31, from column 0 to column right.
+fn rectangle(n: u8, right: u8) -> Board {
+    Board {
+        count: n,
+        rows: [row(0, right); 31],
+    }
+}
+
+fn place(l: u8, c: u8, m: u8, d: u8) -> Place {
+    let first = Vertex { line: l, column: c };
+    let second = Vertex { line: m, column: d };
+    Place {
+        held: Held::Ends(Pair { first, second }),
+    }
+}
+
+fn no_nets() -> [Place; 64] {
+    let empty = Place {
+        held: Held::Nothing,
+    };
+    [empty; 64]
+}
+
+// One cell, with a net along each of its sides.
+fn ring() -> [Place; 64] {
+    let mut nets = no_nets();
+    nets[0] = place(0, 0, 0, 1);
+    nets[1] = place(0, 1, 1, 1);
+    nets[2] = place(1, 1, 1, 0);
+    nets[3] = place(1, 0, 0, 0);
+    nets
+}
+
+fn judge_ring(words: &[u32]) {
+    show(judge::judge(rectangle(1, 1), ring(), words));
+}
+
+// The ring's words, and one change of them for each refusal.
+fn ring_lists() {
+    let good: [u32; 9] = [
+        1074790401,
+        1409286145,
+        1075838977,
+        1476395009,
+        1076887553,
+        1543503873,
+        1077936129,
+        1342177281,
+        3758096388,
+    ];
+    judge_ring(&good);
+    judge_ring(&good[..0]);
+    let mut kind = good;
+    kind[0] = 268435457;
+    judge_ring(&kind);
+    judge_ring(&good[..8]);
+    let mut off = good;
+    off[1] = 1342177281;
+    judge_ring(&off);
+    let mut again = good;
+    again[3] = 1543503873;
+    judge_ring(&again);
+    let mut missed = good;
+    missed[1] = 1476395009;
+    judge_ring(&missed);
+    show_comparison(judge::compare(rectangle(1, 1), ring(), &good, &good));
+    show_comparison(judge::compare(rectangle(1, 1), ring(), &good, &missed));
+}
+
+// Two nets that both turn at (1,1): down, left and left, down.
+fn knock_knee() {
+    let mut nets = no_nets();
+    nets[0] = place(0, 1, 1, 0);
+    nets[1] = place(1, 2, 2, 1);
+    let words: [u32; 7] = [
+        1074790402,
+        1476395009,
+        1543503873,
+        1075838978,
+        1543503873,
+        1476395009,
+        3758096386,
+    ];
+    show(judge::judge(rectangle(2, 2), nets, &words));
+}
+
+// One net along all lines of the largest board, right and left in turn: 63 runs.
+fn longest_board() {
+    let mut nets = no_nets();
+    nets[0] = place(0, 0, 31, 0);
+    let mut words = [1476395009u32; 65];
+    words[0] = 1074790463;
+    words[64] = 3758096385;
+    for k in 0..16 {
+        words[4 * k + 1] = 1409286175;
+        words[4 * k + 3] = 1543503903;
+    }
+    show(judge::judge(rectangle(31, 31), nets, &words));
+}
+
+fn main() {
+    ring_lists();
+    knock_knee();
+    longest_board();
+}
