@@ -6,7 +6,7 @@ use mathlib.Core.List.{List, [], _∷_}
 use mathlib.Core.Logic.{inl, inr}
 use Prim.Native.Nat.{ℕ, zero, suc, _+_, _≤_, _<_}
 use native.Mathlib.Omega.{arith}
-use lib.ListN.{length}
+use lib.ListN.{getD, length}
 use Rattle.count.specs.Truth.{bool, one}
 use Rattle.count.specs.Sum.{sum, sum-zero, sum-suc}
 use Rattle.board.specs.Board.{Board, Within}
@@ -34,6 +34,19 @@ use Rattle.writer.specs.Paths.{pathsFrom, Short}
 unfoldable pub pairsFrom : (ℕ → Item) → ℕ → ℕ → List Pair
 pairsFrom it k zero = []
 pairsFrom it k (suc n) = pair (it k .a) (it k .b) ∷ pairsFrom it (suc k) n
+
+-- they are the pairs that they stand for one by one
+pub pairs-from : (it : ℕ → Item) (d : Pair) (k : ℕ) (ps : List Pair) → ((i : ℕ) → i < length ps → pair (it (k + i) .a) (it (k + i) .b) ≡ getD ps i d)
+    → ps ≡ pairsFrom it k (length ps)
+unfolding pairsFrom
+pairs-from it d k [] h = refl
+pairs-from it d k (p ∷ ps) h =
+    let z : k + 0 ≡ k = omega arith in
+    let first : pair (it k .a) (it k .b) ≡ p = rw z at (h 0 (omega arith)) in
+    let rest : (i : ℕ) → i < length ps → pair (it (suc k + i) .a) (it (suc k + i) .b) ≡ getD ps i d = λ i l.
+    let q : k + suc i ≡ suc k + i = omega arith in
+    rw q at (h (suc i) (omega arith)) in
+    ap₂ {A = Pair} (λ x xs. x ∷ xs) (sym first) (pairs-from it d (suc k) ps rest)
 
 -- a walk by moves along their unit edges, and its directions
 walk-dirs : (u v : Vertex) (ms : List Move) → Goes u ms v → (w : Walk u (edgesOf ms) v) × (dirsOf u v (edgesOf ms) w ≡ directions (dirs ms))
