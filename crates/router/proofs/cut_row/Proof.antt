@@ -1,0 +1,100 @@
+-- The writes one after the other, by cut-row-is.
+use native.Mathlib.Omega.{arith}
+use mathlib.Core.Path.{refl}
+use Rattle.router.specs.Divided.{cut-row-is}
+use borrow.Author.Needs.{needs}
+use Rattle.router.proofs.cut_row.Statement.{statement}
+use Rattle.router.proofs.cut_row.Tie as tie
+use Rattle.router.proofs.cut_row.Reads as reads
+use Rattle.router.proofs.cut_row.Lts as lts
+use Rattle.corner_steps.proofs.divide.Reads as divide-reads
+use Rattle.corner_steps.proofs.part.Reads as part-reads
+use Rattle.corner_steps.proofs.wide.Reads as wide-reads
+use Rattle.router.proofs.first_dir.Reads as first-dir-reads
+use Rattle.router.proofs.pick.Reads as pick-reads
+use Rattle.router.proofs.second_dir.Reads as second-dir-reads
+
+-- src/lib.rt:138:13
+mul-a : tie.Need-mul-a
+mul-a c = search needs
+
+-- src/lib.rt:138:13
+element-copy-out-a : tie.Need-element-copy-out-a
+element-copy-out-a c = search needs
+
+-- src/lib.rt:139:13
+mul-b : tie.Need-mul-b
+mul-b c = search needs
+
+-- src/lib.rt:139:13
+element-copy-out-b : tie.Need-element-copy-out-b
+element-copy-out-b c = search needs
+
+-- src/lib.rt:140:32
+mul-wide : tie.Need-mul-wide
+mul-wide c = search needs
+
+-- src/lib.rt:140:32
+element-copy-out-wide : tie.Need-element-copy-out-wide
+element-copy-out-wide c = search needs
+
+-- src/lib.rt:140:9
+wide-requires : tie.Need-wide-requires
+wide-requires c κs = search needs
+
+-- src/lib.rt:141:9
+pick-requires : tie.Need-pick-requires
+pick-requires c κs = search needs
+
+-- src/lib.rt:142:9
+pick-requires-2 : tie.Need-pick-requires-2
+pick-requires-2 c κs = search needs
+
+-- src/lib.rt:143:67
+first-dir-requires : tie.Need-first-dir-requires
+first-dir-requires c κs = search needs
+
+-- src/lib.rt:143:91
+second-dir-requires : tie.Need-second-dir-requires
+second-dir-requires c κs = search needs
+
+-- src/lib.rt:143:5
+part-requires : tie.Need-part-requires
+part-requires c κs = (omega (arith, c .before .before .before .before .before .before .before .before .before .wide .ensures .0, c .before .before .before .before .before .before .before .before .before .before .before .before .before .pre .3 (c .before .before .before .before .before .before .before .before .before .before .before .before .before .args .i)), c .before .before .before .before .before .before .before .before .before .before .before .before .before .pre .2)
+
+-- src/lib.rt:144:5
+divide-requires : tie.Need-divide-requires
+divide-requires c κs = search needs
+
+-- src/lib.rt:145:55
+add-t21 : tie.Need-add-t21
+add-t21 c = search needs
+
+-- src/lib.rt:145:68
+add-t24 : tie.Need-add-t24
+add-t24 c = search needs
+
+-- src/lib.rt:131:1
+returns : tie.Need-returns
+returns c = cut-row-is _ _ _ _ _ _ _ _ (c .before .before .before .before .before .before .before .before .before .before .before .before .before .before .before .before .before .before .args .w) (c .before .before .before .before .before .before .before .before .before .before .before .before .before .before .before .before .before .before .args .i) (c .before .before .before .before .before .before .before .before .before .before .before .before .before .before .before .before .before .before .args .first) (c .before .before .before .before .before .before .before .before .before .before .before .before .before .before .before .before .before .before .args .nul) (c .before .before .before .before .before .before .before .before .before .before .before .before .before .before .before .before .before .before .args .bul) (c .before .before .before .before .before .before .before .before .before .before .before .before .before .before .wide .result) (c .before .before .before .before .before .before .before .before .before .before .before .before .before .pick .result) (c .before .before .before .before .before .before .before .before .before .before .before .before .pick2 .result) (c .before .before .before .before .before .before .first-dir .result) (c .before .before .before .before .before .second-dir .result) _ _ _ _ _ _ _ _ _ (c .before .before .before .before .before .before .before .before .before .before .before .before .before .before .wide .ensures .0) (c .before .before .before .before .before .before .before .before .before .before .before .before .before .pick .ensures) (c .before .before .before .before .before .before .before .before .before .before .before .before .pick2 .ensures) (c .before .before .before .before .before .before .first-dir .ensures) (c .before .before .before .before .before .second-dir .ensures) (c .before .before .before .before .part .ensures) (c .divide .ensures) refl
+
+pub cut-row-spec : {M : Type 1} → statement M
+cut-row-spec =
+    tie.close
+    (tie.spec
+    mul-a
+    element-copy-out-a
+    mul-b
+    element-copy-out-b
+    mul-wide
+    element-copy-out-wide
+    wide-requires
+    pick-requires
+    pick-requires-2
+    first-dir-requires
+    second-dir-requires
+    part-requires
+    divide-requires
+    add-t21
+    add-t24
+    returns)

@@ -1,0 +1,138 @@
+-- No second end, or the two pairs part in one of two ways, by the laws of Went.
+use native.Mathlib.Omega.{arith}
+use mathlib.Core.Path.{refl, _∙_, sym}
+use Rattle.router.specs.Went.{two-stuck, two-kept, two-swapped}
+use borrow.Author.Needs.{needs}
+use Rattle.router.proofs.two_ends.Statement.{statement}
+use Rattle.router.proofs.two_ends.Tie as tie
+use Rattle.router.proofs.two_ends.Reads as reads
+use Rattle.router.proofs.two_ends.Lts as lts
+use Rattle.corner_steps.proofs.far.Reads as far-reads
+use Rattle.corner_steps.proofs.first_at.Reads as first-at-reads
+use Rattle.corner_steps.proofs.split.Reads as split-reads
+use Rattle.corner_steps.proofs.swaps.Reads as swaps-reads
+use Rattle.corner_steps.proofs.wide.Reads as wide-reads
+use Rattle.router.proofs.below.Reads as below-reads
+use Rattle.router.proofs.bit.Reads as bit-reads
+use Rattle.router.proofs.shorten.Reads as shorten-reads
+use Rattle.router.proofs.word.Reads as word-reads
+
+-- src/lib.rt:86:9
+word-requires : tie.Need-word-requires
+word-requires c κs = search needs
+
+-- src/lib.rt:87:50
+add-first-at : tie.Need-add-first-at
+add-first-at c = search needs
+
+-- src/lib.rt:87:9
+first-at-requires : tie.Need-first-at-requires
+first-at-requires c κs = search needs
+
+-- src/lib.rt:89:9
+returns : tie.Need-returns
+returns c = (λ half s1 s2 d1 d2 hi. two-stuck (c .before .before .before .before .before .args .la .now) (c .before .before .before .before .before .args .lb .now) (c .before .before .before .before .before .args .ids .now) (c .before .before .before .before .before .args .side .now) (c .before .before .before .before .before .args .vert .now) half s1 s2 d1 d2 (c .before .before .before .before .before .args .lo .now) hi (c .before .before .before .before .before .args .w) (c .before .before .before .before .before .args .i) (c .before .before .before .before .before .args .line) (c .before .before .before .before .before .args .x) (c .before .before .before .before .word .result) (c .before .before .before .before .before .pre .0) (c .before .before .before .before .word .ensures .0) _ (c .before .first-at .result) (c .before .first-at .ensures) (c .if1 .taken), (c .before .before .before .before .before .pre .5, c .before .before .before .before .before .pre .6, omega arith, omega arith))
+
+-- src/lib.rt:91:9
+below-requires : tie.Need-below-requires
+below-requires c κs = search needs
+
+-- src/lib.rt:92:32
+far-requires : tie.Need-far-requires
+far-requires c κs = search needs
+
+-- src/lib.rt:92:9
+wide-requires : tie.Need-wide-requires
+wide-requires c κs = search needs
+
+-- src/lib.rt:93:32
+far-requires-2 : tie.Need-far-requires-2
+far-requires-2 c κs = search needs
+
+-- src/lib.rt:93:9
+wide-requires-2 : tie.Need-wide-requires-2
+wide-requires-2 c κs = search needs
+
+-- src/lib.rt:94:5
+shorten-requires : tie.Need-shorten-requires
+shorten-requires c κs = search needs
+
+-- src/lib.rt:95:8
+swaps-requires : tie.Need-swaps-requires
+swaps-requires c κs = search needs
+
+-- src/lib.rt:96:60
+mul-split : tie.Need-mul-split
+mul-split c = search needs
+
+-- src/lib.rt:96:60
+add-split : tie.Need-add-split
+add-split c = search needs
+
+-- src/lib.rt:96:81
+add-split-2 : tie.Need-add-split-2
+add-split-2 c = search needs
+
+-- src/lib.rt:96:96
+bit-requires : tie.Need-bit-requires
+bit-requires c κs = search needs
+
+-- src/lib.rt:96:9
+split-requires : tie.Need-split-requires
+split-requires c κs = (omega (arith, c .before .before .before .before .before .before .before .before .before .before .before .before .before .before .before .before .before .before .before .first-at .ensures .most, c .before .before .before .before .before .before .before .before .before .before .before .before .before .before .before .before .before .before .if1 .left), omega arith, omega (arith, c .before .before .before .before .before .before .before .before .before .before .before .before .before .before .before .before .before .before .before .before .before .before .word .ensures), search needs, omega (arith, c .before .before .before .before .before .before .before .before .before .before .before .before .before .before .before .before .before .before .before .before .before .before .before .pre .4 (c .before .before .before .before .before .before .before .before .before .before .before .before .before .before .before .before .before .before .before .first-at .result)), omega (arith, c .before .before .before .before .before .before .before .before .before .before .before .before .before .before .before .before .before .before .before .before .before .before .before .pre .4 (c .before .before .before .before .before .before .before .before .before .before .before .before .before .before .before .before .before .before .before .before .before .before .before .args .i)))
+
+-- src/lib.rt:98:60
+mul-split-2 : tie.Need-mul-split-2
+mul-split-2 c = search needs
+
+-- src/lib.rt:98:60
+add-split-3 : tie.Need-add-split-3
+add-split-3 c = search needs
+
+-- src/lib.rt:98:81
+add-split-4 : tie.Need-add-split-4
+add-split-4 c = search needs
+
+-- src/lib.rt:98:96
+bit-requires-2 : tie.Need-bit-requires-2
+bit-requires-2 c κs = search needs
+
+-- src/lib.rt:98:9
+split-requires-2 : tie.Need-split-requires-2
+split-requires-2 c κs = (omega arith, omega (arith, c .before .before .before .before .before .before .before .before .before .before .before .before .before .before .before .before .before .before .before .first-at .ensures .most, c .before .before .before .before .before .before .before .before .before .before .before .before .before .before .before .before .before .before .if1 .left), omega (arith, c .before .before .before .before .before .before .before .before .before .before .before .before .before .before .before .before .before .before .before .before .before .before .word .ensures), search needs, omega (arith, c .before .before .before .before .before .before .before .before .before .before .before .before .before .before .before .before .before .before .before .before .before .before .before .pre .4 (c .before .before .before .before .before .before .before .before .before .before .before .before .before .before .before .before .before .before .before .before .before .before .before .args .i)), omega (arith, c .before .before .before .before .before .before .before .before .before .before .before .before .before .before .before .before .before .before .before .before .before .before .before .pre .4 (c .before .before .before .before .before .before .before .before .before .before .before .before .before .before .before .before .before .before .before .first-at .result)))
+
+-- src/lib.rt:79:1
+returns-2 : tie.Need-returns-2
+returns-2 c = (λ half s1 s2 d1 d2 hi. two-swapped (c .before .before .before .before .before .before .before .before .before .before .before .before .before .before .before .before .before .before .before .before .before .before .before .before .args .la .now) (c .before .before .before .before .before .before .before .before .before .before .before .before .before .before .before .before .before .before .before .before .before .before .before .before .args .lb .now) (c .before .before .before .before .before .before .before .before .before .before .before .before .before .before .before .before .before .before .before .before .before .before .before .before .args .ids .now) (c .before .before .before .before .before .before .before .before .before .before .before .before .before .before .before .before .before .before .before .before .before .before .before .before .args .side .now) (c .before .before .before .before .before .before .before .before .before .before .before .before .before .before .before .before .before .before .before .before .before .before .before .before .args .vert .now) half s1 s2 d1 d2 (c .before .before .before .before .before .before .before .before .before .before .before .before .before .before .before .before .before .before .before .before .before .before .before .before .args .lo .now) hi (c .before .before .before .before .before .before .before .before .before .before .before .before .before .before .before .before .before .before .before .before .before .before .before .before .args .w) (c .before .before .before .before .before .before .before .before .before .before .before .before .before .before .before .before .before .before .before .before .before .before .before .before .args .i) (c .before .before .before .before .before .before .before .before .before .before .before .before .before .before .before .before .before .before .before .before .before .before .before .before .args .line) (c .before .before .before .before .before .before .before .before .before .before .before .before .before .before .before .before .before .before .before .before .before .before .before .before .args .x) (c .before .before .before .before .before .before .before .before .before .before .before .before .before .before .before .before .before .before .before .before .before .before .before .word .result) (c .before .before .before .before .before .before .before .before .before .before .before .before .before .before .before .before .before .before .before .before .before .before .before .before .pre .0) (c .before .before .before .before .before .before .before .before .before .before .before .before .before .before .before .before .before .before .before .before .before .before .before .word .ensures .0) (c .before .before .before .before .before .before .before .before .before .before .before .before .before .before .before .before .before .before .before .before .first-at .result) (c .before .before .before .before .before .before .before .before .before .before .before .before .before .before .before .before .before .before .below .result) (c .before .bit .result) (c .before .before .before .before .before .before .before .before .before .before .before .before .before .before .wide .result) (c .before .before .before .before .before .before .before .before .before .before .wide2 .result) (c .before .before .before .before .before .before .before .before .before .before .before .before .before .before .before .before .before .before .before .before .first-at .ensures) (c .before .before .before .before .before .before .before .before .before .before .before .before .before .before .before .before .before .before .before .if1 .left) (c .before .before .before .before .before .before .before .before .before .before .before .before .before .before .before .before .before .before .below .ensures) (c .before .bit .ensures .0) (c .before .before .before .before .before .before .before .before .before .before .before .before .before .before .wide .ensures .0 ∙ c .before .before .before .before .before .before .before .before .before .before .before .before .before .before .before .far .ensures) (c .before .before .before .before .before .before .before .before .before .before .wide2 .ensures .0 ∙ c .before .before .before .before .before .before .before .before .before .before .before .far2 .ensures) _ _ _ _ _ (c .before .before .before .before .before .before .before .before .shorten .ensures) _ refl (sym (c .before .before .before .before .before .before .before .swaps .ensures) ∙ c .before .before .before .before .before .before .if2 .taken) (c .split .ensures), (c .before .before .before .before .before .before .before .before .before .before .before .before .before .before .before .before .before .before .before .before .before .before .before .before .pre .5, c .before .before .before .before .before .before .before .before .before .before .before .before .before .before .before .before .before .before .before .before .before .before .before .before .pre .6, omega arith, omega arith))
+
+-- src/lib.rt:79:1
+returns-3 : tie.Need-returns-3
+returns-3 c = (λ half s1 s2 d1 d2 hi. two-kept (c .before .before .before .before .before .before .before .before .before .before .before .before .before .before .before .before .before .before .before .before .before .before .before .before .args .la .now) (c .before .before .before .before .before .before .before .before .before .before .before .before .before .before .before .before .before .before .before .before .before .before .before .before .args .lb .now) (c .before .before .before .before .before .before .before .before .before .before .before .before .before .before .before .before .before .before .before .before .before .before .before .before .args .ids .now) (c .before .before .before .before .before .before .before .before .before .before .before .before .before .before .before .before .before .before .before .before .before .before .before .before .args .side .now) (c .before .before .before .before .before .before .before .before .before .before .before .before .before .before .before .before .before .before .before .before .before .before .before .before .args .vert .now) half s1 s2 d1 d2 (c .before .before .before .before .before .before .before .before .before .before .before .before .before .before .before .before .before .before .before .before .before .before .before .before .args .lo .now) hi (c .before .before .before .before .before .before .before .before .before .before .before .before .before .before .before .before .before .before .before .before .before .before .before .before .args .w) (c .before .before .before .before .before .before .before .before .before .before .before .before .before .before .before .before .before .before .before .before .before .before .before .before .args .i) (c .before .before .before .before .before .before .before .before .before .before .before .before .before .before .before .before .before .before .before .before .before .before .before .before .args .line) (c .before .before .before .before .before .before .before .before .before .before .before .before .before .before .before .before .before .before .before .before .before .before .before .before .args .x) (c .before .before .before .before .before .before .before .before .before .before .before .before .before .before .before .before .before .before .before .before .before .before .before .word .result) (c .before .before .before .before .before .before .before .before .before .before .before .before .before .before .before .before .before .before .before .before .before .before .before .before .pre .0) (c .before .before .before .before .before .before .before .before .before .before .before .before .before .before .before .before .before .before .before .before .before .before .before .word .ensures .0) (c .before .before .before .before .before .before .before .before .before .before .before .before .before .before .before .before .before .before .before .before .first-at .result) (c .before .before .before .before .before .before .before .before .before .before .before .before .before .before .before .before .before .before .below .result) (c .before .bit2 .result) (c .before .before .before .before .before .before .before .before .before .before .before .before .before .before .wide .result) (c .before .before .before .before .before .before .before .before .before .before .wide2 .result) (c .before .before .before .before .before .before .before .before .before .before .before .before .before .before .before .before .before .before .before .before .first-at .ensures) (c .before .before .before .before .before .before .before .before .before .before .before .before .before .before .before .before .before .before .before .if1 .left) (c .before .before .before .before .before .before .before .before .before .before .before .before .before .before .before .before .before .before .below .ensures) (c .before .bit2 .ensures .0) (c .before .before .before .before .before .before .before .before .before .before .before .before .before .before .wide .ensures .0 ∙ c .before .before .before .before .before .before .before .before .before .before .before .before .before .before .before .far .ensures) (c .before .before .before .before .before .before .before .before .before .before .wide2 .ensures .0 ∙ c .before .before .before .before .before .before .before .before .before .before .before .far2 .ensures) _ _ _ _ _ (c .before .before .before .before .before .before .before .before .shorten .ensures) _ refl (sym (c .before .before .before .before .before .before .before .swaps .ensures) ∙ c .before .before .before .before .before .before .if2 .left) (c .split2 .ensures), (c .before .before .before .before .before .before .before .before .before .before .before .before .before .before .before .before .before .before .before .before .before .before .before .before .pre .5, c .before .before .before .before .before .before .before .before .before .before .before .before .before .before .before .before .before .before .before .before .before .before .before .before .pre .6, omega arith, omega arith))
+
+pub two-ends-spec : {M : Type 1} → statement M
+two-ends-spec =
+    tie.close
+    (tie.spec
+    word-requires
+    add-first-at
+    first-at-requires
+    returns
+    below-requires
+    far-requires
+    wide-requires
+    far-requires-2
+    wide-requires-2
+    shorten-requires
+    swaps-requires
+    mul-split
+    add-split
+    add-split-2
+    bit-requires
+    split-requires
+    mul-split-2
+    add-split-3
+    add-split-4
+    bit-requires-2
+    split-requires-2
+    returns-2
+    returns-3)

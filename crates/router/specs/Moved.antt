@@ -1,0 +1,77 @@
+-- The writes of a step at a corner with one edge make the step.
+-- Assumes what the parts promise.
+use mathlib.Core.Path.{_≡_, refl, ap, _∙_, sym, subst}
+use mathlib.Core.Bool.{Bool, true, false}
+use mathlib.Core.List.{List}
+use mathlib.Core.Logic.{_⊎_, inl, inr}
+use Prim.Native.Nat.{ℕ, _+_, _-_, _*_, _%_, _≤_, _<_}
+use native.Mathlib.Omega.{arith}
+use lib.ListN.{getD, set}
+use Rattle.count.specs.Truth.{eq-or-ne, le-or-lt}
+use Rattle.corner_steps.specs.Scans.{First, seenD}
+use Rattle.corner_steps.specs.Writes.{Moved}
+use Rattle.corner_keeps.specs.Run.{Run, lineR, colR, ulR, nulR, bulR, bulW}
+use Rattle.corner_keeps.specs.Ready.{upN}
+use Rattle.corner_keeps.specs.OneEdge.{rightRun, downRun}
+use Rattle.corner_keeps.specs.Step.{Step, Stuck, FirstR, endR, right, down, no-right, no-down, no-edge, no-line}
+use Rattle.router.specs.declared.Work.{Work}
+use Rattle.router.specs.View.{run, Went, OneEdgeR}
+
+pub seen-low : (o : Bool) (l : ℕ) → l ≤ 31 → seenD o l < 32
+seen-low true l h = omega arith
+seen-low false l h = omega arith
+
+-- the column that the code reads is the array's, if that is one of the frame
+pub column-is : (lo : List ℕ) (line l x : ℕ) → line ≡ l → x ≡ getD lo line 0 % 32 → getD lo l 0 < 32 → x ≡ getD lo l 0
+column-is lo line l x e q h = let z : getD lo line 0 ≡ getD lo l 0 = ap (λ k. getD lo k 0) e in omega arith
+
+module _ (la lb ids side vert half s1 s2 d1 d2 lo hi : List ℕ) (w : Work) (line x end i : ℕ) where
+  abbrev R : Run
+  R = run la lb ids side vert half s1 s2 d1 d2 lo hi w
+
+  abbrev Down : (R' : Run) → Bool → Type 0
+  Down R' b = OneEdgeR R R' line x end i ((w .top < w .bottom) × (end ≤ x)) b
+
+  abbrev Right : (R' : Run) → Bool → Type 0
+  Right R' b = OneEdgeR R R' line x end i (w .bottom ≤ w .top) b
+
+  pub down-empty : (R' : Run) → (x ≡ end → ⊥) → OneEdgeR R R' line x end i ((w .top < w .bottom) × (end ≤ x)) true
+  down-empty R' n el ex ee c F = inr (refl, no-line (inl (omega (arith, n, c .1))))
+
+  pub down-none : (R' : Run) → x ≡ end → w .n ≤ i → OneEdgeR R R' line x end i ((w .top < w .bottom) × (end ≤ x)) true
+  down-none R' e l el ex ee c F = inr (refl, no-down i (sym ex ∙ e ∙ ee) (c .0) F l)
+
+  pub right-deep : (R' : Run) → (w .top ≡ w .bottom → ⊥) → OneEdgeR R R' line x end i (w .bottom ≤ w .top) true
+  right-deep R' n el ex ee c F = inr (refl, no-line (inr (omega (arith, n))))
+
+  pub right-thin : (R' : Run) → w .top ≡ w .bottom → end ≤ x → OneEdgeR R R' line x end i (w .bottom ≤ w .top) true
+  right-thin R' f l el ex ee c F = inr (refl, elim (eq-or-ne x end) [ inl e ↦ no-edge (sym ex ∙ e ∙ ee) f | inr e ↦ no-line (inl (omega (arith, e))) ])
+
+  pub right-none : (R' : Run) → w .top ≡ w .bottom → x < end → w .n ≤ i → OneEdgeR R R' line x end i (w .bottom ≤ w .top) true
+  right-none R' f b l el ex ee c F = inr (refl, no-right i (omega arith) f F l)
+
+  module _ (from to s v : ℕ) (word : from ≡ line * 32 + x) (li : i < w .n) (la' lb' side' vert' lo' : List ℕ) (r : Work) (M : Moved la lb i from to la' lb')
+      (N : (side' ≡ set side from s) × (vert' ≡ set vert from v)) where
+    abbrev R' : Run
+    R' = run la' lb' ids side' vert' half s1 s2 d1 d2 lo' hi r
+
+    from-is : line ≡ lineR R → x ≡ colR R → from ≡ ulR R
+    from-is el ex = word ∙ ap (λ l. l * 32 + x) el ∙ ap (λ c. lineR R * 32 + c) ex
+
+    pub down-done : x ≡ end → (up : ℕ) → up ≡ upN (w .up) → to ≡ bulW (w .up) from → s ≡ 0 → v ≡ 2 * getD ids i 0 + 2 + up → lo' ≡ lo
+        → r ≡ record { top = w .top + 1; bottom = w .bottom; up = w .up; n = w .n; next = w .next; stuck = false }
+        → OneEdgeR R R' line x end i ((w .top < w .bottom) × (end ≤ x)) (r .stuck)
+    down-done e up eu et es ev elo er el ex ee c F = inl (
+      ap (λ (z : Work). z .stuck) er,
+      down i (sym ex ∙ e ∙ ee) (c .0) F li
+          (rw (er, M .0, M .1, N .0, N .1, et, es, ev, eu, elo, from-is el ex)),
+    )
+
+    pub right-done : w .top ≡ w .bottom → x < end → to ≡ from + 1 → s ≡ getD ids i 0 + 1 → v ≡ 0 → lo' ≡ set lo line (x + 1)
+        → r ≡ record { top = w .top; bottom = w .bottom; up = w .up; n = w .n; next = w .next; stuck = false }
+        → OneEdgeR R R' line x end i (w .bottom ≤ w .top) (r .stuck)
+    right-done f b et es ev elo er el ex ee c F = inl (
+      ap (λ (z : Work). z .stuck) er,
+      right i (omega arith) f F li
+          (rw (er, M .0, M .1, N .0, N .1, et, es, ev, elo, from-is el ex, ex, el)),
+    )
