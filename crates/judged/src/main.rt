@@ -1,5 +1,5 @@
 // Judges stored lists of routing words and prints each verdict on a line: "passed" with edges, turns and knock-knees, or "refused" with
-// number and place. Then two comparisons.
+// number and place. Two comparisons stand between them.
 use board::Board;
 use board::Row;
 use board::Vertex;
@@ -91,13 +91,9 @@ fn ring() -> [Place; 64] {
     nets
 }
 
-fn judge_ring(words: &[u32]) {
-    show(judge::judge(rectangle(1, 1), ring(), words));
-}
-
-// The ring's words, and one change of them for each refusal.
-fn ring_lists() {
-    let good: [u32; 9] = [
+// The words of its routing.
+fn ring_words() -> [u32; 9] {
+    [
         1074790401,
         1409286145,
         1075838977,
@@ -107,24 +103,52 @@ fn ring_lists() {
         1077936129,
         1342177281,
         3758096388,
-    ];
-    judge_ring(&good);
-    judge_ring(&good[..0]);
-    let mut kind = good;
-    kind[0] = 268435457;
-    judge_ring(&kind);
-    judge_ring(&good[..8]);
-    let mut off = good;
-    off[1] = 1342177281;
-    judge_ring(&off);
-    let mut again = good;
-    again[3] = 1543503873;
-    judge_ring(&again);
-    let mut missed = good;
-    missed[1] = 1476395009;
-    judge_ring(&missed);
-    show_comparison(judge::compare(rectangle(1, 1), ring(), &good, &good));
-    show_comparison(judge::compare(rectangle(1, 1), ring(), &good, &missed));
+    ]
+}
+
+fn judge_ring(words: &[u32]) {
+    show(judge::judge(rectangle(1, 1), ring(), words));
+}
+
+// The ring's words with the one at index k replaced, if there is one.
+fn changed(k: usize, word: u32) -> [u32; 9] {
+    let mut words = ring_words();
+    if k < 9 {
+        words[k] = word;
+    }
+    words
+}
+
+fn judge_changed(k: usize, word: u32) {
+    let words = changed(k, word);
+    judge_ring(&words);
+}
+
+// The first n of the words.
+fn judge_first(words: &[u32], n: usize) {
+    if n <= words.len() {
+        judge_ring(&words[0..n]);
+    }
+}
+
+fn compare_changed(k: usize, word: u32) {
+    let first = ring_words();
+    let second = changed(k, word);
+    show_comparison(judge::compare(rectangle(1, 1), ring(), &first, &second));
+}
+
+// The ring's words, one change of them for each refusal, and two comparisons.
+fn ring_lists() {
+    let words = ring_words();
+    judge_first(&words, 9);
+    judge_first(&words, 0);
+    judge_changed(0, 268435457);
+    judge_first(&words, 8);
+    judge_changed(1, 1342177281);
+    judge_changed(3, 1543503873);
+    judge_changed(1, 1476395009);
+    compare_changed(9, 0);
+    compare_changed(1, 1476395009);
 }
 
 // Two nets that both turn at (1,1): down, left and left, down.

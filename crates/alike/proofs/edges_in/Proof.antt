@@ -9,10 +9,6 @@ use Rattle.report.specs.Directions.{dirsOf}
 use Rattle.alike.specs.Sizes.{edges-more, edges-none}
 use Rattle.alike.proofs.edges_in.Statement.{statement}
 use Rattle.alike.proofs.edges_in.Tie as tie
-use Rattle.alike.proofs.edges_in.Reads as reads
-use Rattle.alike.proofs.edges_in.Lts as lts
-use Rattle.alike.proofs.wide.Reads as wide-reads
-use Rattle.words.proofs.run_in.Reads as run-in-reads
 
 abbrev Inv-loop : tie.InvT-loop
 Inv-loop runs n₀ k₀ k-end n k = (k ≤ k-end) × (n ≤ 255 * k) × (n + length (dirsOf (drop k runs)) ≡ length (dirsOf runs))
@@ -20,43 +16,33 @@ Inv-loop runs n₀ k₀ k-end n k = (k ≤ k-end) × (n ≤ 255 * k) × (n + len
 abbrev μ-loop : tie.MeasureT-loop
 μ-loop runs n₀ k₀ k-end n k = k-end - k
 
--- src/lib.rt:41:5
 loop-holds : tie.Need-loop-holds Inv-loop μ-loop
 loop-holds c = (omega arith, omega arith, omega arith)
 
--- src/lib.rt:42:33
 mul-run-in : tie.Need-mul-run-in Inv-loop μ-loop
 mul-run-in c = search needs
 
--- src/lib.rt:42:33
 shared-slice-read-run-in : tie.Need-shared-slice-read-run-in Inv-loop μ-loop
 shared-slice-read-run-in c = search needs
 
--- src/lib.rt:42:13
 run-in-requires : tie.Need-run-in-requires Inv-loop μ-loop
 run-in-requires c κs = search needs
 
--- src/lib.rt:43:14
 wide-requires : tie.Need-wide-requires Inv-loop μ-loop
 wide-requires c κs = search needs
 
--- src/lib.rt:43:9
 add-n : tie.Need-add-n Inv-loop μ-loop
 add-n c = omega arith
 
--- src/lib.rt:41:9
 add-k : tie.Need-add-k Inv-loop μ-loop
 add-k c = search needs
 
--- src/lib.rt:41:5
 loop-less : tie.Need-loop-less Inv-loop μ-loop
 loop-less c = search needs
 
--- src/lib.rt:41:5
 loop-again : tie.Need-loop-again Inv-loop μ-loop
 loop-again c = (omega arith, omega arith, omega (arith, edges-more (c .before .before .before .before .before .before .args .runs .now) (c .before .before .before .before .loop .k) (omega arith), c .wide .ensures .0, ap (λ (r : Run). r .length) (c .before .run-in .ensures .0)))
 
--- src/lib.rt:35:1
 returns : tie.Need-returns Inv-loop μ-loop
 returns c = let e = edges-none (c .before .before .before .args .runs .now) (c .before .loop .k) (omega arith) in (omega arith, omega arith)
 

@@ -6,9 +6,6 @@ use Prim.Native.Nat.{_-_, _≤_}
 use Rattle.alike.specs.Sizes.{Comparing, comparing-start, comparing-on, comparing-done}
 use Rattle.alike.proofs.is_alike.Statement.{statement}
 use Rattle.alike.proofs.is_alike.Tie as tie
-use Rattle.alike.proofs.is_alike.Reads as reads
-use Rattle.alike.proofs.is_alike.Lts as lts
-use Rattle.alike.proofs.size_at.Reads as size-at-reads
 
 abbrev Inv-loop : tie.InvT-loop
 Inv-loop first second nets same₀ at₀ by₀ i₀ same at by i = (i ≤ 64) × Comparing nets first second i at by same
@@ -16,39 +13,30 @@ Inv-loop first second nets same₀ at₀ by₀ i₀ same at by i = (i ≤ 64) ×
 abbrev μ-loop : tie.MeasureT-loop
 μ-loop first second nets same₀ at₀ by₀ i₀ same at by i = 64 - i
 
--- src/lib.rt:81:5
 loop-holds : tie.Need-loop-holds Inv-loop μ-loop
 loop-holds c = (omega arith, comparing-start)
 
--- src/lib.rt:82:21
 mul-place : tie.Need-mul-place Inv-loop μ-loop
 mul-place c = search needs
 
--- src/lib.rt:82:21
 array-copy-out-place : tie.Need-array-copy-out-place Inv-loop μ-loop
 array-copy-out-place c = search needs
 
--- src/lib.rt:83:13
 size-at-requires : tie.Need-size-at-requires Inv-loop μ-loop
 size-at-requires c κs = search needs
 
--- src/lib.rt:84:13
 size-at-requires-2 : tie.Need-size-at-requires-2 Inv-loop μ-loop
 size-at-requires-2 c κs = search needs
 
--- src/lib.rt:81:9
 add-i : tie.Need-add-i Inv-loop μ-loop
 add-i c = search needs
 
--- src/lib.rt:81:5
 loop-less : tie.Need-loop-less Inv-loop μ-loop
 loop-less c = search needs
 
--- src/lib.rt:81:5
 loop-again : tie.Need-loop-again Inv-loop μ-loop
 loop-again c = (omega arith, comparing-on (c .before .before .before .before .before .before .loop .inv .1) (omega arith) (c .before .before .before .size-at .ensures) (c .before .before .size-at2 .ensures) refl)
 
--- src/lib.rt:74:1
 returns : tie.Need-returns Inv-loop μ-loop
 returns c = comparing-done (c .before .loop .inv .1) (omega arith)
 

@@ -6,82 +6,58 @@ use Rattle.alike.specs.Sizes.{empty, out, size-path}
 use borrow.Author.Needs.{needs}
 use Rattle.alike.proofs.size_at.Statement.{statement}
 use Rattle.alike.proofs.size_at.Tie as tie
-use Rattle.alike.proofs.size_at.Reads as reads
-use Rattle.alike.proofs.size_at.Lts as lts
-use Rattle.alike.proofs.edges_in.Reads as edges-in-reads
-use Rattle.alike.proofs.long.Reads as long-reads
-use Rattle.walk.proofs.end_of.Reads as end-of-reads
-use Rattle.words.proofs.path_in.Reads as path-in-reads
 
--- src/lib.rt:55:26
 enum-told : tie.Need-enum-told
 enum-told c = search needs
 
--- src/lib.rt:57:16
 enum-told-2 : tie.Need-enum-told-2
 enum-told-2 c = search needs
 
--- src/lib.rt:58:17
 returns : tie.Need-returns
 returns c = out (c .before .enum-told2 .given .0 .0) (c .before .enum-told2 .given .1) (omega arith) refl refl
 
--- src/lib.rt:60:39
 mul-path-in : tie.Need-mul-path-in
 mul-path-in c = search needs
 
--- src/lib.rt:60:39
 shared-slice-read-path-in : tie.Need-shared-slice-read-path-in
 shared-slice-read-path-in c = search needs
 
--- src/lib.rt:60:17
 path-in-requires : tie.Need-path-in-requires
 path-in-requires c κs = search needs
 
--- src/lib.rt:61:17
 long-requires : tie.Need-long-requires
 long-requires c κs = search needs
 
--- src/lib.rt:62:24
 add-from : tie.Need-add-from
 add-from c = search needs
 
--- src/lib.rt:63:17
 end-of-requires : tie.Need-end-of-requires
 end-of-requires c κs = search needs
 
--- src/lib.rt:64:34
 mul-edges-in : tie.Need-mul-edges-in
 mul-edges-in c = search needs
 
--- src/lib.rt:64:34
 sub-edges-in : tie.Need-sub-edges-in
 sub-edges-in c = search needs
 
--- src/lib.rt:64:34
 part-edges-in-start : tie.Need-part-edges-in-start
 part-edges-in-start c = search needs
 
--- src/lib.rt:64:34
 part-edges-in-end : tie.Need-part-edges-in-end
 part-edges-in-end c = search needs
 
--- src/lib.rt:64:17
 edges-in-requires : tie.Need-edges-in-requires
 edges-in-requires c κs = search needs
 
--- src/lib.rt:66:21
 add-t11 : tie.Need-add-t11
 add-t11 c = search needs
 
--- src/lib.rt:67:23
 add-t14 : tie.Need-add-t14
 add-t14 c = search needs
 
--- src/lib.rt:49:1
 returns-2 : tie.Need-returns-2
 returns-2 c = empty (c .enum-told .given .1) refl refl
 
--- src/lib.rt:49:1
 returns-3 : tie.Need-returns-3
 returns-3 c = size-path (c .before .before .before .before .before .before .before .enum-told2 .given .0 .0) (c .before .before .before .before .before .before .before .enum-told2 .given .1) (omega arith) (omega arith) (c .before .before .before .long .ensures .0 ∙ ap (λ (p : Path). p .runs) (c .before .before .before .before .path-in .ensures)) (c .before .before .end-of .ensures .0) (c .edges-in .ensures .0) refl
 

@@ -9,32 +9,22 @@ use Rattle.judge.specs.Verdicts.{shape-stops, shape-lets, walk-decides}
 use borrow.Author.Needs.{needs}
 use Rattle.judge.proofs.check.Statement.{statement}
 use Rattle.judge.proofs.check.Tie as tie
-use Rattle.judge.proofs.check.Reads as reads
-use Rattle.judge.proofs.check.Lts as lts
-use Rattle.shape.proofs.check_shape.Reads as check-shape-reads
-use Rattle.walk.proofs.walk_paths.Reads as walk-paths-reads
 
--- src/lib.rt:35:11
 check-shape-requires : tie.Need-check-shape-requires
 check-shape-requires c κs = search needs
 
--- src/lib.rt:36:26
 enum-known-r : tie.Need-enum-known-r
 enum-known-r c = search needs
 
--- src/lib.rt:38:17
 enum-told : tie.Need-enum-told
 enum-told c = search needs
 
--- src/lib.rt:39:13
 walk-paths-requires : tie.Need-walk-paths-requires
 walk-paths-requires c κs = shape-fits (netsOf (c .before .before .before .before .before .args .nets)) (c .before .before .before .before .before .args .words .now) (shape-lets (netsOf (c .before .before .before .before .before .args .nets)) (c .before .before .before .before .before .args .words .now) (c .before .before .before .check-shape .ensures) (c .before .enum-told .given .1))
 
--- src/lib.rt:31:1
 returns : tie.Need-returns
 returns c = (λ w. shape-stops (boardOf (c .before .before .before .before .before .args .b)) (netsOf (c .before .before .before .before .before .args .nets)) (c .before .before .before .before .before .args .words .now) (c .before .before .before .check-shape .ensures) (c .before .r .given .1), λ e. absurd (let z : _≡_ {A = ℕ} 0 1 = cc in omega arith))
 
--- src/lib.rt:31:1
 returns-2 : tie.Need-returns-2
 returns-2 c = (λ w. walk-decides (shape-lets (netsOf (c .before .before .before .before .before .before .args .nets)) (c .before .before .before .before .before .before .args .words .now) (c .before .before .before .before .check-shape .ensures) (c .before .before .enum-told .given .1)) (c .walk-paths .ensures w), λ e. shape-fits (netsOf (c .before .before .before .before .before .before .args .nets)) (c .before .before .before .before .before .before .args .words .now) (shape-lets (netsOf (c .before .before .before .before .before .before .args .nets)) (c .before .before .before .before .before .before .args .words .now) (c .before .before .before .before .check-shape .ensures) (c .before .before .enum-told .given .1)))
 

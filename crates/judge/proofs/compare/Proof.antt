@@ -3,48 +3,34 @@ use Rattle.judge.specs.Verdicts.{first-refused, second-refused, both-pas
 use borrow.Author.Needs.{needs}
 use Rattle.judge.proofs.compare.Statement.{statement}
 use Rattle.judge.proofs.compare.Tie as tie
-use Rattle.judge.proofs.compare.Reads as reads
-use Rattle.judge.proofs.compare.Lts as lts
-use Rattle.alike.proofs.is_alike.Reads as is-alike-reads
-use Rattle.judge.proofs.check.Reads as check-reads
 
--- src/lib.rt:58:11
 check-requires : tie.Need-check-requires
 check-requires c κs = search needs
 
--- src/lib.rt:59:26
 enum-known-r : tie.Need-enum-known-r
 enum-known-r c = search needs
 
--- src/lib.rt:60:34
 enum-told : tie.Need-enum-told
 enum-told c = search needs
 
--- src/lib.rt:60:34
 check-requires-2 : tie.Need-check-requires-2
 check-requires-2 c κs = search needs
 
--- src/lib.rt:61:30
 enum-known-r-2 : tie.Need-enum-known-r-2
 enum-known-r-2 c = search needs
 
--- src/lib.rt:62:50
 enum-told-2 : tie.Need-enum-told-2
 enum-told-2 c = search needs
 
--- src/lib.rt:62:50
 is-alike-requires : tie.Need-is-alike-requires
 is-alike-requires c κs = (c .before .before .before .before .before .check .ensures .1 (c .before .before .before .enum-told .given .1), c .before .before .check2 .ensures .1 (c .enum-told2 .given .1))
 
--- src/lib.rt:55:1
 returns : tie.Need-returns
 returns c = λ w. first-refused _ (c .before .before .before .check .ensures .0 w) (c .before .r .given .1)
 
--- src/lib.rt:55:1
 returns-2 : tie.Need-returns-2
 returns-2 c = λ w. second-refused (c .before .before .before .before .before .before .check .ensures .0 w) (c .before .before .before .before .enum-told .given .1) (c .before .before .before .check2 .ensures .0 w) (c .before .r2 .given .1)
 
--- src/lib.rt:55:1
 returns-3 : tie.Need-returns-3
 returns-3 c = λ w. both-passed (c .before .before .before .before .before .before .check .ensures .0 w) (c .before .before .before .before .enum-told .given .1) (c .before .before .before .check2 .ensures .0 w) (c .before .enum-told2 .given .1) (c .is-alike .ensures)
 

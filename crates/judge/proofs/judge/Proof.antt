@@ -3,32 +3,22 @@ use Rattle.judge.specs.Verdicts.{verdict-passed, verdict-refused}
 use borrow.Author.Needs.{needs}
 use Rattle.judge.proofs.judge.Statement.{statement}
 use Rattle.judge.proofs.judge.Tie as tie
-use Rattle.judge.proofs.judge.Reads as reads
-use Rattle.judge.proofs.judge.Lts as lts
-use Rattle.judge.proofs.check.Reads as check-reads
-use Rattle.report.proofs.report_of.Reads as report-of-reads
 
--- src/lib.rt:48:11
 check-requires : tie.Need-check-requires
 check-requires c κs = search needs
 
--- src/lib.rt:49:26
 enum-known-r : tie.Need-enum-known-r
 enum-known-r c = search needs
 
--- src/lib.rt:50:44
 enum-told : tie.Need-enum-told
 enum-told c = search needs
 
--- src/lib.rt:50:44
 report-of-requires : tie.Need-report-of-requires
 report-of-requires c κs = c .before .before .check .ensures .1 (c .enum-told .given .1)
 
--- src/lib.rt:45:1
 returns : tie.Need-returns
 returns c = λ w. verdict-refused (c .before .before .before .check .ensures .0 w) (c .before .r .given .1)
 
--- src/lib.rt:45:1
 returns-2 : tie.Need-returns-2
 returns-2 c = λ w. verdict-passed (c .before .before .before .check .ensures .0 w) (c .before .enum-told .given .1) (c .report-of .ensures)
 

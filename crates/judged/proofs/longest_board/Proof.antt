@@ -6,13 +6,6 @@ use Prim.Native.Nat.{_-_, _≤_}
 use lib.ListN.{length, length-set}
 use Rattle.judged.proofs.longest_board.Statement.{statement}
 use Rattle.judged.proofs.longest_board.Tie as tie
-use Rattle.judged.proofs.longest_board.Reads as reads
-use Rattle.judged.proofs.longest_board.Lts as lts
-use Rattle.judge.proofs.judge.Reads as judge-reads
-use Rattle.judged.proofs.no_nets.Reads as no-nets-reads
-use Rattle.judged.proofs.place.Reads as place-reads
-use Rattle.judged.proofs.rectangle.Reads as rectangle-reads
-use Rattle.judged.proofs.show.Reads as show-reads
 
 abbrev Inv-loop : tie.InvT-loop
 Inv-loop nets words₀ k₀ words k = (k ≤ 16) × (length words ≡ 65)
@@ -20,91 +13,69 @@ Inv-loop nets words₀ k₀ words k = (k ≤ 16) × (length words ≡ 65)
 abbrev μ-loop : tie.MeasureT-loop
 μ-loop nets words₀ k₀ words k = 16 - k
 
--- src/main.rt:135:20
 no-nets-requires : tie.Need-no-nets-requires Inv-loop μ-loop
 no-nets-requires c κs = search needs
 
--- src/main.rt:136:15
 place-requires : tie.Need-place-requires Inv-loop μ-loop
 place-requires c κs = search needs
 
--- src/main.rt:136:5
 array-set-from-nets : tie.Need-array-set-from-nets Inv-loop μ-loop
 array-set-from-nets c = search needs
 
--- src/main.rt:138:5
 array-write-words : tie.Need-array-write-words Inv-loop μ-loop
 array-write-words c = search needs
 
--- src/main.rt:139:5
 array-write-words-2 : tie.Need-array-write-words-2 Inv-loop μ-loop
 array-write-words-2 c = search needs
 
--- src/main.rt:140:5
 loop-holds : tie.Need-loop-holds Inv-loop μ-loop
 loop-holds c = (omega arith, search needs)
 
--- src/main.rt:141:15
 mul-words : tie.Need-mul-words Inv-loop μ-loop
 mul-words c = search needs
 
--- src/main.rt:141:15
 add-words : tie.Need-add-words Inv-loop μ-loop
 add-words c = search needs
 
--- src/main.rt:141:9
 mul-words-2 : tie.Need-mul-words-2 Inv-loop μ-loop
 mul-words-2 c = search needs
 
--- src/main.rt:141:9
 array-write-words-3 : tie.Need-array-write-words-3 Inv-loop μ-loop
 array-write-words-3 c = omega arith
 
--- src/main.rt:142:15
 mul-words-3 : tie.Need-mul-words-3 Inv-loop μ-loop
 mul-words-3 c = search needs
 
--- src/main.rt:142:15
 add-words-2 : tie.Need-add-words-2 Inv-loop μ-loop
 add-words-2 c = search needs
 
--- src/main.rt:142:9
 mul-words-4 : tie.Need-mul-words-4 Inv-loop μ-loop
 mul-words-4 c = search needs
 
--- src/main.rt:142:9
 array-write-words-4 : tie.Need-array-write-words-4 Inv-loop μ-loop
 array-write-words-4 c = omega arith
 
--- src/main.rt:140:9
 add-k : tie.Need-add-k Inv-loop μ-loop
 add-k c = search needs
 
--- src/main.rt:140:5
 loop-less : tie.Need-loop-less Inv-loop μ-loop
 loop-less c = search needs
 
--- src/main.rt:140:5
 loop-again : tie.Need-loop-again Inv-loop μ-loop
 loop-again c = (omega arith, simp length-set (omega arith))
 
--- src/main.rt:144:23
 rectangle-requires : tie.Need-rectangle-requires Inv-loop μ-loop
 rectangle-requires c κs = search needs
 
--- src/main.rt:144:48
 slice-aggregate-judge : tie.Need-slice-aggregate-judge Inv-loop μ-loop
 slice-aggregate-judge c = search needs
 
--- src/main.rt:144:10
 judge-requires : tie.Need-judge-requires Inv-loop μ-loop
 judge-requires c κs = search needs
 
--- src/main.rt:144:5
 show-requires : tie.Need-show-requires Inv-loop μ-loop
 show-requires c κs = search needs
 
--- src/main.rt:134:1
 returns : tie.Need-returns Inv-loop μ-loop
 returns c = search needs
 

@@ -8,10 +8,6 @@ use Rattle.report.specs.Traces.{knots}
 use Rattle.report.specs.Knots.{knots-more, knots-none}
 use Rattle.report.proofs.count_knots.Statement.{statement}
 use Rattle.report.proofs.count_knots.Tie as tie
-use Rattle.report.proofs.count_knots.Reads as reads
-use Rattle.report.proofs.count_knots.Lts as lts
-use Rattle.board.proofs.bit.Reads as bit-reads
-use Rattle.report.proofs.wide.Reads as wide-reads
 
 abbrev Inv-loop : tie.InvT-loop
 Inv-loop marks n₀ i₀ n i = (i ≤ 1024) × (n ≤ i) × (n + knots (drop i marks) ≡ knots marks)
@@ -19,39 +15,30 @@ Inv-loop marks n₀ i₀ n i = (i ≤ 1024) × (n ≤ i) × (n + knots (drop i m
 abbrev μ-loop : tie.MeasureT-loop
 μ-loop marks n₀ i₀ n i = 1024 - i
 
--- src/lib.rt:160:5
 loop-holds : tie.Need-loop-holds Inv-loop μ-loop
 loop-holds c = (omega arith, omega arith, omega arith)
 
--- src/lib.rt:161:30
 array-read-bit : tie.Need-array-read-bit Inv-loop μ-loop
 array-read-bit c = search needs
 
--- src/lib.rt:161:19
 bit-requires : tie.Need-bit-requires Inv-loop μ-loop
 bit-requires c κs = search needs
 
--- src/lib.rt:161:14
 wide-requires : tie.Need-wide-requires Inv-loop μ-loop
 wide-requires c κs = search needs
 
--- src/lib.rt:161:9
 add-n : tie.Need-add-n Inv-loop μ-loop
 add-n c = search needs
 
--- src/lib.rt:160:9
 add-i : tie.Need-add-i Inv-loop μ-loop
 add-i c = search needs
 
--- src/lib.rt:160:5
 loop-less : tie.Need-loop-less Inv-loop μ-loop
 loop-less c = search needs
 
--- src/lib.rt:160:5
 loop-again : tie.Need-loop-again Inv-loop μ-loop
 loop-again c = (omega arith, omega arith, omega (arith, knots-more (c .before .before .before .before .args .t1) (c .before .before .before .loop .i) (omega arith), c .before .bit .ensures .0, c .wide .ensures .0))
 
--- src/lib.rt:155:1
 returns : tie.Need-returns Inv-loop μ-loop
 returns c = let e = knots-none (c .before .before .args .t1) (c .before .loop .i) (omega arith) in (omega arith, omega arith)
 

@@ -3,14 +3,10 @@ use mathlib.Core.Path.{refl}
 use borrow.Author.Tests.{lt-ltb, le-ltb}
 use Rattle.report.proofs.last_after.Statement.{statement}
 use Rattle.report.proofs.last_after.Tie as tie
-use Rattle.report.proofs.last_after.Reads as reads
-use Rattle.report.proofs.last_after.Lts as lts
 
--- src/lib.rt:64:1
 returns : tie.Need-returns
 returns c = rw (lt-ltb _ _ (c .if1 .taken)) refl
 
--- src/lib.rt:64:1
 returns-2 : tie.Need-returns-2
 returns-2 c = rw (le-ltb _ _ (c .if1 .left)) refl
 

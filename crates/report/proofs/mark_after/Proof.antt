@@ -3,18 +3,13 @@ use mathlib.Core.Path.{refl}
 use borrow.Author.Tests.{eq-eqb, ne-eqb}
 use Rattle.report.proofs.mark_after.Statement.{statement}
 use Rattle.report.proofs.mark_after.Tie as tie
-use Rattle.report.proofs.mark_after.Reads as reads
-use Rattle.report.proofs.mark_after.Lts as lts
 
--- src/lib.rt:124:9
 returns : tie.Need-returns
 returns c = rw (eq-eqb _ _ (c .if1 .taken)) refl
 
--- src/lib.rt:127:9
 returns-2 : tie.Need-returns-2
 returns-2 c = rw (ne-eqb _ _ (c .before .if1 .left), eq-eqb _ _ (c .if2 .taken)) refl
 
--- src/lib.rt:120:1
 returns-3 : tie.Need-returns-3
 returns-3 c = rw (ne-eqb _ _ (c .before .if1 .left), ne-eqb _ _ (c .if2 .left)) refl
 

@@ -6,46 +6,33 @@ use Rattle.report.specs.Traces.{markAt}
 use borrow.Author.Needs.{needs}
 use Rattle.report.proofs.mark_at.Statement.{statement}
 use Rattle.report.proofs.mark_at.Tie as tie
-use Rattle.report.proofs.mark_at.Reads as reads
-use Rattle.report.proofs.mark_at.Lts as lts
-use Rattle.report.proofs.index.Reads as index-reads
-use Rattle.report.proofs.mark_after.Reads as mark-after-reads
 
--- src/lib.rt:138:28
 mul-index : tie.Need-mul-index
 mul-index c = search needs
 
--- src/lib.rt:138:28
 add-index : tie.Need-add-index
 add-index c = search needs
 
--- src/lib.rt:138:17
 index-requires : tie.Need-index-requires
 index-requires c κs = search needs
 
--- src/lib.rt:139:36
 element-copy-out-mark-after : tie.Need-element-copy-out-mark-after
 element-copy-out-mark-after c = search needs
 
--- src/lib.rt:139:25
 mark-after-requires : tie.Need-mark-after-requires
 mark-after-requires c κs = search needs
 
--- src/lib.rt:139:13
 element-write-marks : tie.Need-element-write-marks
 element-write-marks c = search needs
 
--- src/lib.rt:133:1
 returns : tie.Need-returns
 unfolding markAt
 returns c = rw (lt-ltb _ _ (c .before .before .before .before .if1 .taken), lt-ltb _ _ (c .before .before .before .if2 .taken), c .mark-after .ensures, c .before .before .index .ensures) refl
 
--- src/lib.rt:133:1
 returns-2 : tie.Need-returns-2
 unfolding markAt
 returns-2 c = rw (lt-ltb _ _ (c .before .if1 .taken), le-ltb _ _ (c .if2 .left)) refl
 
--- src/lib.rt:133:1
 returns-3 : tie.Need-returns-3
 unfolding markAt
 returns-3 c = rw (le-ltb _ _ (c .if1 .left)) refl

@@ -5,25 +5,17 @@ use Rattle.report.specs.Traces.{markRun}
 use borrow.Author.Needs.{needs}
 use Rattle.report.proofs.mark_run.Statement.{statement}
 use Rattle.report.proofs.mark_run.Tie as tie
-use Rattle.report.proofs.mark_run.Reads as reads
-use Rattle.report.proofs.mark_run.Lts as lts
-use Rattle.report.proofs.mark_at.Reads as mark-at-reads
-use Rattle.report.proofs.turn_by.Reads as turn-by-reads
 
--- src/lib.rt:149:8
 turn-by-requires : tie.Need-turn-by-requires
 turn-by-requires c κs = search needs
 
--- src/lib.rt:150:9
 mark-at-requires : tie.Need-mark-at-requires
 mark-at-requires c κs = search needs
 
--- src/lib.rt:145:1
 returns : tie.Need-returns
 unfolding markRun
 returns c = rw (eq-eqb _ _ (sym (c .before .before .before .turn-by .ensures .0) ∙ c .before .before .if1 .taken)) (c .mark-at .ensures)
 
--- src/lib.rt:145:1
 returns-2 : tie.Need-returns-2
 unfolding markRun
 returns-2 c = rw (ne-eqb _ _ (λ e. c .if1 .left (c .before .turn-by .ensures .0 ∙ e))) refl

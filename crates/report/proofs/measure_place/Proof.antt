@@ -6,86 +6,61 @@ use Rattle.report.specs.Paths.{place-none, place-out, place-on}
 use borrow.Author.Needs.{needs}
 use Rattle.report.proofs.measure_place.Statement.{statement}
 use Rattle.report.proofs.measure_place.Tie as tie
-use Rattle.report.proofs.measure_place.Reads as reads
-use Rattle.report.proofs.measure_place.Lts as lts
-use Rattle.report.proofs.long.Reads as long-reads
-use Rattle.report.proofs.measure_path.Reads as measure-path-reads
-use Rattle.walk.proofs.end_of.Reads as end-of-reads
-use Rattle.words.proofs.path_in.Reads as path-in-reads
 
--- src/lib.rt:223:26
 enum-told : tie.Need-enum-told
 enum-told c = search needs
 
--- src/lib.rt:224:20
 enum-known-held : tie.Need-enum-known-held
 enum-known-held c = search needs
 
--- src/lib.rt:227:17
 returns : tie.Need-returns
 returns c = rw (c .before .before .held .given .1) (place-out (omega arith), omega arith)
 
--- src/lib.rt:229:39
 mul-path-in : tie.Need-mul-path-in
 mul-path-in c = search needs
 
--- src/lib.rt:229:39
 shared-slice-read-path-in : tie.Need-shared-slice-read-path-in
 shared-slice-read-path-in c = search needs
 
--- src/lib.rt:229:17
 path-in-requires : tie.Need-path-in-requires
 path-in-requires c κs = search needs
 
--- src/lib.rt:230:17
 long-requires : tie.Need-long-requires
 long-requires c κs = search needs
 
--- src/lib.rt:231:24
 add-from : tie.Need-add-from
 add-from c = search needs
 
--- src/lib.rt:232:17
 end-of-requires : tie.Need-end-of-requires
 end-of-requires c κs = search needs
 
--- src/lib.rt:233:54
 mul-measure-path : tie.Need-mul-measure-path
 mul-measure-path c = search needs
 
--- src/lib.rt:233:54
 sub-measure-path : tie.Need-sub-measure-path
 sub-measure-path c = search needs
 
--- src/lib.rt:233:54
 part-measure-path-start : tie.Need-part-measure-path-start
 part-measure-path-start c = search needs
 
--- src/lib.rt:233:54
 part-measure-path-end : tie.Need-part-measure-path-end
 part-measure-path-end c = search needs
 
--- src/lib.rt:233:17
 measure-path-requires : tie.Need-measure-path-requires
 measure-path-requires c κs = search needs
 
--- src/lib.rt:235:21
 add-t15 : tie.Need-add-t15
 add-t15 c = omega arith
 
--- src/lib.rt:236:24
 add-t18 : tie.Need-add-t18
 add-t18 c = omega arith
 
--- src/lib.rt:237:24
 add-t24 : tie.Need-add-t24
 add-t24 c = omega (arith, c .before .before .before .before .before .before .before .before .before .before .before .before .before .before .before .before .pre .1 .1, c .before .before .before .before .measure-path .ensures .1 .1)
 
--- src/lib.rt:215:1
 returns-2 : tie.Need-returns-2
 returns-2 c = rw (c .enum-told .given .1) (place-none, omega arith)
 
--- src/lib.rt:215:1
 returns-3 : tie.Need-returns-3
 returns-3 c = rw (c .before .before .before .before .before .before .before .before .before .before .before .before .before .held .given .1) (place-on (omega arith) (omega arith) (c .before .before .before .before .before .before .before .before .long .ensures .0 ∙ ap (λ (p : Path). p .runs) (c .before .before .before .before .before .before .before .before .before .path-in .ensures)) (c .before .before .before .before .before .before .before .end-of .ensures .0) (c .before .before .before .before .measure-path .ensures .0) refl, omega arith)
 

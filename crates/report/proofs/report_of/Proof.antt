@@ -7,10 +7,6 @@ use Rattle.report.specs.Codes.{says-none}
 use Rattle.report.specs.Paths.{Measuring, measuring-start, measuring-on, measuring-done}
 use Rattle.report.proofs.report_of.Statement.{statement}
 use Rattle.report.proofs.report_of.Tie as tie
-use Rattle.report.proofs.report_of.Reads as reads
-use Rattle.report.proofs.report_of.Lts as lts
-use Rattle.report.proofs.count_knots.Reads as count-knots-reads
-use Rattle.report.proofs.measure_place.Reads as measure-place-reads
 
 abbrev Inv-loop : tie.InvT-loop
 Inv-loop words nets marks₀ sum₀ i₀ marks sum i = (i ≤ 64) × (sum .edges ≤ 600000 * i) × (sum .turns ≤ 600000 * i) × Measuring nets words marks₀ i sum marks
@@ -18,47 +14,36 @@ Inv-loop words nets marks₀ sum₀ i₀ marks sum i = (i ≤ 64) × (sum .edges
 abbrev μ-loop : tie.MeasureT-loop
 μ-loop words nets marks₀ sum₀ i₀ marks sum i = 64 - i
 
--- src/lib.rt:250:5
 loop-holds : tie.Need-loop-holds Inv-loop μ-loop
 loop-holds c = (omega arith, omega arith, omega arith, measuring-start)
 
--- src/lib.rt:251:29
 mul-measure-place : tie.Need-mul-measure-place Inv-loop μ-loop
 mul-measure-place c = search needs
 
--- src/lib.rt:251:29
 array-copy-out-measure-place : tie.Need-array-copy-out-measure-place Inv-loop μ-loop
 array-copy-out-measure-place c = search needs
 
--- src/lib.rt:251:39
 add-measure-place : tie.Need-add-measure-place Inv-loop μ-loop
 add-measure-place c = search needs
 
--- src/lib.rt:251:38
 cast-measure-place : tie.Need-cast-measure-place Inv-loop μ-loop
 cast-measure-place c = search needs
 
--- src/lib.rt:251:9
 measure-place-requires : tie.Need-measure-place-requires Inv-loop μ-loop
 measure-place-requires c κs = (omega arith, omega arith)
 
--- src/lib.rt:250:9
 add-i : tie.Need-add-i Inv-loop μ-loop
 add-i c = search needs
 
--- src/lib.rt:250:5
 loop-less : tie.Need-loop-less Inv-loop μ-loop
 loop-less c = search needs
 
--- src/lib.rt:250:5
 loop-again : tie.Need-loop-again Inv-loop μ-loop
 loop-again c = (omega arith, omega arith, omega arith, measuring-on (c .before .before .before .before .loop .inv .3) (omega arith) (omega arith) (omega arith) (c .measure-place .ensures .0))
 
--- src/lib.rt:256:17
 count-knots-requires : tie.Need-count-knots-requires Inv-loop μ-loop
 count-knots-requires c κs = search needs
 
--- src/lib.rt:244:1
 returns : tie.Need-returns Inv-loop μ-loop
 returns c = measuring-done (c .before .before .loop .inv .3) (omega arith) (omega arith) says-none (c .count-knots .ensures .0)
 

@@ -5,43 +5,28 @@ use Rattle.report.specs.Traces.{traceRun}
 use borrow.Author.Needs.{needs}
 use Rattle.report.proofs.trace_run.Statement.{statement}
 use Rattle.report.proofs.trace_run.Tie as tie
-use Rattle.report.proofs.trace_run.Reads as reads
-use Rattle.report.proofs.trace_run.Lts as lts
-use Rattle.report.proofs.column_after.Reads as column-after-reads
-use Rattle.report.proofs.last_after.Reads as last-after-reads
-use Rattle.report.proofs.line_after.Reads as line-after-reads
-use Rattle.report.proofs.turn_by.Reads as turn-by-reads
-use Rattle.report.proofs.wide.Reads as wide-reads
 
--- src/lib.rt:109:9
 wide-requires : tie.Need-wide-requires
 wide-requires c κs = search needs
 
--- src/lib.rt:111:15
 line-after-requires : tie.Need-line-after-requires
 line-after-requires c κs = search needs
 
--- src/lib.rt:112:17
 column-after-requires : tie.Need-column-after-requires
 column-after-requires c κs = search needs
 
--- src/lib.rt:113:15
 last-after-requires : tie.Need-last-after-requires
 last-after-requires c κs = search needs
 
--- src/lib.rt:114:16
 add-t9 : tie.Need-add-t9
 add-t9 c = search needs
 
--- src/lib.rt:115:26
 turn-by-requires : tie.Need-turn-by-requires
 turn-by-requires c κs = search needs
 
--- src/lib.rt:115:16
 add-t11 : tie.Need-add-t11
 add-t11 c = search needs
 
--- src/lib.rt:102:1
 returns : tie.Need-returns
 unfolding traceRun
 returns c = (rw (c .before .before .before .before .before .line-after .ensures .0, c .before .before .before .before .column-after .ensures .0, c .before .before .before .last-after .ensures, c .before .turn-by .ensures .0, c .before .before .before .before .before .before .wide .ensures .0) refl, record { line = omega arith; column = omega arith; edges = omega arith; turns = omega arith })

@@ -4,24 +4,16 @@ use Rattle.shape.specs.Whole.{shape-bad, shape-good, count-fits}
 use borrow.Author.Needs.{needs}
 use Rattle.shape.proofs.check_shape.Statement.{statement}
 use Rattle.shape.proofs.check_shape.Tie as tie
-use Rattle.shape.proofs.check_shape.Reads as reads
-use Rattle.shape.proofs.check_shape.Lts as lts
-use Rattle.shape.proofs.check_words.Reads as check-words-reads
-use Rattle.shape.proofs.count_nets.Reads as count-nets-reads
 
--- src/lib.rt:203:27
 count-nets-requires : tie.Need-count-nets-requires
 count-nets-requires c κs = search needs
 
--- src/lib.rt:203:9
 check-words-requires : tie.Need-check-words-requires
 check-words-requires c κs = count-fits (c .before .before .before .args .words .now) (c .before .if1 .left)
 
--- src/lib.rt:196:1
 returns : tie.Need-returns
 returns c = shape-bad _ _ (c .if1 .taken)
 
--- src/lib.rt:196:1
 returns-2 : tie.Need-returns-2
 returns-2 c = rw (shape-good (netsOf (c .before .before .before .before .args .nets)) (c .before .before .before .before .args .words .now) (c .before .before .if1 .left), ← c .before .count-nets .ensures) (c .check-words .ensures)
 

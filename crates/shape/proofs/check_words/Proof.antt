@@ -6,11 +6,6 @@ use Prim.Native.Nat.{_-_, _≤_}
 use Rattle.shape.specs.Moves.{Stands, stands-first, stands-wrong, stands-same, stands-taken, stands-end}
 use Rattle.shape.proofs.check_words.Statement.{statement}
 use Rattle.shape.proofs.check_words.Tie as tie
-use Rattle.shape.proofs.check_words.Reads as reads
-use Rattle.shape.proofs.check_words.Lts as lts
-use Rattle.shape.proofs.at_end.Reads as at-end-reads
-use Rattle.shape.proofs.move_to.Reads as move-to-reads
-use Rattle.shape.proofs.next_after.Reads as next-after-reads
 
 abbrev Inv-loop : tie.InvT-loop
 Inv-loop nets all words due₀ next₀ i₀ i-end due next i = (i ≤ i-end) × Stands all nets words due next i
@@ -18,59 +13,45 @@ Inv-loop nets all words due₀ next₀ i₀ i-end due next i = (i ≤ i-end) × 
 abbrev μ-loop : tie.MeasureT-loop
 μ-loop nets all words due₀ next₀ i₀ i-end due next i = i-end - i
 
--- src/lib.rt:177:9
 next-after-requires : tie.Need-next-after-requires Inv-loop μ-loop
 next-after-requires c κs = search needs
 
--- src/lib.rt:178:5
 loop-holds : tie.Need-loop-holds Inv-loop μ-loop
 loop-holds c = (omega arith, stands-first (c .next-after .ensures))
 
--- src/lib.rt:179:39
 mul-move-to : tie.Need-mul-move-to Inv-loop μ-loop
 mul-move-to c = search needs
 
--- src/lib.rt:179:39
 shared-slice-read-move-to : tie.Need-shared-slice-read-move-to Inv-loop μ-loop
 shared-slice-read-move-to c = search needs
 
--- src/lib.rt:179:15
 move-to-requires : tie.Need-move-to-requires Inv-loop μ-loop
 move-to-requires c κs = search needs
 
--- src/lib.rt:180:25
 enum-known-number : tie.Need-enum-known-number Inv-loop μ-loop
 enum-known-number c = search needs
 
--- src/lib.rt:181:66
 cast-t16 : tie.Need-cast-t16 Inv-loop μ-loop
 cast-t16 c = search needs
 
--- src/lib.rt:181:17
 returns : tie.Need-returns Inv-loop μ-loop
 returns c = stands-wrong (c .before .before .before .before .before .before .loop .inv .1) (omega arith) (c .before .before .before .move-to .ensures) (c .before .number .given .1)
 
--- src/lib.rt:183:24
 enum-known-d : tie.Need-enum-known-d Inv-loop μ-loop
 enum-known-d c = search needs
 
--- src/lib.rt:186:25
 enum-known-d-2 : tie.Need-enum-known-d-2 Inv-loop μ-loop
 enum-known-d-2 c = search needs
 
--- src/lib.rt:188:17
 next-after-requires-2 : tie.Need-next-after-requires-2 Inv-loop μ-loop
 next-after-requires-2 c κs = search needs
 
--- src/lib.rt:178:9
 add-i : tie.Need-add-i Inv-loop μ-loop
 add-i c = search needs
 
--- src/lib.rt:178:5
 loop-less : tie.Need-loop-less Inv-loop μ-loop
 loop-less c = search needs
 
--- src/lib.rt:178:5
 loop-again : tie.Need-loop-again Inv-loop μ-loop
 loop-again c = (
   omega arith,
@@ -80,15 +61,12 @@ loop-again c = (
       (c .match .came),
 )
 
--- src/lib.rt:192:12
 cast-at-end : tie.Need-cast-at-end Inv-loop μ-loop
 cast-at-end c = search needs
 
--- src/lib.rt:192:5
 at-end-requires : tie.Need-at-end-requires Inv-loop μ-loop
 at-end-requires c κs = search needs
 
--- src/lib.rt:172:1
 returns-2 : tie.Need-returns-2 Inv-loop μ-loop
 returns-2 c = stands-end (c .before .before .loop .inv .1) (omega arith) (c .at-end .ensures)
 

@@ -8,9 +8,6 @@ use Rattle.places.specs.Places.{netsFrom, netsOf}
 use Rattle.shape.specs.Moves.{nets-none, length-more, length-first}
 use Rattle.shape.proofs.count_nets.Statement.{statement}
 use Rattle.shape.proofs.count_nets.Tie as tie
-use Rattle.shape.proofs.count_nets.Reads as reads
-use Rattle.shape.proofs.count_nets.Lts as lts
-use Rattle.shape.proofs.held_one.Reads as held-one-reads
 
 abbrev Inv-loop : tie.InvT-loop
 Inv-loop nets n₀ i₀ n i = (i ≤ 64) × (n ≤ i) × (n + length (netsFrom (suc i) (drop i nets)) ≡ length (netsOf nets))
@@ -18,39 +15,30 @@ Inv-loop nets n₀ i₀ n i = (i ≤ 64) × (n ≤ i) × (n + length (netsFrom (
 abbrev μ-loop : tie.MeasureT-loop
 μ-loop nets n₀ i₀ n i = 64 - i
 
--- src/lib.rt:66:5
 loop-holds : tie.Need-loop-holds Inv-loop μ-loop
 loop-holds c = (omega arith, omega arith, omega (arith, length-first (c .args .t1)))
 
--- src/lib.rt:67:23
 mul-held-one : tie.Need-mul-held-one Inv-loop μ-loop
 mul-held-one c = search needs
 
--- src/lib.rt:67:23
 array-copy-out-held-one : tie.Need-array-copy-out-held-one Inv-loop μ-loop
 array-copy-out-held-one c = search needs
 
--- src/lib.rt:67:14
 held-one-requires : tie.Need-held-one-requires Inv-loop μ-loop
 held-one-requires c κs = search needs
 
--- src/lib.rt:67:9
 add-n : tie.Need-add-n Inv-loop μ-loop
 add-n c = omega arith
 
--- src/lib.rt:66:9
 add-i : tie.Need-add-i Inv-loop μ-loop
 add-i c = search needs
 
--- src/lib.rt:66:5
 loop-less : tie.Need-loop-less Inv-loop μ-loop
 loop-less c = search needs
 
--- src/lib.rt:66:5
 loop-again : tie.Need-loop-again Inv-loop μ-loop
 loop-again c = (omega arith, omega arith, omega (arith, c .held-one .ensures .0, length-more (c .before .before .before .before .args .t1) (c .before .before .before .loop .i) (omega arith)))
 
--- src/lib.rt:62:1
 returns : tie.Need-returns Inv-loop μ-loop
 returns c = let at = c .before .loop in let nets = c .before .before .args .t1 in
     let l : length (netsFrom (suc (at .i)) (drop (at .i) nets)) ≡ 0 = ap length (nets-none nets (at .i) (omega arith)) in

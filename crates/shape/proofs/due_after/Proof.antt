@@ -3,18 +3,13 @@ use Rattle.shape.specs.Moves.{after-some}
 use borrow.Author.Needs.{needs}
 use Rattle.shape.proofs.due_after.Statement.{statement}
 use Rattle.shape.proofs.due_after.Tie as tie
-use Rattle.shape.proofs.due_after.Reads as reads
-use Rattle.shape.proofs.due_after.Lts as lts
 
--- src/lib.rt:93:21
 sub-t5 : tie.Need-sub-t5
 sub-t5 c = search needs
 
--- src/lib.rt:87:1
 returns : tie.Need-returns
 returns c = search needs
 
--- src/lib.rt:87:1
 returns-2 : tie.Need-returns-2
 returns-2 c = after-some (c .before .args .n) (c .before .args .last) (c .if1 .left)
 

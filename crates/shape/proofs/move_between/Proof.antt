@@ -4,51 +4,37 @@ use Rattle.shape.specs.declared.Move.the-variants as move
 use borrow.Author.Needs.{needs}
 use Rattle.shape.proofs.move_between.Statement.{statement}
 use Rattle.shape.proofs.move_between.Tie as tie
-use Rattle.shape.proofs.move_between.Reads as reads
-use Rattle.shape.proofs.move_between.Lts as lts
-use Rattle.shape.proofs.due_after.Reads as due-after-reads
 
--- src/lib.rt:111:27
 enum-known-w : tie.Need-enum-known-w
 enum-known-w c = search needs
 
--- src/lib.rt:113:29
 due-after-requires : tie.Need-due-after-requires
 due-after-requires c κs = search needs
 
--- src/lib.rt:118:26
 enum-known-w-2 : tie.Need-enum-known-w-2
 enum-known-w-2 c = search needs
 
--- src/lib.rt:125:32
 enum-told : tie.Need-enum-told
 enum-told c = search needs
 
--- src/lib.rt:126:33
 enum-told-2 : tie.Need-enum-told-2
 enum-told-2 c = search needs
 
--- src/lib.rt:107:1
 returns : tie.Need-returns
 returns c = rw (c .before .before .before .before .w .given .1, c .before .if1 .taken) (ap move.Taken (c .due-after .ensures))
 
--- src/lib.rt:107:1
 returns-2 : tie.Need-returns-2
 returns-2 c = rw (c .before .before .before .w .given .1, c .if1 .left) refl
 
--- src/lib.rt:107:1
 returns-3 : tie.Need-returns-3
 returns-3 c = rw (c .before .before .w2 .given .1, c .if2 .taken) refl
 
--- src/lib.rt:107:1
 returns-4 : tie.Need-returns-4
 returns-4 c = rw (c .before .before .w2 .given .1, c .if2 .left) refl
 
--- src/lib.rt:107:1
 returns-5 : tie.Need-returns-5
 returns-5 c = search needs
 
--- src/lib.rt:107:1
 returns-6 : tie.Need-returns-6
 returns-6 c = search needs
 

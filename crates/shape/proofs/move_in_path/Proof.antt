@@ -4,52 +4,37 @@ use Rattle.shape.specs.declared.Move.the-variants as move
 use borrow.Author.Needs.{needs}
 use Rattle.shape.proofs.move_in_path.Statement.{statement}
 use Rattle.shape.proofs.move_in_path.Tie as tie
-use Rattle.shape.proofs.move_in_path.Reads as reads
-use Rattle.shape.proofs.move_in_path.Lts as lts
-use Rattle.shape.proofs.due_after.Reads as due-after-reads
-use Rattle.shape.proofs.is_repeated.Reads as is-repeated-reads
 
--- src/lib.rt:135:26
 enum-known-w : tie.Need-enum-known-w
 enum-known-w c = search needs
 
--- src/lib.rt:137:36
 is-repeated-requires : tie.Need-is-repeated-requires
 is-repeated-requires c κs = search needs
 
--- src/lib.rt:140:28
 due-after-requires : tie.Need-due-after-requires
 due-after-requires c κs = search needs
 
--- src/lib.rt:143:33
 enum-told : tie.Need-enum-told
 enum-told c = search needs
 
--- src/lib.rt:144:32
 enum-told-2 : tie.Need-enum-told-2
 enum-told-2 c = search needs
 
--- src/lib.rt:145:33
 enum-told-3 : tie.Need-enum-told-3
 enum-told-3 c = search needs
 
--- src/lib.rt:131:1
 returns : tie.Need-returns
 returns c = rw (c .before .before .before .before .w .given .1, ← c .before .is-repeated .ensures, c .if1 .taken) refl
 
--- src/lib.rt:131:1
 returns-2 : tie.Need-returns-2
 returns-2 c = rw (c .before .before .before .before .before .w .given .1, ← c .before .before .is-repeated .ensures, c .before .if1 .left) (ap move.Same (c .due-after .ensures))
 
--- src/lib.rt:131:1
 returns-3 : tie.Need-returns-3
 returns-3 c = search needs
 
--- src/lib.rt:131:1
 returns-4 : tie.Need-returns-4
 returns-4 c = search needs
 
--- src/lib.rt:131:1
 returns-5 : tie.Need-returns-5
 returns-5 c = search needs
 

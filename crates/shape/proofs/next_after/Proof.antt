@@ -9,9 +9,6 @@ use Rattle.shape.specs.States.{at-end}
 use Rattle.shape.specs.Moves.{nets-none, nets-skip, starts-here}
 use Rattle.shape.proofs.next_after.Statement.{statement}
 use Rattle.shape.proofs.next_after.Tie as tie
-use Rattle.shape.proofs.next_after.Reads as reads
-use Rattle.shape.proofs.next_after.Lts as lts
-use Rattle.shape.proofs.held_one.Reads as held-one-reads
 
 abbrev Inv-loop : tie.InvT-loop
 Inv-loop number nets i₀ i = netsFrom (suc i) (drop i nets) ≡ netsFrom (suc i₀) (drop i₀ nets)
@@ -19,47 +16,36 @@ Inv-loop number nets i₀ i = netsFrom (suc i) (drop i nets) ≡ netsFrom (suc i
 abbrev μ-loop : tie.MeasureT-loop
 μ-loop number nets i₀ i = 64 - i
 
--- src/lib.rt:77:5
 loop-holds : tie.Need-loop-holds Inv-loop μ-loop
 loop-holds c = refl
 
--- src/lib.rt:78:26
 cast-held-one : tie.Need-cast-held-one Inv-loop μ-loop
 cast-held-one c = search needs
 
--- src/lib.rt:78:21
 mul-held-one : tie.Need-mul-held-one Inv-loop μ-loop
 mul-held-one c = search needs
 
--- src/lib.rt:78:21
 array-copy-out-held-one : tie.Need-array-copy-out-held-one Inv-loop μ-loop
 array-copy-out-held-one c = search needs
 
--- src/lib.rt:78:12
 held-one-requires : tie.Need-held-one-requires Inv-loop μ-loop
 held-one-requires c κs = search needs
 
--- src/lib.rt:79:20
 add-result : tie.Need-add-result Inv-loop μ-loop
 add-result c = omega arith
 
--- src/lib.rt:79:13
 returns : tie.Need-returns Inv-loop μ-loop
 returns c = rw (← c .before .before .before .before .loop .inv) (starts-here (c .before .before .before .before .before .args .t1) (c .before .before .before .before .loop .i) (omega arith) (sym (c .before .held-one .ensures .0) ∙ c .if1 .taken))
 
--- src/lib.rt:81:9
 add-i : tie.Need-add-i Inv-loop μ-loop
 add-i c = search needs
 
--- src/lib.rt:77:5
 loop-less : tie.Need-loop-less Inv-loop μ-loop
 loop-less c = search needs
 
--- src/lib.rt:77:5
 loop-again : tie.Need-loop-again Inv-loop μ-loop
 loop-again c = sym (nets-skip (c .before .before .before .before .before .args .t1) (c .before .before .before .before .loop .i) (omega arith) (λ e. c .if1 .left (c .before .held-one .ensures .0 ∙ e))) ∙ c .before .before .before .before .loop .inv
 
--- src/lib.rt:73:1
 returns-2 : tie.Need-returns-2 Inv-loop μ-loop
 returns-2 c = rw (← c .before .loop .inv, nets-none (c .before .before .args .t1) (c .before .loop .i) (omega arith)) at-end
 

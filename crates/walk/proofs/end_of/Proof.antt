@@ -5,18 +5,13 @@ use native.Mathlib.Omega.{arith}
 use borrow.Author.Needs.{needs}
 use Rattle.walk.proofs.end_of.Statement.{statement}
 use Rattle.walk.proofs.end_of.Tie as tie
-use Rattle.walk.proofs.end_of.Reads as reads
-use Rattle.walk.proofs.end_of.Lts as lts
 
--- src/lib.rt:147:14
 add-to : tie.Need-add-to
 add-to c = search needs
 
--- src/lib.rt:141:1
 returns : tie.Need-returns
 returns c = (inl refl, omega arith)
 
--- src/lib.rt:141:1
 returns-2 : tie.Need-returns-2
 returns-2 c = (inr (refl, omega arith), omega arith)
 

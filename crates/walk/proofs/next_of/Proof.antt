@@ -3,56 +3,40 @@ use native.Mathlib.Omega.{arith}
 use borrow.Author.Needs.{needs}
 use Rattle.walk.proofs.next_of.Statement.{statement}
 use Rattle.walk.proofs.next_of.Tie as tie
-use Rattle.walk.proofs.next_of.Reads as reads
-use Rattle.walk.proofs.next_of.Lts as lts
-use Rattle.walk.proofs.after.Reads as after-reads
-use Rattle.walk.proofs.before.Reads as before-reads
 
--- src/lib.rt:65:41
 enum-told : tie.Need-enum-told
 enum-told c = search needs
 
--- src/lib.rt:65:41
 before-requires : tie.Need-before-requires
 before-requires c κs = search needs
 
--- src/lib.rt:66:60
 enum-told-2 : tie.Need-enum-told-2
 enum-told-2 c = search needs
 
--- src/lib.rt:66:60
 after-requires : tie.Need-after-requires
 after-requires c κs = search needs
 
--- src/lib.rt:67:43
 enum-told-3 : tie.Need-enum-told-3
 enum-told-3 c = search needs
 
--- src/lib.rt:67:43
 after-requires-2 : tie.Need-after-requires-2
 after-requires-2 c κs = search needs
 
--- src/lib.rt:68:59
 enum-told-4 : tie.Need-enum-told-4
 enum-told-4 c = search needs
 
--- src/lib.rt:68:59
 before-requires-2 : tie.Need-before-requires-2
 before-requires-2 c κs = search needs
 
--- src/lib.rt:61:1
 returns : tie.Need-returns
 returns c = λ h k. cc
 
--- src/lib.rt:61:1
 returns-2 : tie.Need-returns-2
 returns-2 c = λ h k. cc (c .after .ensures (omega arith))
 
--- src/lib.rt:61:1
 returns-3 : tie.Need-returns-3
 returns-3 c = λ h k. cc (c .after2 .ensures (omega arith))
 
--- src/lib.rt:61:1
 returns-4 : tie.Need-returns-4
 returns-4 c = λ h k. cc
 

@@ -3,72 +3,52 @@ use native.Mathlib.Omega.{arith}
 use borrow.Author.Needs.{needs}
 use Rattle.walk.proofs.slot_of.Statement.{statement}
 use Rattle.walk.proofs.slot_of.Tie as tie
-use Rattle.walk.proofs.slot_of.Reads as reads
-use Rattle.walk.proofs.slot_of.Lts as lts
-use Rattle.walk.proofs.before.Reads as before-reads
-use Rattle.walk.proofs.corner_of.Reads as corner-of-reads
 
--- src/lib.rt:85:36
 enum-told : tie.Need-enum-told
 enum-told c = search needs
 
--- src/lib.rt:85:36
 before-requires : tie.Need-before-requires
 before-requires c κs = search needs
 
--- src/lib.rt:85:26
 corner-of-requires : tie.Need-corner-of-requires
 corner-of-requires c κs = search needs
 
--- src/lib.rt:85:26
 add-result : tie.Need-add-result
 add-result c = search needs
 
--- src/lib.rt:86:29
 enum-told-2 : tie.Need-enum-told-2
 enum-told-2 c = search needs
 
--- src/lib.rt:86:29
 corner-of-requires-2 : tie.Need-corner-of-requires-2
 corner-of-requires-2 c κs = search needs
 
--- src/lib.rt:87:28
 enum-told-3 : tie.Need-enum-told-3
 enum-told-3 c = search needs
 
--- src/lib.rt:87:28
 corner-of-requires-3 : tie.Need-corner-of-requires-3
 corner-of-requires-3 c κs = search needs
 
--- src/lib.rt:87:28
 add-result-2 : tie.Need-add-result-2
 add-result-2 c = search needs
 
--- src/lib.rt:88:46
 enum-told-4 : tie.Need-enum-told-4
 enum-told-4 c = search needs
 
--- src/lib.rt:88:46
 before-requires-2 : tie.Need-before-requires-2
 before-requires-2 c κs = search needs
 
--- src/lib.rt:88:28
 corner-of-requires-4 : tie.Need-corner-of-requires-4
 corner-of-requires-4 c κs = search needs
 
--- src/lib.rt:80:1
 returns : tie.Need-returns
 returns c = (cc, omega arith)
 
--- src/lib.rt:80:1
 returns-2 : tie.Need-returns-2
 returns-2 c = (cc, omega arith)
 
--- src/lib.rt:80:1
 returns-3 : tie.Need-returns-3
 returns-3 c = (cc, omega arith)
 
--- src/lib.rt:80:1
 returns-4 : tie.Need-returns-4
 returns-4 c = (cc, omega arith)
 

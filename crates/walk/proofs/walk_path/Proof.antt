@@ -8,11 +8,6 @@ use Rattle.board.specs.View.{boardOf}
 use Rattle.walk.specs.Paths.{Runs, runs-start, runs-on, path-passed, path-missed, path-refused}
 use Rattle.walk.proofs.walk_path.Statement.{statement}
 use Rattle.walk.proofs.walk_path.Tie as tie
-use Rattle.walk.proofs.walk_path.Reads as reads
-use Rattle.walk.proofs.walk_path.Lts as lts
-use Rattle.net.proofs.same_vertex.Reads as same-vertex-reads
-use Rattle.walk.proofs.walk_run.Reads as walk-run-reads
-use Rattle.words.proofs.run_in.Reads as run-in-reads
 
 abbrev Inv-loop : tie.InvT-loop
 Inv-loop b ends index runs used₀ v₀ at₀ k₀ k-end used v at k = (k ≤ k-end) × (at ≡ index + k) × (Within (boardOf b) → Runs (boardOf b) index runs (ends .first) used₀ k v used)
@@ -20,63 +15,48 @@ Inv-loop b ends index runs used₀ v₀ at₀ k₀ k-end used v at k = (k ≤ k-
 abbrev μ-loop : tie.MeasureT-loop
 μ-loop b ends index runs used₀ v₀ at₀ k₀ k-end used v at k = k-end - k
 
--- src/lib.rt:122:5
 loop-holds : tie.Need-loop-holds Inv-loop μ-loop
 loop-holds c = (omega arith, omega arith, λ w. runs-start)
 
--- src/lib.rt:123:9
 add-at : tie.Need-add-at Inv-loop μ-loop
 add-at c = search needs
 
--- src/lib.rt:124:41
 mul-run-in : tie.Need-mul-run-in Inv-loop μ-loop
 mul-run-in c = search needs
 
--- src/lib.rt:124:41
 shared-slice-read-run-in : tie.Need-shared-slice-read-run-in Inv-loop μ-loop
 shared-slice-read-run-in c = search needs
 
--- src/lib.rt:124:27
 run-in-requires : tie.Need-run-in-requires Inv-loop μ-loop
 run-in-requires c κs = search needs
 
--- src/lib.rt:124:15
 walk-run-requires : tie.Need-walk-run-requires Inv-loop μ-loop
 walk-run-requires c κs = search needs
 
--- src/lib.rt:125:24
 enum-known-u : tie.Need-enum-known-u Inv-loop μ-loop
 enum-known-u c = search needs
 
--- src/lib.rt:128:29
 enum-known-number : tie.Need-enum-known-number Inv-loop μ-loop
 enum-known-number c = search needs
 
--- src/lib.rt:129:17
 returns : tie.Need-returns Inv-loop μ-loop
 returns c = λ w. path-refused (c .before .before .before .before .before .before .before .before .loop .inv .2 w) (omega arith) (c .before .before .before .before .before .run-in .ensures .0) (c .before .before .before .walk-run .ensures w) (c .before .number .given .1) (omega arith)
 
--- src/lib.rt:122:9
 add-k : tie.Need-add-k Inv-loop μ-loop
 add-k c = search needs
 
--- src/lib.rt:122:5
 loop-less : tie.Need-loop-less Inv-loop μ-loop
 loop-less c = search needs
 
--- src/lib.rt:122:5
 loop-again : tie.Need-loop-again Inv-loop μ-loop
 loop-again c = (omega arith, omega arith, λ w. runs-on (c .before .before .before .before .before .before .before .before .loop .inv .2 w) (omega arith) (c .before .before .before .before .before .run-in .ensures .0) (c .before .before .before .walk-run .ensures w) (c .before .u .given .1))
 
--- src/lib.rt:133:8
 same-vertex-requires : tie.Need-same-vertex-requires Inv-loop μ-loop
 same-vertex-requires c κs = search needs
 
--- src/lib.rt:116:1
 returns-2 : tie.Need-returns-2 Inv-loop μ-loop
 returns-2 c = λ w. path-passed (c .before .before .before .loop .inv .2 w) (omega arith) (sym (c .before .same-vertex .ensures) ∙ c .if1 .taken)
 
--- src/lib.rt:116:1
 returns-3 : tie.Need-returns-3 Inv-loop μ-loop
 returns-3 c = λ w. path-missed (c .before .before .before .loop .inv .2 w) (omega arith) (sym (c .before .same-vertex .ensures) ∙ c .if1 .left) refl
 

@@ -7,9 +7,6 @@ use Rattle.board.specs.View.{boardOf}
 use Rattle.walk.specs.Paths.{Paths, paths-start, paths-on, paths-refused, paths-done}
 use Rattle.walk.proofs.walk_paths.Statement.{statement}
 use Rattle.walk.proofs.walk_paths.Tie as tie
-use Rattle.walk.proofs.walk_paths.Reads as reads
-use Rattle.walk.proofs.walk_paths.Lts as lts
-use Rattle.walk.proofs.walk_place.Reads as walk-place-reads
 
 abbrev Inv-loop : tie.InvT-loop
 Inv-loop b words used₀ nets at₀ i₀ used at i = (i ≤ 64) × (Within (boardOf b) → Paths (boardOf b) nets words used₀ i at used)
@@ -17,47 +14,36 @@ Inv-loop b words used₀ nets at₀ i₀ used at i = (i ≤ 64) × (Within (boar
 abbrev μ-loop : tie.MeasureT-loop
 μ-loop b words used₀ nets at₀ i₀ used at i = 64 - i
 
--- src/lib.rt:181:5
 loop-holds : tie.Need-loop-holds Inv-loop μ-loop
 loop-holds c = (omega arith, λ w. paths-start)
 
--- src/lib.rt:182:29
 mul-walk-place : tie.Need-mul-walk-place Inv-loop μ-loop
 mul-walk-place c = search needs
 
--- src/lib.rt:182:29
 array-copy-out-walk-place : tie.Need-array-copy-out-walk-place Inv-loop μ-loop
 array-copy-out-walk-place c = search needs
 
--- src/lib.rt:182:15
 walk-place-requires : tie.Need-walk-place-requires Inv-loop μ-loop
 walk-place-requires c κs = search needs
 
--- src/lib.rt:183:24
 enum-known-n : tie.Need-enum-known-n Inv-loop μ-loop
 enum-known-n c = search needs
 
--- src/lib.rt:186:29
 enum-known-r : tie.Need-enum-known-r Inv-loop μ-loop
 enum-known-r c = search needs
 
--- src/lib.rt:187:17
 returns : tie.Need-returns Inv-loop μ-loop
 returns c = λ w. paths-refused (c .before .before .before .before .before .before .before .loop .inv .1 w) (omega arith) (c .before .before .before .walk-place .ensures w) (c .before .r .given .1)
 
--- src/lib.rt:181:9
 add-i : tie.Need-add-i Inv-loop μ-loop
 add-i c = search needs
 
--- src/lib.rt:181:5
 loop-less : tie.Need-loop-less Inv-loop μ-loop
 loop-less c = search needs
 
--- src/lib.rt:181:5
 loop-again : tie.Need-loop-again Inv-loop μ-loop
 loop-again c = (omega arith, λ w. paths-on (c .before .before .before .before .before .before .before .loop .inv .1 w) (omega arith) (c .before .before .before .walk-place .ensures w) (c .before .n .given .1))
 
--- src/lib.rt:176:1
 returns-2 : tie.Need-returns-2 Inv-loop μ-loop
 returns-2 c = λ w. paths-done (c .before .loop .inv .1 w) (omega arith)
 

@@ -6,94 +6,67 @@ use Rattle.walk.specs.Paths.{place-none, place-out, place-on, place-refu
 use borrow.Author.Needs.{needs}
 use Rattle.walk.proofs.walk_place.Statement.{statement}
 use Rattle.walk.proofs.walk_place.Tie as tie
-use Rattle.walk.proofs.walk_place.Reads as reads
-use Rattle.walk.proofs.walk_place.Lts as lts
-use Rattle.walk.proofs.end_of.Reads as end-of-reads
-use Rattle.walk.proofs.walk_path.Reads as walk-path-reads
-use Rattle.walk.proofs.wider.Reads as wider-reads
-use Rattle.words.proofs.path_in.Reads as path-in-reads
 
--- src/lib.rt:158:26
 enum-told : tie.Need-enum-told
 enum-told c = search needs
 
--- src/lib.rt:159:20
 enum-known-held : tie.Need-enum-known-held
 enum-known-held c = search needs
 
--- src/lib.rt:161:17
 returns : tie.Need-returns
 returns c = λ w. rw (c .before .before .held .given .1) (place-out (omega arith))
 
--- src/lib.rt:163:39
 mul-path-in : tie.Need-mul-path-in
 mul-path-in c = search needs
 
--- src/lib.rt:163:39
 shared-slice-read-path-in : tie.Need-shared-slice-read-path-in
 shared-slice-read-path-in c = search needs
 
--- src/lib.rt:163:17
 path-in-requires : tie.Need-path-in-requires
 path-in-requires c κs = search needs
 
--- src/lib.rt:164:17
 wider-requires : tie.Need-wider-requires
 wider-requires c κs = search needs
 
--- src/lib.rt:165:24
 add-from : tie.Need-add-from
 add-from c = search needs
 
--- src/lib.rt:166:17
 end-of-requires : tie.Need-end-of-requires
 end-of-requires c κs = omega arith
 
--- src/lib.rt:167:38
 cast-walk-path : tie.Need-cast-walk-path
 cast-walk-path c = search needs
 
--- src/lib.rt:167:49
 mul-walk-path : tie.Need-mul-walk-path
 mul-walk-path c = search needs
 
--- src/lib.rt:167:49
 sub-walk-path : tie.Need-sub-walk-path
 sub-walk-path c = search needs
 
--- src/lib.rt:167:49
 part-walk-path-start : tie.Need-part-walk-path-start
 part-walk-path-start c = search needs
 
--- src/lib.rt:167:49
 part-walk-path-end : tie.Need-part-walk-path-end
 part-walk-path-end c = search needs
 
--- src/lib.rt:167:19
 walk-path-requires : tie.Need-walk-path-requires
 walk-path-requires c κs = search needs
 
--- src/lib.rt:168:47
 enum-told-2 : tie.Need-enum-told-2
 enum-told-2 c = search needs
 
--- src/lib.rt:168:47
 add-t26 : tie.Need-add-t26
 add-t26 c = search needs
 
--- src/lib.rt:169:34
 enum-known-r : tie.Need-enum-known-r
 enum-known-r c = search needs
 
--- src/lib.rt:152:1
 returns-2 : tie.Need-returns-2
 returns-2 c = λ w. rw (c .enum-told .given .1) place-none
 
--- src/lib.rt:152:1
 returns-3 : tie.Need-returns-3
 returns-3 c = λ w. rw (c .before .before .before .before .before .before .before .before .before .before .before .held .given .1) (place-on (omega arith) (omega arith) (c .before .before .before .before .before .before .wider .ensures .0 ∙ ap (λ (p : Path). p .runs) (c .before .before .before .before .before .before .before .path-in .ensures)) (c .before .before .before .before .before .end-of .ensures .0) (c .before .before .walk-path .ensures w) (c .enum-told2 .given .1))
 
--- src/lib.rt:152:1
 returns-4 : tie.Need-returns-4
 returns-4 c = λ w. rw (c .before .before .before .before .before .before .before .before .before .before .before .before .held .given .1) (place-refused (omega arith) (omega arith) (c .before .before .before .before .before .before .before .wider .ensures .0 ∙ ap (λ (p : Path). p .runs) (c .before .before .before .before .before .before .before .before .path-in .ensures)) (c .before .before .before .before .before .before .end-of .ensures .0) (c .before .before .before .walk-path .ensures w) (c .before .r .given .1))
 

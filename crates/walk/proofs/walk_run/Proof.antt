@@ -8,11 +8,6 @@ use Rattle.board.specs.View.{boardOf}
 use Rattle.walk.specs.Steps.{Along, along-start, along-off, along-again, along-on, along-done, vertex-near}
 use Rattle.walk.proofs.walk_run.Statement.{statement}
 use Rattle.walk.proofs.walk_run.Tie as tie
-use Rattle.walk.proofs.walk_run.Reads as reads
-use Rattle.walk.proofs.walk_run.Lts as lts
-use Rattle.board.proofs.is_edge.Reads as is-edge-reads
-use Rattle.walk.proofs.next_of.Reads as next-of-reads
-use Rattle.walk.proofs.slot_of.Reads as slot-of-reads
 
 abbrev Inv-loop : tie.InvT-loop
 Inv-loop b used₀ d left₀ v₀ used left v = Within (boardOf b) → Along (boardOf b) d left₀ v₀ used₀ left v used
@@ -20,51 +15,39 @@ Inv-loop b used₀ d left₀ v₀ used left v = Within (boardOf b) → Along (bo
 abbrev μ-loop : tie.MeasureT-loop
 μ-loop b used₀ d left₀ v₀ used left v = left
 
--- src/lib.rt:99:5
 loop-holds : tie.Need-loop-holds Inv-loop μ-loop
 loop-holds c = λ w. along-start
 
--- src/lib.rt:100:13
 is-edge-requires : tie.Need-is-edge-requires Inv-loop μ-loop
 is-edge-requires c κs = search needs
 
--- src/lib.rt:101:13
 returns : tie.Need-returns Inv-loop μ-loop
 returns c = λ w. along-off (c .before .before .before .loop .inv w) (c .before .before .loop-test .taken) (sym (c .before .is-edge .ensures .same) ∙ not-true _ (c .if1 .taken))
 
--- src/lib.rt:103:13
 slot-of-requires : tie.Need-slot-of-requires Inv-loop μ-loop
 slot-of-requires c κs = search needs
 
--- src/lib.rt:104:16
 element-copy-out-if2 : tie.Need-element-copy-out-if2 Inv-loop μ-loop
 element-copy-out-if2 c = omega arith
 
--- src/lib.rt:105:13
 returns-2 : tie.Need-returns-2 Inv-loop μ-loop
 returns-2 c = λ w. along-again w (c .before .before .before .before .before .before .loop .inv w) (c .before .before .before .before .before .loop-test .taken) (sym (c .before .before .before .before .is-edge .ensures .same) ∙ not-false _ (c .before .before .before .if1 .left)) (c .before .before .slot-of .ensures .0) (c .if2 .taken)
 
--- src/lib.rt:107:9
 element-write-used : tie.Need-element-write-used Inv-loop μ-loop
 element-write-used c = omega arith
 
--- src/lib.rt:108:9
 next-of-requires : tie.Need-next-of-requires Inv-loop μ-loop
 next-of-requires c κs = search needs
 
--- src/lib.rt:109:9
 sub-left : tie.Need-sub-left Inv-loop μ-loop
 sub-left c = omega arith
 
--- src/lib.rt:99:5
 loop-less : tie.Need-loop-less Inv-loop μ-loop
 loop-less c = omega arith
 
--- src/lib.rt:99:5
 loop-again : tie.Need-loop-again Inv-loop μ-loop
 loop-again c = λ w. let near = vertex-near _ w _ _ (sym (c .before .before .before .before .before .is-edge .ensures .same) ∙ not-false _ (c .before .before .before .before .if1 .left)) in along-on w (c .before .before .before .before .before .before .before .loop .inv w) (c .before .before .before .before .before .before .loop-test .taken) (sym (c .before .before .before .before .before .is-edge .ensures .same) ∙ not-false _ (c .before .before .before .before .if1 .left)) (c .before .before .before .slot-of .ensures .0) (c .before .if2 .left) (c .next-of .ensures (near .0) (near .1))
 
--- src/lib.rt:93:1
 returns-3 : tie.Need-returns-3 Inv-loop μ-loop
 returns-3 c = λ w. along-done (c .before .loop .inv w) (c .loop-test .left)
 

@@ -5,27 +5,19 @@ use mathlib.Core.Path.{refl, ap, sym, _∙_}
 use borrow.Author.Needs.{needs}
 use Rattle.words.proofs.as_path.Statement.{statement}
 use Rattle.words.proofs.as_path.Tie as tie
-use Rattle.words.proofs.as_path.Reads as reads
-use Rattle.words.proofs.as_path.Lts as lts
-use Rattle.words.proofs.pack_path.Reads as pack-path-reads
-use Rattle.words.proofs.path_in.Reads as path-in-reads
 
--- src/lib.rt:214:9
 path-in-requires : tie.Need-path-in-requires
 path-in-requires c κs = search needs
 
--- src/lib.rt:215:8
 pack-path-requires : tie.Need-pack-path-requires
 pack-path-requires c κs = search needs
 
--- src/lib.rt:211:1
 returns : tie.Need-returns
 unfolding asPath
 returns c =
     let w = c .before .before .before .args .w in
     rw (c .before .before .path-in .ensures, eq-eqb (pathWord (pathIn w)) w (ap pathWord (sym (c .before .before .path-in .ensures)) ∙ (sym (c .before .pack-path .ensures) ∙ c .if1 .taken))) refl
 
--- src/lib.rt:211:1
 returns-2 : tie.Need-returns-2
 unfolding asPath
 returns-2 c =

@@ -5,27 +5,19 @@ use mathlib.Core.Path.{refl, ap, sym, _∙_}
 use borrow.Author.Needs.{needs}
 use Rattle.words.proofs.as_run.Statement.{statement}
 use Rattle.words.proofs.as_run.Tie as tie
-use Rattle.words.proofs.as_run.Reads as reads
-use Rattle.words.proofs.as_run.Lts as lts
-use Rattle.words.proofs.pack_run.Reads as pack-run-reads
-use Rattle.words.proofs.run_in.Reads as run-in-reads
 
--- src/lib.rt:236:9
 run-in-requires : tie.Need-run-in-requires
 run-in-requires c κs = search needs
 
--- src/lib.rt:237:8
 pack-run-requires : tie.Need-pack-run-requires
 pack-run-requires c κs = search needs
 
--- src/lib.rt:233:1
 returns : tie.Need-returns
 unfolding asRun
 returns c =
     let w = c .before .before .before .args .w in
     rw (c .before .before .run-in .ensures .0, eq-eqb (runWord (runIn w)) w (ap runWord (sym (c .before .before .run-in .ensures .0)) ∙ (sym (c .before .pack-run .ensures) ∙ c .if1 .taken))) refl
 
--- src/lib.rt:233:1
 returns-2 : tie.Need-returns-2
 unfolding asRun
 returns-2 c =
