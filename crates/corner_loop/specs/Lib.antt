@@ -1,0 +1,3 @@
+pub mod Tidy
+pub mod TidyLaws
+pub mod Start
