@@ -411,7 +411,7 @@ fn go_right(
 }
 
 // The corner is cut off.
-fn step(
+pub fn step(
     la: &mut [u16; 2112],
     lb: &mut [u16; 2112],
     ids: &mut [u16; 2112],

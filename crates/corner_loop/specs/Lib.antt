@@ -1,0 +1,5 @@
+pub mod Tidy
+pub mod TidyLaws
+pub mod Start
+pub mod Fewer
+pub mod Pass
