@@ -1,2 +1,3 @@
 pub mod Promise
 pub mod Loop
+pub mod Routed
