@@ -1,0 +1,3 @@
+pub mod Promise
+pub mod Loop
+pub mod Routed
