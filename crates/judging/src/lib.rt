@@ -1,7 +1,7 @@
 // Judging and comparing lists of routing words against a session, given as words or as bytes.
 ghost use mathlib.Core.Path.{_≡_};
 ghost use Rattle.session.specs.View.{sessionOf};
-ghost use Rattle.calls.specs.Judge.{judgeWords, compareWords};
+ghost use Rattle.calls.specs.Judge.{judgeWords, compareWords, judgeBytes};
 ghost use Rattle.judging.specs.Answers.{judgementOf, likenessOf};
 use judge::Comparison;
 use judge::Verdict;
@@ -52,4 +52,27 @@ pub fn compare_words(s: Session, first: &[u32], second: &[u32]) -> Likeness
         Comparison::Alike(alike) => Likeness::Alike(alike),
         Comparison::Refused(list, refusal) => Likeness::Refused(list, refusal),
     }
+}
+
+// The same of bytes: 10 where their count is no multiple of 4.
+pub fn judge_bytes(s: Session, bytes: &[u8]) -> Judgement
+    ensures { λ r. ⌜ judgementOf r ≡ judgeBytes (sessionOf s) (now (bytes .entry)) ⌝ }
+{
+    if !s.sound() {
+        return Judgement::Unsound;
+    }
+    let size = bytes.len();
+    if size % 4 != 0 {
+        return Judgement::UnevenBytes;
+    }
+    let n = size / 4;
+    if 2049 < n {
+        return Judgement::Refused(Refusal {
+            number: 41,
+            place: 0,
+        });
+    }
+    let mut words = [0u32; 2049];
+    octets::fill_words(bytes, n, &mut words);
+    judge_words(s, &words[..n])
 }

@@ -6,7 +6,7 @@ use Prim.Native.Nat.{ℕ, zero, suc, _+_, _*_, _/_, _^_, _≤_, _<_}
 use native.Mathlib.Numerals.{add-one}
 use native.Mathlib.Omega.{arith}
 use lib.ListN.{length, getD, set, take, drop, length-append, length-drop}
-use lib.Seq.{take-suc, drop-cons, set-at, length-take-le}
+use lib.Seq.{take-suc, take-all, take-at, drop-cons, set-at, length-take-le}
 use Rattle.words.specs.Bytes.{wordsIn}
 
 abbrev pub wordAt : List ℕ → ℕ → ℕ
@@ -51,3 +51,10 @@ pub filled-length : (bs out before : List ℕ) (i : ℕ) → 4 * i ≤ length bs
 filled-length bs out before i h k e =
     let m : length (take i (wordsIn bs)) ≡ i = length-take-le i (wordsIn bs) (omega (arith, words-length bs)) in
     omega (arith, ap length e, length-append (take i (wordsIn bs)) (drop i before), length-drop i before)
+
+-- where n is the count of the words, they are all in the buffer
+pub all-words : (bs before after : List ℕ) (n : ℕ) → n ≡ length bs / 4 → FilledWith bs n before after → take n after ≡ wordsIn bs
+all-words bs before after n e F =
+    let l : length (wordsIn bs) ≡ n = words-length bs ∙ sym e in
+    let w : take n (wordsIn bs) ≡ wordsIn bs = take-all n (wordsIn bs) (omega arith) in
+    rw (F .buffer, w) (take-at (wordsIn bs) (drop n before) n l)

@@ -8,8 +8,7 @@ use mathlib.Core.Option.{Option, none, some}
 use Prim.Native.Nat.{ℕ, zero, suc, _-_, _/_, _%_, _<_}
 use native.Mathlib.Omega.{arith}
 use lib.Dec.{eqb, ltb}
-use lib.ListN.{length, replicate, take, drop}
-use lib.Seq.{take-all, take-at}
+use lib.ListN.{length, replicate, take}
 use borrow.Author.Tests.{eq-eqb, ne-eqb, lt-ltb}
 use Rattle.count.specs.Truth.{or-right}
 use Rattle.board.specs.Board.{Board, noRow}
@@ -29,7 +28,7 @@ use Rattle.session.specs.declared.Session as code
 use Rattle.calls.specs.Result.{Result, no, yes, andThen, unless}
 use Rattle.calls.specs.Reading.{Taken, nothingTaken, takeWords, addListed, reverse, boardIn, readNets, readTaken, readWords, readBytes, badLength, handedBack}
 use Rattle.words.specs.Bytes.{wordsIn}
-use Rattle.octets.specs.Words.{words-length, FilledWith}
+use Rattle.octets.specs.Words.{words-length, all-words, FilledWith}
 use Rattle.scan.specs.Follows.{Follows, count-is}
 use Rattle.scan.specs.Promise.{takeAll, ScanPromise}
 use Rattle.scan.specs.declared.Scanned.{Scanned}
@@ -176,8 +175,4 @@ module _ (bs : List ℕ) where
 
   -- the words in the buffer are all of them
   pub bytes-words : (before after : List ℕ) (n : ℕ) → length bs % 4 ≡ 0 → n ≡ length bs / 4 → FilledWith bs n before after → readBytes bs ≡ readWords (take n after)
-  bytes-words before after n h e F =
-      let l : length (wordsIn bs) ≡ n = words-length bs ∙ sym e in
-      let w : take n (wordsIn bs) ≡ wordsIn bs = take-all n (wordsIn bs) (omega arith) in
-      let t : take n after ≡ wordsIn bs = rw (F .buffer, w) (take-at (wordsIn bs) (drop n before) n l) in
-      bytes-even h ∙ ap readWords (sym t)
+  bytes-words before after n h e F = bytes-even h ∙ ap readWords (sym (all-words bs before after n e F))
