@@ -44,6 +44,33 @@ fn reads(words: &[u32]) {
     }
 }
 
+// The same of bytes.
+fn reads_bytes(bytes: &[u8]) {
+    let r = reading::read_bytes(bytes);
+    let answer = r.answer;
+    match answer {
+        ReadAnswer::Accepted => {
+            let s = r.session;
+            written(s);
+        }
+        ReadAnswer::Refused(kind, place) => refused(kind as u64, place as u64),
+    }
+}
+
+// The blank session written into a buffer.
+fn writes(out: &mut [u32]) {
+    let answer = writing::write_board(session::blank(), out);
+    match answer {
+        WriteAnswer::Written(n) => {
+            io::write_all(1, b"written");
+            number(n as u64);
+            io::write_all(1, b"\n");
+        }
+        WriteAnswer::Unsound => refused(20, 0),
+        WriteAnswer::ShortBuffer => refused(18, 0),
+    }
+}
+
 fn judges(board: &[u32], words: &[u32]) {
     let r = reading::read_words(board);
     let s = r.session;
@@ -88,6 +115,84 @@ fn judges_corners(words: &[u32]) {
 // Its board with one net alone.
 fn judges_alone(words: &[u32]) {
     judges(&[0x10000002, 0x10000002, 0x20100422, 0xF0000201], words);
+}
+
+// 10: counts of bytes that are no multiple of 4; then the words of the bytes.
+fn bytes() {
+    reads_bytes(&[1]);
+    reads_bytes(&[1, 2]);
+    reads_bytes(&[1, 2, 3]);
+    reads_bytes(&[1, 0, 0, 16, 9]);
+    reads_bytes(
+        &[
+            1,
+            0,
+            0,
+            16,
+            1,
+            0,
+            16,
+            32,
+            33,
+            4,
+            32,
+            32,
+            32,
+            132,
+            48,
+            32,
+            0,
+            128,
+            64,
+            32,
+            4,
+            1,
+            0,
+        ],
+    );
+    reads_bytes(
+        &[
+            1,
+            0,
+            0,
+            16,
+            1,
+            0,
+            16,
+            32,
+            33,
+            4,
+            32,
+            32,
+            32,
+            132,
+            48,
+            32,
+            0,
+            128,
+            64,
+            32,
+            4,
+            1,
+            0,
+            240,
+        ],
+    );
+    reads_bytes(&[0, 0, 0, 0]);
+    reads_bytes(&[1, 0, 0, 16]);
+    reads_bytes(&[17u8; 388]);
+}
+
+// 18: buffers under 96 words.
+fn buffers() {
+    let mut one = [0u32; 1];
+    writes(&mut one);
+    let mut fifty = [0u32; 50];
+    writes(&mut fifty);
+    let mut less = [0u32; 95];
+    writes(&mut less);
+    let mut least = [0u32; 96];
+    writes(&mut least);
 }
 
 // Accepted: the ring; 31 rows; one net of number 64; every column; a stair on both sides.
@@ -1072,6 +1177,8 @@ fn judged_twice() {
 }
 
 fn main() {
+    bytes();
+    buffers();
     accepted();
     full();
     eleven();
