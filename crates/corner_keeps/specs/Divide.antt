@@ -27,7 +27,7 @@ use Rattle.corner_keeps.specs.Run.{Run, shapeR, rowR, stateR, Holds, lin
 use Rattle.corner_keeps.specs.Place.{nul-is, bul-is}
 use Rattle.corner_keeps.specs.Shapes.{shuts-of, inv-narrow}
 use Rattle.corner_keeps.specs.Ready.{Ready, shaped, top-low, nul-low, nul-left, bul-low, bul-left, end-left}
-use Rattle.corner_keeps.specs.Halving.{old-kept, part-other, part-here, halves-kept}
+use Rattle.corner_keeps.specs.Halving.{old-kept, part-other, part-here, halves-kept, directed-kept}
 
 abbrev pub endW : Bool → Run → ℕ
 endW true R = nulR R
@@ -50,6 +50,16 @@ dir1 false o = backD o
 abbrev pub dir2 : Bool → Bool → ℕ
 dir2 true o = downD o
 dir2 false o = 1
+
+dir1-low : (first o : Bool) → dir1 first o < 4
+dir1-low true o = omega arith
+dir1-low false false = omega arith
+dir1-low false true = omega arith
+
+dir2-low : (first o : Bool) → dir2 first o < 4
+dir2-low true false = omega arith
+dir2-low true true = omega arith
+dir2-low false o = omega arith
 
 abbrev pub divideRun : Run → ℕ → Bool → Run
 divideRun R i first = record {
@@ -202,6 +212,8 @@ module _ (s0 : State) (R : Run) (Q : Ready s0 R) (i : ℕ) (li : i < R .n) (few 
         (dir1 first o) (dir2 first o) (Q .holds .halves))
         (λ k v. refl)));
     halves = halves-kept (R .side) (R .vert) (R .half) (R .s1) (R .s2) (R .d1) (R .d2) (getD (R .ids) i 0) (R .next) 0 0 0 0 0 0 (Q .holds .halves) id-low (omega (arith, id-low, Q .sized .half));
+    first = directed-kept (R .d1) (getD (R .ids) i 0) (dir1 first o) (Q .holds .first) (dir1-low first o);
+    second = directed-kept (R .d2) (getD (R .ids) i 0) (dir2 first o) (Q .holds .second) (dir2-low first o);
     asked = omega (arith, Q .holds .asked);
     made = λ k l. Q .holds .made k l ∙ ap₂ (λ u v. item k (vtx u) (vtx v)) (sym (kept-old (R .s1) _ _ k l)) (sym (kept-old (R .s2) _ _ k l));
   }

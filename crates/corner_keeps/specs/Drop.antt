@@ -62,6 +62,8 @@ module _ (s0 : State) (R : Run) (H : Holds s0 R) (Z : Sized R) (i m : ℕ) (size
   drop-holds same = record {
     inv = drop-inv s0 (stateR R) (shapeR R) (R .up) (H .inv) m (rowR (dropRun R i m)) i size low others placed (ap vtx same) end-left';
     halves = H .halves;
+    first = H .first;
+    second = H .second;
     asked = H .asked;
     made = H .made;
   }

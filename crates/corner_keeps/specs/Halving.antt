@@ -1,9 +1,9 @@
 -- The notes of a division: what the stores into half, s1, s2, d1, d2 leave of the other pairs' notes, and what they say of the pair that is divided.
 -- Assumes that halves have numbers below `next`.
-use mathlib.Core.Path.{_≡_, ap, _∙_}
-use mathlib.Core.List.{List}
-use mathlib.Core.Logic.{inl, inr}
-use Prim.Native.Nat.{ℕ, _+_, _<_}
+use mathlib.Core.Path.{_≡_, refl, ap, _∙_}
+use mathlib.Core.List.{List, [], _∷_}
+use mathlib.Core.Logic.{_⊎_, inl, inr}
+use Prim.Native.Nat.{ℕ, zero, suc, _+_, _<_}
 use native.Mathlib.Omega.{arith}
 use lib.ListN.{length, getD, set, length-set}
 use lib.Seq.{getD-set-same, getD-set-other}
@@ -12,7 +12,18 @@ use Rattle.count.specs.Bits.{eq-case}
 use Rattle.cut.specs.Cut.{side}
 use Rattle.notes.specs.Notes.{finish, item, parted}
 use Rattle.notes.specs.Arrays.{vtx, moveD, partD}
-use Rattle.corner_keeps.specs.Run.{Halves}
+use Rattle.corner_keeps.specs.Run.{Halves, Directed}
+
+-- what is stored in a list is one of two things
+pub stored : (l : List ℕ) (i v k : ℕ) → (getD (set l i v) k 0 ≡ v) ⊎ (getD (set l i v) k 0 ≡ getD l k 0)
+stored [] i v k = inr refl
+stored (y ∷ l) zero v zero = inl refl
+stored (y ∷ l) zero v (suc k) = inr refl
+stored (y ∷ l) (suc i) v zero = inr refl
+stored (y ∷ l) (suc i) v (suc k) = stored l i v k
+
+pub directed-kept : (d : List ℕ) (i v : ℕ) → Directed d → v < 4 → Directed (set d i v)
+directed-kept d i v h b k = elim (stored d i v k) [ inl e ↦ omega (arith, e) | inr e ↦ omega (arith, e, h k) ]
 
 module _ (side vert half s1 s2 d1 d2 : List ℕ) (k0 next a1 b1 a2 b2 x y : ℕ) (H : Halves half next) where
   abbrev half' : List ℕ

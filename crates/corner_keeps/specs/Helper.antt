@@ -82,6 +82,8 @@ module _ (s0 : State) (R : Run) (Q : Ready s0 R) (few : R .n < 2112) where
         (helper-table T (R .n) (λ k. turnI o (rowR R k)) (λ k. turnI o (rows k)) (Q .holds .inv .good) (Q .inside) wide deep none rr rc ends-new (λ k l. ap (turnI o) (others k l)))
         frame refl refl others (ap (λ (x : Item). x .id) new) (λ k v. refl) (λ k. refl)));
     halves = λ k. elim (Q .holds .halves k) [ inl h ↦ inl h | inr h ↦ inr (h .0, omega (arith, h .1)) ];
+    first = Q .holds .first;
+    second = Q .holds .second;
     asked = omega (arith, Q .holds .asked);
     made = Q .holds .made;
   }

@@ -113,6 +113,8 @@ module _ (s0 : State) (R : Run) (Q : Ready s0 R) (i : ℕ) (li : i < R .n) (few 
         (ap (λ d. hopOf d (turn o (UL T))) (hop-right (getD (R .ids) i 0 + 1) 0 (getD (R .ids) i 0) refl) ∙ hop-across o T)
         (λ it' f h h' others. right-table T (R .n) (λ k. turnI o (rowR R k)) it' i f (Q .holds .inv .good) (Q .inside) wide flat (Q .proper) li h h' others));
     halves = Q .holds .halves;
+    first = Q .holds .first;
+    second = Q .holds .second;
     asked = Q .holds .asked;
     made = Q .holds .made;
   }
@@ -126,6 +128,8 @@ module _ (s0 : State) (R : Run) (Q : Ready s0 R) (i : ℕ) (li : i < R .n) (few 
         (hop-along o T 0 (getD (R .ids) i 0) (λ z. omega arith))
         (λ it' f h h' others. down-table T (R .n) (λ k. turnI o (rowR R k)) it' i f (Q .holds .inv .good) (Q .inside) thin deep (Q .proper) li h h' others));
     halves = Q .holds .halves;
+    first = Q .holds .first;
+    second = Q .holds .second;
     asked = Q .holds .asked;
     made = Q .holds .made;
   }

@@ -1,5 +1,6 @@
 -- Definitions only: all that the router holds between two steps, as one record, and when it is in order. Nothing is proved here.
--- Each pair that was asked for still has the ends that it was made with; halves have numbers below `next`, and come after the pair.
+-- Each pair that was asked for still has the ends that it was made with; halves have numbers below `next`, and come after the pair; the two moves at a
+-- corner have directions.
 use mathlib.Core.Path.{_≡_}
 use mathlib.Core.Bool.{Bool, true, false}
 use mathlib.Core.List.{List}
@@ -70,9 +71,15 @@ pub record Sized (R : Run) : Type 0 where
 abbrev pub Halves : List ℕ → ℕ → Type 0
 Halves half next = (k : ℕ) → (getD half k 0 ≡ 0) ⊎ ((k < getD half k 0) × (getD half k 0 + 1 < next))
 
+-- each entry is a direction
+abbrev pub Directed : List ℕ → Type 0
+Directed d = (k : ℕ) → getD d k 0 < 4
+
 pub record Holds (s0 : State) (R : Run) : Type 0 where
   pub inv : Inv s0 (stateR R) (shapeR R) (R .up)
   pub halves : Halves (R .half) (R .next)
+  pub first : Directed (R .d1)
+  pub second : Directed (R .d2)
   pub asked : s0 .n ≤ R .next
   pub made : (k : ℕ) → k < s0 .n → s0 .it k ≡ born (R .side) (R .vert) (R .half) (R .s1) (R .s2) (R .d1) (R .d2) k
 

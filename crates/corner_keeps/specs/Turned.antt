@@ -69,6 +69,8 @@ module _ (s0 : State) (R : Run) (H : Holds s0 R) where
   turn-holds = record {
     inv = subst (λ f. Inv s0 (record { notes = notesR R; left = f; n = R .n; it = rowR R; next = R .next }) S' (not (R .up))) (λ i v. lefts v i) flipped;
     halves = H .halves;
+    first = H .first;
+    second = H .second;
     asked = H .asked;
     made = H .made;
   }

@@ -118,6 +118,8 @@ module _ (s0 : State) (R : Run) (Q : Ready s0 R) (i j : ℕ) (li : i < R .n) (lj
         (at-corner-go s0 R Q _ _ (getD (R .ids) i 0) ∙ ap (λ d. hopOf d (turn o (UL T))) (hop-right (getD (R .ids) i 0 + 1) _ (getD (R .ids) i 0) refl) ∙ hop-across o T)
         (at-corner-go s0 R Q _ _ (getD (R .ids) j 0) ∙ hop-along o T (getD (R .ids) i 0 + 1) (getD (R .ids) j 0) (λ z. apart-ids (omega arith))));
     halves = Q .holds .halves;
+    first = Q .holds .first;
+    second = Q .holds .second;
     asked = Q .holds .asked;
     made = Q .holds .made;
   }

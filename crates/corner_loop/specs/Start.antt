@@ -35,6 +35,8 @@ pub record Starts (R : Run) : Type 0 where
   pub side : Zeros (R .side)
   pub vert : Zeros (R .vert)
   pub half : Zeros (R .half)
+  pub d1 : Zeros (R .d1)
+  pub d2 : Zeros (R .d2)
   pub number : (i : ℕ) → i < R .n → getD (R .ids) i 0 ≡ i
   pub first : (i : ℕ) → i < R .n → getD (R .s1) i 0 ≡ getD (R .la) i 0
   pub second : (i : ℕ) → i < R .n → getD (R .s2) i 0 ≡ getD (R .lb) i 0
@@ -60,6 +62,8 @@ start-holds R Z = record {
     frame = Z .frame;
   };
   halves = λ k. inl (Z .half k);
+  first = λ k. omega (arith, Z .d1 k);
+  second = λ k. omega (arith, Z .d2 k);
   asked = omega (arith, Z .next);
   made = λ k l. rw (Z .number k l, Z .first k l, Z .second k l);
 }

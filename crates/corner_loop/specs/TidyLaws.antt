@@ -12,6 +12,7 @@ use Rattle.notes.specs.State.{State}
 use Rattle.corner_steps.specs.Writes.{Dropped}
 use Rattle.corner_keeps.specs.Run.{Run, Holds, Sized}
 use Rattle.corner_keeps.specs.Drop.{dropRun, drop-holds}
+use Rattle.corner_keeps.specs.Halving.{stored}
 use Rattle.corner_keeps.specs.Sizes.{sized-drop}
 use Rattle.corner_loop.specs.Tidy.{tableR, Tidied}
 
@@ -24,14 +25,6 @@ tidy-next la lb ids n la' lb' ids' m i T h = record {
   low = T .low;
   proper = λ k l. elim (eq-or-ne k i) [ inl e ↦ subst (λ j. getD la' j 0 ≡ getD lb' j 0 → ⊥) (sym e) h | inr e ↦ T .proper k (omega (arith, e)) ];
 }
-
--- what is stored in a list is one of two things
-stored : (l : List ℕ) (i v k : ℕ) → (getD (set l i v) k 0 ≡ v) ⊎ (getD (set l i v) k 0 ≡ getD l k 0)
-stored [] i v k = inr refl
-stored (y ∷ l) zero v zero = inl refl
-stored (y ∷ l) zero v (suc k) = inr refl
-stored (y ∷ l) (suc i) v zero = inr refl
-stored (y ∷ l) (suc i) v (suc k) = stored l i v k
 
 pub tidy-drop : (la lb ids : List ℕ) (n : ℕ) (la' lb' ids' : List ℕ) (m i : ℕ) (la'' lb'' ids'' : List ℕ) → Tidied la lb ids n la' lb' ids' m i → m ≤ 2112 → i < m → getD la' i 0 ≡ getD lb' i 0
     → Dropped la' lb' ids' i (m - 1) la'' lb'' ids'' → Tidied la lb ids n la'' lb'' ids'' (m - 1) i
