@@ -3,7 +3,7 @@ use mathlib.Core.Path.{_≡_}
 use mathlib.Core.Bool.{not}
 use mathlib.Core.List.{List, [], _∷_, head?}
 use mathlib.Core.Option.{Option, none, some}
-use Prim.Native.Nat.{ℕ}
+use Prim.Native.Nat.{ℕ, _/_}
 use lib.Dec.{ltb}
 use lib.ListN.{length}
 use Rattle.board.specs.declared.Vertex.{Vertex}
@@ -16,6 +16,7 @@ use Rattle.routing.specs.Routing.{Routing}
 use Rattle.machine.specs.Refusal.{Refusal, refusal, line, firstRefusal}
 use Rattle.machine.specs.Session.{Session, pairs}
 use Rattle.machine.specs.Sound.{sound?}
+use Rattle.words.specs.Bytes.{bytesOf}
 use Rattle.words.specs.RoutingWord.{routingWords}
 use Rattle.calls.specs.Result.{Result, no, yes}
 use Rattle.calls.specs.Shape.{routingLimit}
@@ -67,3 +68,14 @@ pub record HandsBack (s : Session) (before after : List ℕ) (count : ℕ) : Typ
 pub data Routes (s : Session) (before : List ℕ) : Result ℕ → (after : List ℕ) → Type 0 where
   refused : {r : Refusal} → routeRefused s (length before) ≡ some r → Routes s before (no r) before
   given : {after : List ℕ} {count : ℕ} → routeRefused s (length before) ≡ none → HandsBack s before after count → Routes s before (yes count) after
+
+-- ── on a buffer of bytes: "A buffer of bytes to be written counts as its whole groups of four." ──
+pub record HandsBackBytes (s : Session) (before after : List ℕ) (count : ℕ) : Type 0 where
+  pub paths : List (List Direction)
+  pub routing : Routing (s .board) (pairs (s .nets)) paths
+  pub bytes : after ≡ writtenInto before (bytesOf (routingWords (s .nets) paths))
+  pub counted : count ≡ length (routingWords (s .nets) paths)
+
+pub data RoutesBytes (s : Session) (before : List ℕ) : Result ℕ → (after : List ℕ) → Type 0 where
+  refused : {r : Refusal} → routeRefused s (length before / 4) ≡ some r → RoutesBytes s before (no r) before
+  given : {after : List ℕ} {count : ℕ} → routeRefused s (length before / 4) ≡ none → HandsBackBytes s before after count → RoutesBytes s before (yes count) after
