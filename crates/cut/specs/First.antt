@@ -123,11 +123,11 @@ vertex-order u v = elim (number-order (u .line) (v .line)) [
   ]
 ]
 
-vertex-some : (o : Option Vertex) (v : Vertex) → code-vertex.the-variants.At v ≡ foundVertex o → o ≡ some v
+pub vertex-some : (o : Option Vertex) (v : Vertex) → code-vertex.the-variants.At v ≡ foundVertex o → o ≡ some v
 vertex-some none v e = absurd (let z : _≡_ {A = ℕ} 0 1 = cc in omega arith)
 vertex-some (some u) v e = cc
 
-vertex-none : (o : Option Vertex) → code-vertex.the-variants.Nothing ≡ foundVertex o → o ≡ none
+pub vertex-none : (o : Option Vertex) → code-vertex.the-variants.Nothing ≡ foundVertex o → o ≡ none
 vertex-none none e = refl
 vertex-none (some u) e = absurd (let z : _≡_ {A = ℕ} 0 1 = cc in omega arith)
 

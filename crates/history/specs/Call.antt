@@ -20,7 +20,7 @@ use Rattle.soundness.specs.Stays.{stays-sound}
 use Rattle.session.specs.declared.Session.{Session}
 use Rattle.session.specs.View.{sessionOf}
 use Rattle.session.specs.Answers.{addAnswer, withdrawAnswer, takeBackAnswer}
-use Rattle.history.specs.Made.{Made, added, withdrew, tookBack, Meets, handed, callOf, answerOf, numberOf, Never}
+use Rattle.history.specs.Made.{Made, added, withdrew, tookBack, routed, routedBytes, Meets, handed, callOf, answerOf, numberOf, Never}
 
 pub call-step : (s : machine.Session) (c : Call) → Sound s → call s c ≡ step s c
 unfolding call
@@ -76,6 +76,7 @@ as-step s t c a h e f =
 
 -- A sound session stays sound, and the call was the machine's.
 pub made-as : (s : Session) (m : Made) → Sound (sessionOf s) → Meets s m → MadeAs s m
+unfolding after answers
 made-as s (added n r) h k =
     let x = as-step s (r .session) (add n) (addAnswer (r .answer)) h (k .answers) (k .next) in
     record { session = x .0; answer = x .1; no-20 = (x .2, tt); sound = x .3 }
@@ -85,3 +86,5 @@ made-as s (withdrew j r) h k =
 made-as s (tookBack r) h k =
     let x = as-step s (r .session) takeBack (takeBackAnswer (r .answer)) h (k .answers) (k .next) in
     record { session = x .0; answer = x .1; no-20 = (x .2, tt); sound = x .3 }
+made-as s (routed before r after) h k = record { session = refl; answer = refl; no-20 = tt; sound = h }
+made-as s (routedBytes before r after) h k = record { session = refl; answer = refl; no-20 = tt; sound = h }

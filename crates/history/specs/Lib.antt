@@ -1,3 +1,4 @@
 pub mod Made
 pub mod Call
 pub mod History
+pub mod Routing

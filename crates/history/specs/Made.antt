@@ -11,38 +11,53 @@ use Rattle.session.specs.declared.Session.{Session}
 use Rattle.session.specs.declared.AfterAdd.{AfterAdd}
 use Rattle.session.specs.declared.AfterWithdraw.{AfterWithdraw}
 use Rattle.session.specs.declared.AfterTakeBack.{AfterTakeBack}
+use Rattle.session.specs.View.{sessionOf}
 use Rattle.session.specs.Answers.{addAnswer, withdrawAnswer, takeBackAnswer}
 use Rattle.session.specs.Promise.{AddPromise, WithdrawPromise, TakeBackPromise}
+use Rattle.calls.specs.Route.{Routes, RoutesBytes}
+use Rattle.wiring.specs.declared.RouteAnswer.{RouteAnswer}
+use Rattle.wiring.specs.Answers.{routeAnswer}
 
 -- a call that was made, with its arguments, and what it handed back
 pub data Made : Type 0 where
   added : Net → AfterAdd → Made
   withdrew : ℕ → AfterWithdraw → Made
   tookBack : AfterTakeBack → Made
+  -- routing: the lent buffer of words, or of bytes, before; the answer; the buffer after
+  routed : (before : List ℕ) → RouteAnswer → (after : List ℕ) → Made
+  routedBytes : (before : List ℕ) → RouteAnswer → (after : List ℕ) → Made
 
 -- made on the session s, it met the promise of its kind
 abbrev pub Meets : Session → Made → Type 0
 Meets s (added n r) = AddPromise s n r
 Meets s (withdrew k r) = WithdrawPromise s k r
 Meets s (tookBack r) = TakeBackPromise s r
+Meets s (routed before r after) = Routes (sessionOf s) before (routeAnswer r) after
+Meets s (routedBytes before r after) = RoutesBytes (sessionOf s) before (routeAnswer r) after
 
 -- the session after it, where s was the one before
 abbrev pub handed : Session → Made → Session
 handed s (added n r) = r .session
 handed s (withdrew k r) = r .session
 handed s (tookBack r) = r .session
+handed s (routed before r after) = s
+handed s (routedBytes before r after) = s
 
 -- what the machine is fed of it: "only the calls and their arguments, the session left out". A call that the machine does not take is none.
 abbrev pub callOf : Made → List Call
 callOf (added n r) = add n ∷ []
 callOf (withdrew k r) = withdraw k ∷ []
 callOf (tookBack r) = takeBack ∷ []
+callOf (routed before r after) = []
+callOf (routedBytes before r after) = []
 
 -- what it answered, where the machine answers too
 abbrev pub answerOf : Made → List Answer
 answerOf (added n r) = addAnswer (r .answer) ∷ []
 answerOf (withdrew k r) = withdrawAnswer (r .answer) ∷ []
 answerOf (tookBack r) = takeBackAnswer (r .answer) ∷ []
+answerOf (routed before r after) = []
+answerOf (routedBytes before r after) = []
 
 -- ── a list of them ──
 -- each call was made on the session that the one before it handed back, the first on s

@@ -66,8 +66,9 @@ fn word_of(v: Vertex) -> u16
     (v.line as u16) * 32 + (v.column as u16)
 }
 
-fn number_of(k: usize) -> u16
-    requires { ⌜ k < 64 ⌝ }
+// The number of the pair in row k.
+pub fn number_of(k: usize) -> u16
+    requires { ⌜ k ≤ 64 ⌝ }
     ensures { λ r. ⌜ r ≡ k ⌝ }
 {
     k as u16

@@ -31,6 +31,7 @@ use Rattle.notes.specs.Alike.{Alike, present-alike, shapeOf}
 use Rattle.notes.specs.Arrays.{leftOf, notesOf, born}
 use Rattle.trace.specs.Traces.{pathD}
 use Rattle.corner_keeps.specs.Run.{Run, stateR, shapeR, rowR}
+use Rattle.router.specs.declared.Work.{Work}
 use Rattle.corner_router.specs.Promise.{CutAll}
 use Rattle.corner_router.specs.Routed as ended
 use Rattle.writer.specs.Written.{Written}
@@ -76,17 +77,20 @@ module _ (s : Session) (P : Problem (s .board) (pairs (s .nets))) (even : oddVer
       rw z (ap (λ (x : Item). pair (x .a) (x .b)) (e i (omega (arith, T .count))))) in
       subst (λ (k : ℕ). pairs (s .nets) ≡ pairsFrom (rowR R) 0 k) (length-map (s .nets) (λ m. m .ends)) f
 
-  pub handed-back : {la' lb' ids' side' vert' half' s1' s2' d1' d2' lo' : List ℕ} {r : Bool}
-      → CutAll la lb ids (replicate 1024 0) (replicate 1024 0) (replicate 2112 0) s1 s2 (replicate 2112 0) (replicate 2112 0) first second (firstWork h n)
+  pub handed-back : (w : Work) → w ≡ firstWork h n → {la' lb' ids' side' vert' half' s1' s2' d1' d2' lo' : List ℕ} {r : Bool}
+      → CutAll la lb ids (replicate 1024 0) (replicate 1024 0) (replicate 2112 0) s1 s2 (replicate 2112 0) (replicate 2112 0) first second w
       la' lb' ids' side' vert' half' s1' s2' d1' d2' lo' r
       → {before after : List ℕ} {answer : ℕ} → 2049 ≤ length before
       → (Short (pathD side' vert' half' s1' s2' d1' d2' 2112) (length (s .nets))
       → Written (routingWords (s .nets) (pathsFrom (pathD side' vert' half' s1' s2' d1' d2' 2112) 0 (length (s .nets)))) before answer after)
       → HandsBack s before after answer
-  handed-back {side' = side'} {vert' = vert'} {half' = half'} {s1' = s1'} {s2' = s2'} {d1' = d1'} {d2' = d2'} C room wrote =
+  handed-back w start {la' = la'} {lb' = lb'} {ids' = ids'} {side' = side'} {vert' = vert'} {half' = half'} {s1' = s1'} {s2' = s2'} {d1' = d1'} {d2' = d2'} {lo' = lo'} {r = r} C room wrote =
       let A = lined-alike (s .board) first second h (P .within .some) tall L in
       let K = ended.routed la lb ids (replicate 1024 0) (replicate 1024 0) (replicate 2112 0) s1 s2 (replicate 2112 0) (replicate 2112 0) first second (firstWork h n)
-      _ _ _ side' vert' half' s1' s2' d1' d2' _ _ C (starts (s .board) (pairs (s .nets)) P even roomy tall L T) (sized (s .board) (pairs (s .nets)) P even roomy tall L T) .1 in
+      la' lb' ids' side' vert' half' s1' s2' d1' d2' lo' r
+      (subst (λ (v : Work). CutAll la lb ids (replicate 1024 0) (replicate 1024 0) (replicate 2112 0) s1 s2 (replicate 2112 0) (replicate 2112 0) first second v
+      la' lb' ids' side' vert' half' s1' s2' d1' d2' lo' r) start C)
+      (starts (s .board) (pairs (s .nets)) P even roomy tall L T) (sized (s .board) (pairs (s .nets)) P even roomy tall L T) .1 in
       handed side' vert' half' s1' s2' d1' d2' (K .ordered) s (P .within) (edgesLeft (leftOf (shapeR R) false)) (room-edge (s .board) (pairs (s .nets)) P (shapeR R) A) (rowR R)
       (subst (λ (k : ℕ). Routed (notesOf side' vert' half' s1' s2' d1' d2') (edgesLeft (leftOf (shapeR R) false)) k (rowR R)) count (K .routes))
       (λ i l. K .made i (omega (arith, count))) ends (omega (arith, count)) room wrote

@@ -1,3 +1,4 @@
 pub mod Sessions
 pub mod Starting
 pub mod Ending
+pub mod Answers

@@ -31,7 +31,7 @@ use Rattle.corner_loop.specs.Start.{Starts}
 use Rattle.router.specs.declared.Work.{Work}
 use Rattle.router.specs.View.{run}
 use Rattle.start.specs.Lines.{Lined, lined-alike}
-use Rattle.start.specs.Table.{wordOf, noPair, Table}
+use Rattle.start.specs.Table.{wordOf, noPair, Clear, Table}
 
 -- ── pairs by their place in the list ──
 pub all-get : (P : Vertex → Type 0) (ps : List Pair) (i : ℕ) → i < length ps → All P ps → P (getD ps i noPair .first) × P (getD ps i noPair .second)
@@ -62,6 +62,20 @@ zeros : (m p : ℕ) → getD {A = ℕ} (replicate m 0) p 0 ≡ 0
 zeros zero p = refl
 zeros (suc m) zero = refl
 zeros (suc m) (suc p) = zeros m p
+
+pub clear-zeros : Clear (replicate 2112 0) (replicate 2112 0) (replicate 2112 0) (replicate 2112 0) (replicate 2112 0)
+clear-zeros = record {
+  low = λ k. omega (arith, zeros 2112 k);
+  la-size = length-replicate {A = ℕ} 2112 0;
+  lb-size = length-replicate {A = ℕ} 2112 0;
+  ids-size = length-replicate {A = ℕ} 2112 0;
+  s1-size = length-replicate {A = ℕ} 2112 0;
+  s2-size = length-replicate {A = ℕ} 2112 0;
+}
+
+-- the table of the same pairs
+pub table-as : {ps qs : List Pair} {n : ℕ} {la lb ids s1 s2 : List ℕ} → ps ≡ qs → Table qs n la lb ids s1 s2 → Table ps n la lb ids s1 s2
+table-as e T = rw e T
 
 -- ── the start ──
 abbrev pub firstWork : (bottom n : ℕ) → Work

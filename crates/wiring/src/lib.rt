@@ -1,1 +1,114 @@
-// The call `route`.
+// The call `route`: the nets of a session joined by edge-disjoint paths, or what stands in the way.
+ghost use mathlib.Core.Path.{_≡_};
+ghost use Prim.Native.Nat.{_≤_};
+ghost use lib.ListN.{length};
+ghost use Rattle.session.specs.View.{sessionOf};
+ghost use Rattle.calls.specs.Route.{HandsBack, Routes};
+ghost use Rattle.wiring.specs.Answers.{Even, Roomy, routeAnswer};
+use board::Vertex;
+use cut::Cut;
+use cut::FoundCut;
+use cut::FoundVertex;
+use router::Work;
+use session::Session;
+
+// What routing answers: the count of words written, or a refusal: 20 an unsound session, 31 a buffer under 2,049 words, 32 the first odd
+// vertex, 33 the first overfull cut.
+pub enum RouteAnswer {
+    Routed(usize),
+    Unsound,
+    ShortBuffer,
+    Odd(Vertex),
+    Overfull(Cut),
+}
+
+fn wide(x: u8) -> usize
+    ensures { λ r. ⌜ r ≡ x ⌝ }
+{
+    x as usize
+}
+
+// The words of a routing at the start of the buffer; answers with their count.
+fn wire(s: Session, out: &mut [u32]) -> usize
+    requires { ⌜ Even (sessionOf s) × Roomy (sessionOf s) ⌝ }
+    requires { ⌜ 2049 ≤ length (now out) ⌝ }
+    ensures { λ r. ⌜ HandsBack (sessionOf s) (now (out .entry)) (now (out .exit)) r ⌝ }
+{
+    let board = s.board;
+    let nets = s.nets;
+    let mut lo = [0u8; 32];
+    let mut hi = [0u8; 32];
+    start::fill_lines(board, &mut lo, &mut hi);
+    let mut la = [0u16; 2112];
+    let mut lb = [0u16; 2112];
+    let mut ids = [0u16; 2112];
+    let mut s1 = [0u16; 2112];
+    let mut s2 = [0u16; 2112];
+    let n = start::fill_table(nets, &mut la, &mut lb, &mut ids, &mut s1, &mut s2);
+    let mut side = [0u16; 1024];
+    let mut vert = [0u16; 1024];
+    let mut half = [0u16; 2112];
+    let mut d1 = [0u8; 2112];
+    let mut d2 = [0u8; 2112];
+    let work = Work {
+        top: 0,
+        bottom: wide(board.count),
+        up: false,
+        n: n,
+        next: start::number_of(n),
+        stuck: false,
+    };
+    corner_router::cut_all(
+        &mut la,
+        &mut lb,
+        &mut ids,
+        &mut side,
+        &mut vert,
+        &mut half,
+        &mut s1,
+        &mut s2,
+        &mut d1,
+        &mut d2,
+        &mut lo,
+        &hi,
+        work,
+    );
+    writer::write_paths(&side, &vert, &half, &s1, &s2, &d1, &d2, nets, out)
+}
+
+// Where no vertex is odd: the first overfull cut, or a routing.
+fn route_even(s: Session, out: &mut [u32]) -> RouteAnswer
+    requires { ⌜ Even (sessionOf s) ⌝ }
+    requires { ⌜ 2049 ≤ length (now out) ⌝ }
+    ensures { λ r. ⌜ Routes (sessionOf s) (now (out .entry)) (routeAnswer r) (now (out .exit)) ⌝ }
+{
+    let board = s.board;
+    let nets = s.nets;
+    let found = cut::first_overfull(board, nets);
+    match found {
+        FoundCut::At(x) => RouteAnswer::Overfull(x),
+        FoundCut::Nothing => {
+            let count = wire(s, out);
+            RouteAnswer::Routed(count)
+        }
+    }
+}
+
+// Routes a session's nets into a lent buffer of words. The words after those of the routing are untouched; on a refusal all of them.
+pub fn route(s: Session, out: &mut [u32]) -> RouteAnswer
+    ensures { λ r. ⌜ Routes (sessionOf s) (now (out .entry)) (routeAnswer r) (now (out .exit)) ⌝ }
+{
+    if !s.sound() {
+        return RouteAnswer::Unsound;
+    }
+    if out.len() < 2049 {
+        return RouteAnswer::ShortBuffer;
+    }
+    let board = s.board;
+    let nets = s.nets;
+    let odd = cut::first_odd(board, nets);
+    match odd {
+        FoundVertex::At(v) => RouteAnswer::Odd(v),
+        FoundVertex::Nothing => route_even(s, out),
+    }
+}

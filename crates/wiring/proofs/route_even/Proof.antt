@@ -1,0 +1,53 @@
+-- `route_even` names the first overfull cut, or hands back a routing.
+use native.Mathlib.Omega.{arith}
+use mathlib.Core.Path.{sym, _∙_}
+use Rattle.places.specs.Nets.{pairs-of}
+use Rattle.session.specs.View.{sessionOf}
+use Rattle.wiring.specs.Answers.{overfull-at, none-overfull, route-overfull, route-given}
+use borrow.Author.Needs.{needs}
+use Rattle.wiring.proofs.route_even.Statement.{statement}
+use Rattle.wiring.proofs.route_even.Tie as tie
+use Rattle.wiring.proofs.route_even.Reads as reads
+use Rattle.wiring.proofs.route_even.Lts as lts
+use Rattle.cut.proofs.first_overfull.Reads as first-overfull-reads
+use Rattle.wiring.proofs.wire.Reads as wire-reads
+
+-- src/lib.rt:73:9
+first-overfull-requires : tie.Need-first-overfull-requires
+first-overfull-requires c κs = search needs
+
+-- src/lib.rt:75:22
+enum-known-found : tie.Need-enum-known-found
+enum-known-found c = search needs
+
+-- src/lib.rt:77:33
+enum-told : tie.Need-enum-told
+enum-told c = search needs
+
+-- src/lib.rt:77:17
+wire-requires : tie.Need-wire-requires
+wire-requires c κs = let s = c .before .before .before .before .before .before .before .args .s in ((c .before .before .before .before .before .before .before .pre .0, none-overfull (sessionOf s) _ (pairs-of (s .nets)) (sym (c .before .enum-told .given .1) ∙ c .before .before .before .first-overfull .ensures)), c .before .before .before .before .before .before .before .pre .1)
+
+-- src/lib.rt:66:1
+returns : tie.Need-returns
+returns c = let s = c .before .before .before .before .before .before .before .args .s in route-overfull (sessionOf s) _ (c .before .before .before .before .before .before .before .pre .0) (c .before .before .before .before .before .before .before .pre .1) _ (overfull-at (sessionOf s) _ (pairs-of (s .nets)) _ (sym (c .before .found .given .1) ∙ c .before .before .before .first-overfull .ensures))
+
+-- src/lib.rt:66:1
+same-length : tie.Need-same-length
+same-length c = search needs
+
+-- src/lib.rt:66:1
+returns-2 : tie.Need-returns-2
+returns-2 c = let s = c .before .before .before .before .before .before .before .before .before .before .args .s in route-given (sessionOf s) _ (c .before .before .before .before .before .before .before .before .before .before .pre .0) (none-overfull (sessionOf s) _ (pairs-of (s .nets)) (sym (c .before .before .before .before .enum-told .given .1) ∙ c .before .before .before .before .before .before .first-overfull .ensures)) (c .before .before .before .before .before .before .before .before .before .before .pre .1) (c .before .before .wire .ensures)
+
+pub route-even-spec : {M : Type 1} → statement M
+route-even-spec =
+    tie.close
+    (tie.spec
+    first-overfull-requires
+    enum-known-found
+    enum-told
+    wire-requires
+    returns
+    same-length
+    returns-2)
