@@ -36,6 +36,14 @@ routeAnswer answer.ShortBuffer = no (refusal 31 0)
 routeAnswer (answer.Odd v) = no (oddRefusal v)
 routeAnswer (answer.Overfull x) = no (overfullRefusal x)
 
+-- how many words were written
+abbrev pub written : RouteAnswer → ℕ
+written (answer.Routed n) = n
+written answer.Unsound = 0
+written answer.ShortBuffer = 0
+written (answer.Odd v) = 0
+written (answer.Overfull x) = 0
+
 -- a sound session with no odd vertex
 pub record Even (s : Session) : Type 0 where
   pub sound : sound? s ≡ true

@@ -1,10 +1,10 @@
 // The call `route`: the nets of a session joined by edge-disjoint paths, or what stands in the way.
 ghost use mathlib.Core.Path.{_≡_};
-ghost use Prim.Native.Nat.{_≤_};
+ghost use Prim.Native.Nat.{_≤_, min};
 ghost use lib.ListN.{length};
 ghost use Rattle.session.specs.View.{sessionOf};
-ghost use Rattle.calls.specs.Route.{HandsBack, Routes};
-ghost use Rattle.wiring.specs.Answers.{Even, Roomy, routeAnswer};
+ghost use Rattle.calls.specs.Route.{HandsBack, Routes, RoutesBytes};
+ghost use Rattle.wiring.specs.Answers.{Even, Roomy, routeAnswer, written};
 use board::Vertex;
 use cut::Cut;
 use cut::FoundCut;
@@ -111,4 +111,34 @@ pub fn route(s: Session, out: &mut [u32]) -> RouteAnswer
         FoundVertex::At(v) => RouteAnswer::Odd(v),
         FoundVertex::Nothing => route_even(s, out),
     }
+}
+
+fn least(a: usize, b: usize) -> usize
+    ensures { λ r. ⌜ r ≡ min a b ⌝ }
+{
+    if a < b { a } else { b }
+}
+
+// How many words were written.
+fn written(answer: RouteAnswer) -> usize
+    ensures { λ r. ⌜ r ≡ written answer ⌝ }
+{
+    match answer {
+        RouteAnswer::Routed(count) => count,
+        RouteAnswer::Unsound => 0,
+        RouteAnswer::ShortBuffer => 0,
+        RouteAnswer::Odd(_) => 0,
+        RouteAnswer::Overfull(_) => 0,
+    }
+}
+
+// The same into a lent buffer of bytes, four to a word, lowest first.
+pub fn route_bytes(s: Session, out: &mut [u8]) -> RouteAnswer
+    ensures { λ r. ⌜ RoutesBytes (sessionOf s) (now (out .entry)) (routeAnswer r) (now (out .exit)) ⌝ }
+{
+    let mut words = [0u32; 2049];
+    let room = least(out.len() / 4, 2049);
+    let answer = route(s, &mut words[..room]);
+    octets::put_words(&words, written(answer), out);
+    answer
 }

@@ -1,0 +1,69 @@
+-- `route_bytes` puts the words of the routing into the bytes.
+use mathlib.Core.List.{_++_}
+use Prim.Native.Nat.{ℕ, _*_, _≤_}
+use native.Mathlib.Omega.{arith}
+use mathlib.Core.Path.{_≡_, sym, _∙_}
+use Prim.Native.Nat.{ℕ}
+use lib.ListN.{length, take, drop, replicate, length-replicate, length-append, length-drop}
+use lib.Seq.{length-take-le}
+use Rattle.session.specs.View.{sessionOf}
+use Rattle.wiring.specs.InBytes.{written-is, count-fits, into-bytes}
+use borrow.Author.Needs.{needs}
+use Rattle.wiring.proofs.route_bytes.Statement.{statement}
+use Rattle.wiring.proofs.route_bytes.Tie as tie
+use Rattle.wiring.proofs.route_bytes.Reads as reads
+use Rattle.wiring.proofs.route_bytes.Lts as lts
+use Rattle.octets.proofs.put_words.Reads as put-words-reads
+use Rattle.wiring.proofs.least.Reads as least-reads
+use Rattle.wiring.proofs.route.Reads as route-reads
+use Rattle.wiring.proofs.written.Reads as written-reads
+
+-- src/lib.rt:140:9
+least-requires : tie.Need-least-requires
+least-requires c κs = search needs
+
+-- src/lib.rt:141:27
+array-borrow-prefix-words : tie.Need-array-borrow-prefix-words
+array-borrow-prefix-words c = search needs
+
+-- src/lib.rt:141:27
+slice-aggregate-route : tie.Need-slice-aggregate-route
+slice-aggregate-route c = sym (length-take-le (c .before .least .result) (replicate {A = ℕ} 2049 0) (omega (arith, c .before .least .ensures, length-replicate {A = ℕ} 2049 0)))
+
+-- src/lib.rt:141:9
+route-requires : tie.Need-route-requires
+route-requires c κs = search needs
+
+-- src/lib.rt:142:23
+slice-aggregate-put-words : tie.Need-slice-aggregate-put-words
+slice-aggregate-put-words c = let l : length (take (c .before .before .before .before .least .result) (replicate {A = ℕ} 2049 0)) ≡ c .before .before .before .before .least .result = length-take-le (c .before .before .before .before .least .result) (replicate {A = ℕ} 2049 0) (omega (arith, c .before .before .before .before .least .ensures, length-replicate {A = ℕ} 2049 0)) in let k : length (c .before .before .route .last .1 .0) ≡ length (take (c .before .before .before .before .least .result) (replicate {A = ℕ} 2049 0)) = c .before .before .route .kept .1 .0 in let g : 2049 ≡ length (c .before .before .route .last .1 .0 ++ drop (c .before .before .before .before .least .result) (replicate {A = ℕ} 2049 0)) = omega (arith, k, l, c .before .before .before .before .least .ensures, length-append (c .before .before .route .last .1 .0) (drop (c .before .before .before .before .least .result) (replicate {A = ℕ} 2049 0)), length-drop (c .before .before .before .before .least .result) (replicate {A = ℕ} 2049 0), length-replicate {A = ℕ} 2049 0) in g
+
+-- src/lib.rt:142:31
+written-requires : tie.Need-written-requires
+written-requires c κs = search needs
+
+-- src/lib.rt:142:5
+put-words-requires : tie.Need-put-words-requires
+put-words-requires c κs = let l : length (take (c .before .before .before .before .before .before .least .result) (replicate {A = ℕ} 2049 0)) ≡ c .before .before .before .before .before .before .least .result = length-take-le (c .before .before .before .before .before .before .least .result) (replicate {A = ℕ} 2049 0) (omega (arith, c .before .before .before .before .before .before .least .ensures, length-replicate {A = ℕ} 2049 0)) in let k : length (c .before .before .before .before .route .last .1 .0) ≡ length (take (c .before .before .before .before .before .before .least .result) (replicate {A = ℕ} 2049 0)) = c .before .before .before .before .route .kept .1 .0 in let w = count-fits (sessionOf (c .before .before .before .before .before .before .before .before .args .s)) (c .before .before .before .before .route .ensures) k in let e = c .before .written .ensures ∙ written-is (c .before .before .before .before .route .result) in let g : c .before .written .result ≤ length (c .before .before .before .before .route .last .1 .0 ++ drop (c .before .before .before .before .before .before .least .result) (replicate {A = ℕ} 2049 0)) = omega (arith, w, e, k, length-append (c .before .before .before .before .route .last .1 .0) (drop (c .before .before .before .before .before .before .least .result) (replicate {A = ℕ} 2049 0))) in let h : 4 * c .before .written .result ≤ length (c .before .before .before .before .before .before .before .before .args .out .now) = omega (arith, w, e, l, c .before .before .before .before .before .before .least .ensures) in (g, h)
+
+-- src/lib.rt:136:1
+same-length : tie.Need-same-length
+same-length c = search needs
+
+-- src/lib.rt:136:1
+returns : tie.Need-returns
+returns c = let l : length (take (c .before .before .before .before .before .before .before .before .before .least .result) (replicate {A = ℕ} 2049 0)) ≡ c .before .before .before .before .before .before .before .before .before .least .result = length-take-le (c .before .before .before .before .before .before .before .before .before .least .result) (replicate {A = ℕ} 2049 0) (omega (arith, c .before .before .before .before .before .before .before .before .before .least .ensures, length-replicate {A = ℕ} 2049 0)) in let e = c .before .before .before .before .written .ensures ∙ written-is (c .before .before .before .before .before .before .before .route .result) in let f = into-bytes (sessionOf (c .before .before .before .before .before .before .before .before .before .before .before .args .s)) (drop (c .before .before .before .before .before .before .before .before .before .least .result) (replicate {A = ℕ} 2049 0)) (c .before .before .before .before .before .before .before .route .ensures) (l ∙ c .before .before .before .before .before .before .before .before .before .least .ensures) in rw (c .before .before .put-words .ensures, e) f
+
+pub route-bytes-spec : {M : Type 1} → statement M
+route-bytes-spec =
+    tie.close
+    (tie.spec
+    least-requires
+    array-borrow-prefix-words
+    slice-aggregate-route
+    route-requires
+    slice-aggregate-put-words
+    written-requires
+    put-words-requires
+    same-length
+    returns)
