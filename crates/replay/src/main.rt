@@ -5,9 +5,10 @@
 //     add NUMBER LINE COLUMN LINE COLUMN    the net with its first and its second terminal
 //     withdraw NUMBER
 //     back                                  takes the last change back
+//     paths                                 routes the nets
 // Numbers stand in decimal, parted by spaces; one above 249 is read as 255, and one that is missing as 0. Other lines are passed over.
 //
-// Each call prints a line: "accepted", or "refused", the number and the place. Then come the nets in rising number, each a line "net" with
+// Each call prints a line: "accepted", or "refused", the number and the place; routing prints its words, each on a line. Then come the nets in rising number, each a line "net" with
 // what add was given, and the pile from its top, each a line "added" or "withdrawn" with the net.
 ghost use Prim.Native.Nat.{_≤_};
 use board::Board;
@@ -252,6 +253,13 @@ fn back_line(session: Session) -> Session {
     after.session
 }
 
+fn paths_line(session: Session) -> Session {
+    let mut words = [0u32; 2049];
+    let answer = wiring::route(session, &mut words);
+    show::print_answer(answer, &words);
+    session
+}
+
 fn line(session: Session, s: &[u8], at: usize) -> Session {
     let kind = byte_at(s, at);
     if kind == b'r' {
@@ -265,6 +273,9 @@ fn line(session: Session, s: &[u8], at: usize) -> Session {
     }
     if kind == b'b' {
         return back_line(session);
+    }
+    if kind == b'p' {
+        return paths_line(session);
     }
     session
 }

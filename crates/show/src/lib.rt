@@ -2,6 +2,8 @@
 ghost use mathlib.Core.Path.{_≡_};
 ghost use Prim.Native.Nat.{_<_};
 ghost use Rattle.show.specs.Hex.{digitAt, hexLine};
+use cut::Cut;
+use wiring::RouteAnswer;
 
 // The digit of a word that stands for so many units, "0" to "9" and "A" to "F".
 fn digit(w: u32, unit: u32) -> u8
@@ -68,4 +70,26 @@ pub fn print_refusal_at(number: usize, first: usize, second: usize) {
     print_number(first);
     print_number(second);
     end_line();
+}
+
+fn wide(x: u8) -> usize {
+    x as usize
+}
+
+fn print_cut(x: Cut) {
+    match x {
+        Cut::Row(i) => print_refusal_at(33, 0, wide(i)),
+        Cut::Column(j) => print_refusal_at(33, 1, wide(j)),
+    }
+}
+
+// What routing answered: its words, or the refusal.
+pub fn print_answer(answer: RouteAnswer, words: &[u32]) {
+    match answer {
+        RouteAnswer::Routed(count) => print_words(words, count),
+        RouteAnswer::Unsound => print_refusal(20, 0),
+        RouteAnswer::ShortBuffer => print_refusal(31, 0),
+        RouteAnswer::Odd(v) => print_refusal_at(32, wide(v.line), wide(v.column)),
+        RouteAnswer::Overfull(x) => print_cut(x),
+    }
 }
