@@ -41,7 +41,13 @@ add-if1 c = search needs
 
 -- src/lib.rt:24:41
 element-copy-out-long-3 : tie.Need-element-copy-out-long-3
-element-copy-out-long-3 c = omega (arith, c .before .before .before .before .before .seen .ensures, seen-low (c .before .before .before .before .before .before .args .w .up) (c .before .before .before .before .before .before .args .w .top) (c .before .before .before .before .before .before .pre .0))
+element-copy-out-long-3 c = omega (
+  arith,
+  c .before .before .before .before .before .seen .ensures,
+  c .before .before .before .before .seen2 .ensures,
+  seen-low (c .before .before .before .before .before .before .args .w .up) (c .before .before .before .before .before .before .args .w .top) (c .before .before .before .before .before .before .pre .0),
+  seen-low (c .before .before .before .before .before .before .args .w .up) (c .before .before .before .before .before .before .args .w .bottom) (c .before .before .before .before .before .before .pre .1),
+)
 
 -- src/lib.rt:24:36
 long-requires-3 : tie.Need-long-requires-3
@@ -49,7 +55,13 @@ long-requires-3 c κs = search needs
 
 -- src/lib.rt:24:55
 element-copy-out-long-4 : tie.Need-element-copy-out-long-4
-element-copy-out-long-4 c = omega (arith, c .before .before .before .before .before .before .seen2 .ensures, seen-low (c .before .before .before .before .before .before .before .before .args .w .up) (c .before .before .before .before .before .before .before .before .args .w .bottom) (c .before .before .before .before .before .before .before .before .pre .1))
+element-copy-out-long-4 c = omega (
+  arith,
+  c .before .before .before .before .before .before .before .seen .ensures,
+  c .before .before .before .before .before .before .seen2 .ensures,
+  seen-low (c .before .before .before .before .before .before .before .before .args .w .up) (c .before .before .before .before .before .before .before .before .args .w .top) (c .before .before .before .before .before .before .before .before .pre .0),
+  seen-low (c .before .before .before .before .before .before .before .before .args .w .up) (c .before .before .before .before .before .before .before .before .args .w .bottom) (c .before .before .before .before .before .before .before .before .pre .1),
+)
 
 -- src/lib.rt:24:50
 long-requires-4 : tie.Need-long-requires-4
