@@ -4,7 +4,7 @@ use native.Mathlib.Omega.{arith}
 use mathlib.Core.Path.{refl}
 use Prim.Native.Nat.{_+_, _*_, _-_, _≤_}
 use Rattle.count.specs.Truth.{clash}
-use Rattle.router.specs.View.{run, Low}
+use Rattle.corner_ends.specs.View.{run, Low}
 use Rattle.corner_router.specs.Promise.{After}
 use Rattle.corner_router.specs.Loop.{after-none, all-done, pass, ended}
 use Rattle.corner_router.proofs.cut_all.Statement.{statement}

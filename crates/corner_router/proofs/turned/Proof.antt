@@ -1,7 +1,7 @@
 -- Turned or not: the comparison of the two widths, by the laws of Loop.
 use native.Mathlib.Omega.{arith}
 use mathlib.Core.Path.{refl}
-use Rattle.router.specs.Moved.{seen-low}
+use Rattle.corner_ends.specs.Moved.{seen-low}
 use Rattle.corner_router.specs.Loop.{turn-yes, turn-no}
 use borrow.Author.Needs.{needs}
 use Rattle.corner_router.proofs.turned.Statement.{statement}

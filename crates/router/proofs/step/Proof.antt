@@ -1,6 +1,6 @@
 -- The four parts put together, by the laws of Stepping.
 use native.Mathlib.Omega.{arith}
-use Rattle.router.specs.Moved.{seen-low}
+use Rattle.corner_ends.specs.Moved.{seen-low}
 use Rattle.router.specs.Stepping.{by-two, by-none, by-down, by-right}
 use borrow.Author.Needs.{needs}
 use Rattle.router.proofs.step.Statement.{statement}
@@ -10,12 +10,12 @@ use Rattle.router.proofs.step.Lts as lts
 use Rattle.corner_steps.proofs.first_at.Reads as first-at-reads
 use Rattle.corner_steps.proofs.seen.Reads as seen-reads
 use Rattle.router.proofs.end_of.Reads as end-of-reads
-use Rattle.router.proofs.go_down.Reads as go-down-reads
-use Rattle.router.proofs.go_right.Reads as go-right-reads
-use Rattle.router.proofs.no_end.Reads as no-end-reads
+use Rattle.corner_ends.proofs.go_down.Reads as go-down-reads
+use Rattle.corner_ends.proofs.go_right.Reads as go-right-reads
+use Rattle.corner_bare.proofs.no_end.Reads as no-end-reads
 use Rattle.router.proofs.start_of.Reads as start-of-reads
-use Rattle.router.proofs.two_ends.Reads as two-ends-reads
-use Rattle.router.proofs.word.Reads as word-reads
+use Rattle.corner_ends.proofs.two_ends.Reads as two-ends-reads
+use Rattle.corner_ends.proofs.word.Reads as word-reads
 
 -- src/lib.rt:240:9
 seen-requires : tie.Need-seen-requires

@@ -1,21 +1,21 @@
 -- No second end, or the two pairs part in one of two ways, by the laws of Went.
 use native.Mathlib.Omega.{arith}
 use mathlib.Core.Path.{refl, _∙_, sym}
-use Rattle.router.specs.Went.{two-stuck, two-kept, two-swapped}
+use Rattle.corner_ends.specs.Went.{two-stuck, two-kept, two-swapped}
 use borrow.Author.Needs.{needs}
-use Rattle.router.proofs.two_ends.Statement.{statement}
-use Rattle.router.proofs.two_ends.Tie as tie
-use Rattle.router.proofs.two_ends.Reads as reads
-use Rattle.router.proofs.two_ends.Lts as lts
+use Rattle.corner_ends.proofs.two_ends.Statement.{statement}
+use Rattle.corner_ends.proofs.two_ends.Tie as tie
+use Rattle.corner_ends.proofs.two_ends.Reads as reads
+use Rattle.corner_ends.proofs.two_ends.Lts as lts
 use Rattle.corner_steps.proofs.far.Reads as far-reads
 use Rattle.corner_steps.proofs.first_at.Reads as first-at-reads
 use Rattle.corner_steps.proofs.split.Reads as split-reads
 use Rattle.corner_steps.proofs.swaps.Reads as swaps-reads
 use Rattle.corner_steps.proofs.wide.Reads as wide-reads
-use Rattle.router.proofs.below.Reads as below-reads
-use Rattle.router.proofs.bit.Reads as bit-reads
-use Rattle.router.proofs.shorten.Reads as shorten-reads
-use Rattle.router.proofs.word.Reads as word-reads
+use Rattle.corner_ends.proofs.below.Reads as below-reads
+use Rattle.corner_ends.proofs.bit.Reads as bit-reads
+use Rattle.corner_ends.proofs.shorten.Reads as shorten-reads
+use Rattle.corner_ends.proofs.word.Reads as word-reads
 
 -- src/lib.rt:86:9
 word-requires : tie.Need-word-requires

@@ -1,15 +1,15 @@
 -- Each way out is a step or a way to be stuck, by the laws of Moved.
 use native.Mathlib.Omega.{arith}
 use mathlib.Core.Path.{refl}
-use Rattle.router.specs.Moved.{right-done, right-none, right-thin, right-deep}
+use Rattle.corner_ends.specs.Moved.{right-done, right-none, right-thin, right-deep}
 use borrow.Author.Needs.{needs}
-use Rattle.router.proofs.go_right.Statement.{statement}
-use Rattle.router.proofs.go_right.Tie as tie
-use Rattle.router.proofs.go_right.Reads as reads
-use Rattle.router.proofs.go_right.Lts as lts
-use Rattle.router.proofs.shorten.Reads as shorten-reads
-use Rattle.router.proofs.slide.Reads as slide-reads
-use Rattle.router.proofs.word.Reads as word-reads
+use Rattle.corner_ends.proofs.go_right.Statement.{statement}
+use Rattle.corner_ends.proofs.go_right.Tie as tie
+use Rattle.corner_ends.proofs.go_right.Reads as reads
+use Rattle.corner_ends.proofs.go_right.Lts as lts
+use Rattle.corner_ends.proofs.shorten.Reads as shorten-reads
+use Rattle.corner_ends.proofs.slide.Reads as slide-reads
+use Rattle.corner_ends.proofs.word.Reads as word-reads
 
 -- src/lib.rt:222:21
 word-requires : tie.Need-word-requires

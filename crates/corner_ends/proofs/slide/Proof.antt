@@ -1,9 +1,9 @@
 -- The two notes, then the move.
 use borrow.Author.Needs.{needs}
-use Rattle.router.proofs.slide.Statement.{statement}
-use Rattle.router.proofs.slide.Tie as tie
-use Rattle.router.proofs.slide.Reads as reads
-use Rattle.router.proofs.slide.Lts as lts
+use Rattle.corner_ends.proofs.slide.Statement.{statement}
+use Rattle.corner_ends.proofs.slide.Tie as tie
+use Rattle.corner_ends.proofs.slide.Reads as reads
+use Rattle.corner_ends.proofs.slide.Lts as lts
 use Rattle.corner_steps.proofs.move_end.Reads as move-end-reads
 use Rattle.corner_steps.proofs.wide.Reads as wide-reads
 

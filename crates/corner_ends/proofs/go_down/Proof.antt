@@ -1,16 +1,16 @@
 -- Each way out is a step or a way to be stuck, by the laws of Moved.
 use native.Mathlib.Omega.{arith}
 use mathlib.Core.Path.{refl}
-use Rattle.router.specs.Moved.{down-done, down-none, down-empty}
+use Rattle.corner_ends.specs.Moved.{down-done, down-none, down-empty}
 use borrow.Author.Needs.{needs}
-use Rattle.router.proofs.go_down.Statement.{statement}
-use Rattle.router.proofs.go_down.Tie as tie
-use Rattle.router.proofs.go_down.Reads as reads
-use Rattle.router.proofs.go_down.Lts as lts
-use Rattle.router.proofs.below.Reads as below-reads
-use Rattle.router.proofs.bit.Reads as bit-reads
-use Rattle.router.proofs.slide.Reads as slide-reads
-use Rattle.router.proofs.word.Reads as word-reads
+use Rattle.corner_ends.proofs.go_down.Statement.{statement}
+use Rattle.corner_ends.proofs.go_down.Tie as tie
+use Rattle.corner_ends.proofs.go_down.Reads as reads
+use Rattle.corner_ends.proofs.go_down.Lts as lts
+use Rattle.corner_ends.proofs.below.Reads as below-reads
+use Rattle.corner_ends.proofs.bit.Reads as bit-reads
+use Rattle.corner_ends.proofs.slide.Reads as slide-reads
+use Rattle.corner_ends.proofs.word.Reads as word-reads
 
 -- src/lib.rt:201:17
 word-requires : tie.Need-word-requires

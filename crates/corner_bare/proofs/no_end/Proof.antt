@@ -2,22 +2,22 @@
 use native.Mathlib.Omega.{arith}
 use mathlib.Core.Path.{refl, ap}
 use Prim.Native.Nat.{_%_}
-use Rattle.router.specs.Divided.{near-stuck, near-cut, nul-stuck, nul-cut, add-helper, low-set, leave-le, near-cut-row, low-cut-row}
+use Rattle.corner_bare.specs.Divided.{near-stuck, near-cut, nul-stuck, nul-cut, add-helper, low-set, leave-le, near-cut-row, low-cut-row}
 use borrow.Author.Needs.{needs}
-use Rattle.router.proofs.no_end.Statement.{statement}
-use Rattle.router.proofs.no_end.Tie as tie
-use Rattle.router.proofs.no_end.Reads as reads
-use Rattle.router.proofs.no_end.Lts as lts
+use Rattle.corner_bare.proofs.no_end.Statement.{statement}
+use Rattle.corner_bare.proofs.no_end.Tie as tie
+use Rattle.corner_bare.proofs.no_end.Reads as reads
+use Rattle.corner_bare.proofs.no_end.Lts as lts
 use Rattle.corner_steps.proofs.add.Reads as add-reads
 use Rattle.corner_steps.proofs.crossing.Reads as crossing-reads
 use Rattle.corner_steps.proofs.first_at.Reads as first-at-reads
 use Rattle.corner_steps.proofs.least.Reads as least-reads
 use Rattle.corner_steps.proofs.leaving.Reads as leaving-reads
 use Rattle.corner_steps.proofs.wide.Reads as wide-reads
-use Rattle.router.proofs.below.Reads as below-reads
-use Rattle.router.proofs.cut_row.Reads as cut-row-reads
-use Rattle.router.proofs.shorten.Reads as shorten-reads
-use Rattle.router.proofs.word.Reads as word-reads
+use Rattle.corner_ends.proofs.below.Reads as below-reads
+use Rattle.corner_bare.proofs.cut_row.Reads as cut-row-reads
+use Rattle.corner_ends.proofs.shorten.Reads as shorten-reads
+use Rattle.corner_ends.proofs.word.Reads as word-reads
 
 -- src/lib.rt:157:9
 word-requires : tie.Need-word-requires

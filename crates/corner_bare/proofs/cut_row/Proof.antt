@@ -1,18 +1,18 @@
 -- The writes one after the other, by cut-row-is.
 use native.Mathlib.Omega.{arith}
 use mathlib.Core.Path.{refl}
-use Rattle.router.specs.Divided.{cut-row-is}
+use Rattle.corner_bare.specs.Divided.{cut-row-is}
 use borrow.Author.Needs.{needs}
-use Rattle.router.proofs.cut_row.Statement.{statement}
-use Rattle.router.proofs.cut_row.Tie as tie
-use Rattle.router.proofs.cut_row.Reads as reads
-use Rattle.router.proofs.cut_row.Lts as lts
+use Rattle.corner_bare.proofs.cut_row.Statement.{statement}
+use Rattle.corner_bare.proofs.cut_row.Tie as tie
+use Rattle.corner_bare.proofs.cut_row.Reads as reads
+use Rattle.corner_bare.proofs.cut_row.Lts as lts
 use Rattle.corner_steps.proofs.divide.Reads as divide-reads
 use Rattle.corner_steps.proofs.part.Reads as part-reads
 use Rattle.corner_steps.proofs.wide.Reads as wide-reads
-use Rattle.router.proofs.first_dir.Reads as first-dir-reads
-use Rattle.router.proofs.pick.Reads as pick-reads
-use Rattle.router.proofs.second_dir.Reads as second-dir-reads
+use Rattle.corner_bare.proofs.first_dir.Reads as first-dir-reads
+use Rattle.corner_bare.proofs.pick.Reads as pick-reads
+use Rattle.corner_bare.proofs.second_dir.Reads as second-dir-reads
 
 -- src/lib.rt:138:13
 mul-a : tie.Need-mul-a

@@ -1,10 +1,10 @@
 -- Upside down and not.
 use native.Mathlib.Omega.{arith}
 use borrow.Author.Needs.{needs}
-use Rattle.router.proofs.below.Statement.{statement}
-use Rattle.router.proofs.below.Tie as tie
-use Rattle.router.proofs.below.Reads as reads
-use Rattle.router.proofs.below.Lts as lts
+use Rattle.corner_ends.proofs.below.Statement.{statement}
+use Rattle.corner_ends.proofs.below.Tie as tie
+use Rattle.corner_ends.proofs.below.Reads as reads
+use Rattle.corner_ends.proofs.below.Lts as lts
 
 -- src/lib.rt:40:9
 add-result : tie.Need-add-result
