@@ -53,7 +53,21 @@ least-requires c κs = search needs
 
 -- src/lib.rt:165:13
 returns : tie.Need-returns
-returns c = (λ side vert hi. near-stuck (c .before .before .before .before .before .before .before .before .before .before .before .before .before .args .la .now) (c .before .before .before .before .before .before .before .before .before .before .before .before .before .args .lb .now) (c .before .before .before .before .before .before .before .before .before .before .before .before .before .args .ids .now) side vert (c .before .before .before .before .before .before .before .before .before .before .before .before .before .args .half .now) (c .before .before .before .before .before .before .before .before .before .before .before .before .before .args .s1 .now) (c .before .before .before .before .before .before .before .before .before .before .before .before .before .args .s2 .now) (c .before .before .before .before .before .before .before .before .before .before .before .before .before .args .d1 .now) (c .before .before .before .before .before .before .before .before .before .before .before .before .before .args .d2 .now) (c .before .before .before .before .before .before .before .before .before .before .before .before .before .args .lo .now) hi (c .before .before .before .before .before .before .before .before .before .before .before .before .before .args .w) (c .before .before .before .before .before .before .before .before .before .before .before .before .before .args .line) (c .before .before .before .before .before .before .before .before .before .before .before .before .before .args .x) (c .before .before .before .before .before .before .before .before .before .before .before .before .before .args .end) (c .before .before .before .before .before .before .before .before .before .before .before .before .word .result) _ (c .before .before .before .before .before .before .before .before .before .before .before .below .result) (c .before .before .before .before .before .before .before .before .before .before .before .before .word .ensures .0) refl (c .before .before .before .before .before .before .before .before .before .before .before .below .ensures) _ _ _ _ _ _ _ _ _ (c .before .before .before .before .before .before .before .before .before .before .before .before .before .args .w) (c .before .before .before .before .before .before .before .before .before .shorten .ensures) (c .before .before .before .before .before .before .crossing .result) (c .before .before .before .before .before .before .crossing .ensures) (c .before .before .before .before .if1 .taken) (c .before .least .result) (c .before .least .ensures) (c .if2 .taken), ((omega (arith, c .before .before .before .before .before .before .before .before .before .before .before .before .before .pre .6, c .before .before .before .before .before .before .before .before .before .before .before .before .before .pre .7), c .before .before .before .before .before .before .before .before .before .before .before .before .before .pre .7, omega arith, omega arith), c .before .before .before .before .before .before .before .before .before .before .before .before .before .pre .5))
+returns c =
+    let at-least = c .before in
+    let at-if1 = at-least .before .before .before in
+    let at-crossing = at-if1 .before .before in
+    let at-shorten = at-crossing .before .before .before in
+    let at-below = at-shorten .before .before in
+    let at-word = at-below .before in
+    let start = at-word .before in (
+      λ side vert hi. near-stuck (start .args .la .now) (start .args .lb .now) (start .args .ids .now) side vert (start .args .half .now) (start .args .s1 .now) (start .args .s2 .now)
+          (start .args .d1 .now) (start .args .d2 .now) (start .args .lo .now) hi (start .args .w) (start .args .line) (start .args .x) (start .args .end)
+          (at-word .word .result) _ (at-below .below .result) (at-word .word .ensures .0) refl (at-below .below .ensures) _ _ _ _ _ _ _ _ _ (start .args .w)
+          (at-shorten .shorten .ensures) (at-crossing .crossing .result) (at-crossing .crossing .ensures) (at-if1 .if1 .taken) (at-least .least .result)
+          (at-least .least .ensures) (c .if2 .taken),
+      ((omega (arith, start .pre .6, start .pre .7), start .pre .7, omega arith, omega arith), start .pre .5),
+    )
 
 -- src/lib.rt:167:36
 mul-wide : tie.Need-mul-wide
@@ -69,11 +83,41 @@ wide-requires c κs = search needs
 
 -- src/lib.rt:168:9
 cut-row-requires : tie.Need-cut-row-requires
-cut-row-requires c κs = (omega (arith, c .before .before .before .before .before .before .before .before .before .before .before .least .ensures .most, c .before .before .before .before .before .before .before .before .before .before .if2 .left), c .before .before .before .before .before .before .before .before .before .before .before .before .before .before .before .before .before .before .before .before .before .before .before .pre .0, c .before .before .before .before .before .before .before .before .before .before .before .before .before .before .before .before .before .before .before .before .before .before .before .pre .1, c .before .before .before .before .before .before .before .before .before .before .before .before .before .before .before .before .before .before .before .before .before .before .before .pre .5, omega (arith, c .before .before .before .before .before .before .before .before .before .before .before .before .before .before .before .before .before .before .before .before .before .before .before .pre .6, c .before .before .before .before .before .before .before .before .before .before .before .before .before .before .before .before .before .before .before .before .before .before .before .pre .7), c .before .before .before .before .before .before .before .before .before .before .before .before .before .before .before .before .before .before .before .before .before .before .before .pre .7)
+cut-row-requires c κs =
+    let at-if2 = c .before .before .before .before .before .before .before .before .before .before in
+    let at-least = at-if2 .before in
+    let start = at-least .before .before .before .before .before .before .before .before .before .before .before .before in (
+      omega (arith, at-least .least .ensures .most, at-if2 .if2 .left),
+      start .pre .0,
+      start .pre .1,
+      start .pre .5,
+      omega (arith, start .pre .6, start .pre .7),
+      start .pre .7,
+    )
 
 -- src/lib.rt:168:9
 returns-2 : tie.Need-returns-2
-returns-2 c = (λ side vert hi. near-cut (c .before .before .before .before .before .before .before .before .before .before .before .before .before .before .before .before .before .before .before .before .before .before .before .before .args .la .now) (c .before .before .before .before .before .before .before .before .before .before .before .before .before .before .before .before .before .before .before .before .before .before .before .before .args .lb .now) (c .before .before .before .before .before .before .before .before .before .before .before .before .before .before .before .before .before .before .before .before .before .before .before .before .args .ids .now) side vert (c .before .before .before .before .before .before .before .before .before .before .before .before .before .before .before .before .before .before .before .before .before .before .before .before .args .half .now) (c .before .before .before .before .before .before .before .before .before .before .before .before .before .before .before .before .before .before .before .before .before .before .before .before .args .s1 .now) (c .before .before .before .before .before .before .before .before .before .before .before .before .before .before .before .before .before .before .before .before .before .before .before .before .args .s2 .now) (c .before .before .before .before .before .before .before .before .before .before .before .before .before .before .before .before .before .before .before .before .before .before .before .before .args .d1 .now) (c .before .before .before .before .before .before .before .before .before .before .before .before .before .before .before .before .before .before .before .before .before .before .before .before .args .d2 .now) (c .before .before .before .before .before .before .before .before .before .before .before .before .before .before .before .before .before .before .before .before .before .before .before .before .args .lo .now) hi (c .before .before .before .before .before .before .before .before .before .before .before .before .before .before .before .before .before .before .before .before .before .before .before .before .args .w) (c .before .before .before .before .before .before .before .before .before .before .before .before .before .before .before .before .before .before .before .before .before .before .before .before .args .line) (c .before .before .before .before .before .before .before .before .before .before .before .before .before .before .before .before .before .before .before .before .before .before .before .before .args .x) (c .before .before .before .before .before .before .before .before .before .before .before .before .before .before .before .before .before .before .before .before .before .before .before .before .args .end) (c .before .before .before .before .before .before .before .before .before .before .before .before .before .before .before .before .before .before .before .before .before .before .before .word .result) _ (c .before .before .before .before .before .before .before .before .before .before .before .before .before .before .before .before .before .before .before .before .before .before .below .result) (c .before .before .before .before .before .before .before .before .before .before .before .before .before .before .before .before .before .before .before .before .before .before .before .word .ensures .0) refl (c .before .before .before .before .before .before .before .before .before .before .before .before .before .before .before .before .before .before .before .before .before .before .below .ensures) _ _ _ _ _ _ _ _ _ _ (c .before .before .before .before .before .before .before .before .before .before .before .before .before .before .before .before .before .before .before .before .shorten .ensures) (c .before .before .before .before .before .before .before .before .before .before .before .before .before .before .before .before .before .crossing .result) (c .before .before .before .before .before .before .before .before .before .before .before .before .before .before .before .before .before .crossing .ensures) (c .before .before .before .before .before .before .before .before .before .before .before .before .before .before .before .if1 .taken) (c .before .before .before .before .before .before .before .before .before .before .before .before .least .result) (c .before .before .before .before .before .before .before .before .before .before .before .before .least .ensures) (c .before .before .before .before .before .before .before .before .before .before .before .if2 .left) _ (ap (λ z. z % 32) (c .before .before .before .before .before .before .before .before .before .wide .ensures .0)) (c .cut-row .ensures), (near-cut-row (c .before .before .before .before .before .before .before .before .before .before .before .before .before .before .before .before .before .before .before .before .before .before .before .before .args .w) _ (c .cut-row .ensures .work-is) (omega (arith, c .before .before .before .before .before .before .before .before .before .before .before .before .before .before .before .before .before .before .before .before .before .before .before .before .pre .6, c .before .before .before .before .before .before .before .before .before .before .before .before .before .before .before .before .before .before .before .before .before .before .before .before .pre .7)) (c .before .before .before .before .before .before .before .before .before .before .before .before .before .before .before .before .before .before .before .before .before .before .before .before .pre .7), low-cut-row (c .before .before .before .before .before .before .before .before .before .before .before .before .before .before .before .before .before .before .before .before .before .before .before .before .args .ids .now) _ (c .before .before .before .before .before .before .before .before .before .before .before .before .least .result) (c .before .before .before .before .before .before .before .before .before .before .before .before .before .before .before .before .before .before .before .before .before .before .before .before .args .w .n) (c .before .before .before .before .before .before .before .before .before .before .before .before .before .before .before .before .before .before .before .before .before .before .before .before .args .w .next) (c .before .before .before .before .before .before .before .before .before .before .before .before .before .before .before .before .before .before .before .before .before .before .before .before .pre .5) (c .before .before .before .before .before .before .before .before .before .before .before .before .before .before .before .before .before .before .before .before .before .before .before .before .pre .1) (c .cut-row .ensures .ids-is)))
+returns-2 c =
+    let at-wide = c .before .before .before .before .before .before .before .before .before in
+    let at-if2 = at-wide .before .before in
+    let at-least = at-if2 .before in
+    let at-if1 = at-least .before .before .before in
+    let at-crossing = at-if1 .before .before in
+    let at-shorten = at-crossing .before .before .before in
+    let at-below = at-shorten .before .before in
+    let at-word = at-below .before in
+    let start = at-word .before in (
+      λ side vert hi. near-cut (start .args .la .now) (start .args .lb .now) (start .args .ids .now) side vert (start .args .half .now) (start .args .s1 .now) (start .args .s2 .now)
+          (start .args .d1 .now) (start .args .d2 .now) (start .args .lo .now) hi (start .args .w) (start .args .line) (start .args .x) (start .args .end)
+          (at-word .word .result) _ (at-below .below .result) (at-word .word .ensures .0) refl (at-below .below .ensures) _ _ _ _ _ _ _ _ _ _
+          (at-shorten .shorten .ensures) (at-crossing .crossing .result) (at-crossing .crossing .ensures) (at-if1 .if1 .taken) (at-least .least .result)
+          (at-least .least .ensures) (at-if2 .if2 .left) _ (ap (λ z. z % 32) (at-wide .wide .ensures .0)) (c .cut-row .ensures),
+      (
+        near-cut-row (start .args .w) _ (c .cut-row .ensures .work-is) (omega (arith, start .pre .6, start .pre .7)) (start .pre .7),
+        low-cut-row (start .args .ids .now) _ (at-least .least .result) (start .args .w .n) (start .args .w .next) (start .pre .5) (start .pre .1)
+            (c .cut-row .ensures .ids-is),
+      ),
+    )
 
 -- src/lib.rt:170:9
 leaving-requires : tie.Need-leaving-requires
@@ -81,7 +125,9 @@ leaving-requires c κs = search needs
 
 -- src/lib.rt:171:8
 add-if3 : tie.Need-add-if3
-add-if3 c = omega (arith, c .leaving .ensures, leave-le (c .before .before .before .before .before .before .before .before .before .before .before .before .args .la .now) (c .before .before .before .before .before .before .before .before .before .before .before .before .args .lb .now) (c .before .before .before .before .before .before .before .before .before .before .before .before .args .line) (c .before .before .before .before .before .before .before .before .before .before .before .before .args .w .n))
+add-if3 c =
+    let start = c .before .before .before .before .before .before .before .before .before .before .before .before in
+    omega (arith, c .leaving .ensures, leave-le (start .args .la .now) (start .args .lb .now) (start .args .line) (start .args .w .n))
 
 -- src/lib.rt:171:17
 add-if3-2 : tie.Need-add-if3-2
@@ -93,7 +139,23 @@ first-at-requires c κs = search needs
 
 -- src/lib.rt:174:13
 returns-3 : tie.Need-returns-3
-returns-3 c = (λ side vert hi. nul-stuck (c .before .before .before .before .before .before .before .before .before .before .before .before .before .before .before .before .before .args .la .now) (c .before .before .before .before .before .before .before .before .before .before .before .before .before .before .before .before .before .args .lb .now) (c .before .before .before .before .before .before .before .before .before .before .before .before .before .before .before .before .before .args .ids .now) side vert (c .before .before .before .before .before .before .before .before .before .before .before .before .before .before .before .before .before .args .half .now) (c .before .before .before .before .before .before .before .before .before .before .before .before .before .before .before .before .before .args .s1 .now) (c .before .before .before .before .before .before .before .before .before .before .before .before .before .before .before .before .before .args .s2 .now) (c .before .before .before .before .before .before .before .before .before .before .before .before .before .before .before .before .before .args .d1 .now) (c .before .before .before .before .before .before .before .before .before .before .before .before .before .before .before .before .before .args .d2 .now) (c .before .before .before .before .before .before .before .before .before .before .before .before .before .before .before .before .before .args .lo .now) hi (c .before .before .before .before .before .before .before .before .before .before .before .before .before .before .before .before .before .args .w) (c .before .before .before .before .before .before .before .before .before .before .before .before .before .before .before .before .before .args .line) (c .before .before .before .before .before .before .before .before .before .before .before .before .before .before .before .before .before .args .x) (c .before .before .before .before .before .before .before .before .before .before .before .before .before .before .before .before .before .args .end) (c .before .before .before .before .before .before .before .before .before .before .before .before .before .before .before .before .word .result) _ (c .before .before .before .before .before .before .before .before .before .before .before .before .before .before .before .below .result) (c .before .before .before .before .before .before .before .before .before .before .before .before .before .before .before .before .word .ensures .0) refl (c .before .before .before .before .before .before .before .before .before .before .before .before .before .before .before .below .ensures) _ _ _ _ _ _ _ _ _ (c .before .before .before .before .before .before .before .before .before .before .before .before .before .before .before .before .before .args .w) (c .before .before .before .before .before .before .before .before .before .before .before .before .before .shorten .ensures) (c .before .before .before .before .before .before .before .before .before .before .crossing .result) (c .before .before .before .before .before .before .before .before .before .before .crossing .ensures) (c .before .before .before .before .before .before .before .before .if1 .left) (c .before .before .before .before .before .leaving .result) (c .before .before .before .before .before .leaving .ensures) (c .before .before .before .before .if3 .taken) (c .before .first-at .result) (c .before .first-at .ensures) (c .if4 .taken), ((omega (arith, c .before .before .before .before .before .before .before .before .before .before .before .before .before .before .before .before .before .pre .6, c .before .before .before .before .before .before .before .before .before .before .before .before .before .before .before .before .before .pre .7), c .before .before .before .before .before .before .before .before .before .before .before .before .before .before .before .before .before .pre .7, omega arith, omega arith), c .before .before .before .before .before .before .before .before .before .before .before .before .before .before .before .before .before .pre .5))
+returns-3 c =
+    let at-first-at = c .before in
+    let at-if3 = at-first-at .before .before .before in
+    let at-leaving = at-if3 .before in
+    let at-if1 = at-leaving .before .before .before in
+    let at-crossing = at-if1 .before .before in
+    let at-shorten = at-crossing .before .before .before in
+    let at-below = at-shorten .before .before in
+    let at-word = at-below .before in
+    let start = at-word .before in (
+      λ side vert hi. nul-stuck (start .args .la .now) (start .args .lb .now) (start .args .ids .now) side vert (start .args .half .now) (start .args .s1 .now) (start .args .s2 .now)
+          (start .args .d1 .now) (start .args .d2 .now) (start .args .lo .now) hi (start .args .w) (start .args .line) (start .args .x) (start .args .end)
+          (at-word .word .result) _ (at-below .below .result) (at-word .word .ensures .0) refl (at-below .below .ensures) _ _ _ _ _ _ _ _ _ (start .args .w)
+          (at-shorten .shorten .ensures) (at-crossing .crossing .result) (at-crossing .crossing .ensures) (at-if1 .if1 .left) (at-leaving .leaving .result)
+          (at-leaving .leaving .ensures) (at-if3 .if3 .taken) (at-first-at .first-at .result) (at-first-at .first-at .ensures) (c .if4 .taken),
+      ((omega (arith, start .pre .6, start .pre .7), start .pre .7, omega arith, omega arith), start .pre .5),
+    )
 
 -- src/lib.rt:176:17
 mul-a : tie.Need-mul-a
@@ -105,11 +167,42 @@ element-copy-out-a c = search needs
 
 -- src/lib.rt:177:9
 cut-row-requires-2 : tie.Need-cut-row-requires-2
-cut-row-requires-2 c κs = (omega (arith, c .before .before .before .before .before .before .before .before .before .before .first-at .ensures .most, c .before .before .before .before .before .before .before .before .before .if4 .left), c .before .before .before .before .before .before .before .before .before .before .before .before .before .before .before .before .before .before .before .before .before .before .before .before .before .before .pre .0, c .before .before .before .before .before .before .before .before .before .before .before .before .before .before .before .before .before .before .before .before .before .before .before .before .before .before .pre .1, c .before .before .before .before .before .before .before .before .before .before .before .before .before .before .before .before .before .before .before .before .before .before .before .before .before .before .pre .5, omega (arith, c .before .before .before .before .before .before .before .before .before .before .before .before .before .before .before .before .before .before .before .before .before .before .before .before .before .before .pre .6, c .before .before .before .before .before .before .before .before .before .before .before .before .before .before .before .before .before .before .before .before .before .before .before .before .before .before .pre .7), c .before .before .before .before .before .before .before .before .before .before .before .before .before .before .before .before .before .before .before .before .before .before .before .before .before .before .pre .7)
+cut-row-requires-2 c κs =
+    let at-if4 = c .before .before .before .before .before .before .before .before .before in
+    let at-first-at = at-if4 .before in
+    let start = at-first-at .before .before .before .before .before .before .before .before .before .before .before .before .before .before .before .before in (
+      omega (arith, at-first-at .first-at .ensures .most, at-if4 .if4 .left),
+      start .pre .0,
+      start .pre .1,
+      start .pre .5,
+      omega (arith, start .pre .6, start .pre .7),
+      start .pre .7,
+    )
 
 -- src/lib.rt:177:9
 returns-4 : tie.Need-returns-4
-returns-4 c = (λ side vert hi. nul-cut (c .before .before .before .before .before .before .before .before .before .before .before .before .before .before .before .before .before .before .before .before .before .before .before .before .before .before .before .args .la .now) (c .before .before .before .before .before .before .before .before .before .before .before .before .before .before .before .before .before .before .before .before .before .before .before .before .before .before .before .args .lb .now) (c .before .before .before .before .before .before .before .before .before .before .before .before .before .before .before .before .before .before .before .before .before .before .before .before .before .before .before .args .ids .now) side vert (c .before .before .before .before .before .before .before .before .before .before .before .before .before .before .before .before .before .before .before .before .before .before .before .before .before .before .before .args .half .now) (c .before .before .before .before .before .before .before .before .before .before .before .before .before .before .before .before .before .before .before .before .before .before .before .before .before .before .before .args .s1 .now) (c .before .before .before .before .before .before .before .before .before .before .before .before .before .before .before .before .before .before .before .before .before .before .before .before .before .before .before .args .s2 .now) (c .before .before .before .before .before .before .before .before .before .before .before .before .before .before .before .before .before .before .before .before .before .before .before .before .before .before .before .args .d1 .now) (c .before .before .before .before .before .before .before .before .before .before .before .before .before .before .before .before .before .before .before .before .before .before .before .before .before .before .before .args .d2 .now) (c .before .before .before .before .before .before .before .before .before .before .before .before .before .before .before .before .before .before .before .before .before .before .before .before .before .before .before .args .lo .now) hi (c .before .before .before .before .before .before .before .before .before .before .before .before .before .before .before .before .before .before .before .before .before .before .before .before .before .before .before .args .w) (c .before .before .before .before .before .before .before .before .before .before .before .before .before .before .before .before .before .before .before .before .before .before .before .before .before .before .before .args .line) (c .before .before .before .before .before .before .before .before .before .before .before .before .before .before .before .before .before .before .before .before .before .before .before .before .before .before .before .args .x) (c .before .before .before .before .before .before .before .before .before .before .before .before .before .before .before .before .before .before .before .before .before .before .before .before .before .before .before .args .end) (c .before .before .before .before .before .before .before .before .before .before .before .before .before .before .before .before .before .before .before .before .before .before .before .before .before .before .word .result) _ (c .before .before .before .before .before .before .before .before .before .before .before .before .before .before .before .before .before .before .before .before .before .before .before .before .before .below .result) (c .before .before .before .before .before .before .before .before .before .before .before .before .before .before .before .before .before .before .before .before .before .before .before .before .before .before .word .ensures .0) refl (c .before .before .before .before .before .before .before .before .before .before .before .before .before .before .before .before .before .before .before .before .before .before .before .before .before .below .ensures) _ _ _ _ _ _ _ _ _ _ (c .before .before .before .before .before .before .before .before .before .before .before .before .before .before .before .before .before .before .before .before .before .before .before .shorten .ensures) (c .before .before .before .before .before .before .before .before .before .before .before .before .before .before .before .before .before .before .before .before .crossing .result) (c .before .before .before .before .before .before .before .before .before .before .before .before .before .before .before .before .before .before .before .before .crossing .ensures) (c .before .before .before .before .before .before .before .before .before .before .before .before .before .before .before .before .before .before .if1 .left) (c .before .before .before .before .before .before .before .before .before .before .before .before .before .before .before .leaving .result) (c .before .before .before .before .before .before .before .before .before .before .before .before .before .before .before .leaving .ensures) (c .before .before .before .before .before .before .before .before .before .before .before .before .before .before .if3 .taken) (c .before .before .before .before .before .before .before .before .before .before .before .first-at .result) (c .before .before .before .before .before .before .before .before .before .before .before .first-at .ensures) (c .before .before .before .before .before .before .before .before .before .before .if4 .left) (c .cut-row2 .ensures), (near-cut-row (c .before .before .before .before .before .before .before .before .before .before .before .before .before .before .before .before .before .before .before .before .before .before .before .before .before .before .before .args .w) _ (c .cut-row2 .ensures .work-is) (omega (arith, c .before .before .before .before .before .before .before .before .before .before .before .before .before .before .before .before .before .before .before .before .before .before .before .before .before .before .before .pre .6, c .before .before .before .before .before .before .before .before .before .before .before .before .before .before .before .before .before .before .before .before .before .before .before .before .before .before .before .pre .7)) (c .before .before .before .before .before .before .before .before .before .before .before .before .before .before .before .before .before .before .before .before .before .before .before .before .before .before .before .pre .7), low-cut-row (c .before .before .before .before .before .before .before .before .before .before .before .before .before .before .before .before .before .before .before .before .before .before .before .before .before .before .before .args .ids .now) _ (c .before .before .before .before .before .before .before .before .before .before .before .first-at .result) (c .before .before .before .before .before .before .before .before .before .before .before .before .before .before .before .before .before .before .before .before .before .before .before .before .before .before .before .args .w .n) (c .before .before .before .before .before .before .before .before .before .before .before .before .before .before .before .before .before .before .before .before .before .before .before .before .before .before .before .args .w .next) (c .before .before .before .before .before .before .before .before .before .before .before .before .before .before .before .before .before .before .before .before .before .before .before .before .before .before .before .pre .5) (c .before .before .before .before .before .before .before .before .before .before .before .before .before .before .before .before .before .before .before .before .before .before .before .before .before .before .before .pre .1) (c .cut-row2 .ensures .ids-is)))
+returns-4 c =
+    let at-if4 = c .before .before .before .before .before .before .before .before .before .before in
+    let at-first-at = at-if4 .before in
+    let at-if3 = at-first-at .before .before .before in
+    let at-leaving = at-if3 .before in
+    let at-if1 = at-leaving .before .before .before in
+    let at-crossing = at-if1 .before .before in
+    let at-shorten = at-crossing .before .before .before in
+    let at-below = at-shorten .before .before in
+    let at-word = at-below .before in
+    let start = at-word .before in (
+      λ side vert hi. nul-cut (start .args .la .now) (start .args .lb .now) (start .args .ids .now) side vert (start .args .half .now) (start .args .s1 .now) (start .args .s2 .now)
+          (start .args .d1 .now) (start .args .d2 .now) (start .args .lo .now) hi (start .args .w) (start .args .line) (start .args .x) (start .args .end)
+          (at-word .word .result) _ (at-below .below .result) (at-word .word .ensures .0) refl (at-below .below .ensures) _ _ _ _ _ _ _ _ _ _
+          (at-shorten .shorten .ensures) (at-crossing .crossing .result) (at-crossing .crossing .ensures) (at-if1 .if1 .left) (at-leaving .leaving .result)
+          (at-leaving .leaving .ensures) (at-if3 .if3 .taken) (at-first-at .first-at .result) (at-first-at .first-at .ensures) (at-if4 .if4 .left) (c .cut-row2 .ensures),
+      (
+        near-cut-row (start .args .w) _ (c .cut-row2 .ensures .work-is) (omega (arith, start .pre .6, start .pre .7)) (start .pre .7),
+        low-cut-row (start .args .ids .now) _ (at-first-at .first-at .result) (start .args .w .n) (start .args .w .next) (start .pre .5) (start .pre .1)
+            (c .cut-row2 .ensures .ids-is),
+      ),
+    )
 
 -- src/lib.rt:179:5
 add-requires : tie.Need-add-requires
@@ -125,7 +218,26 @@ add-t67 c = search needs
 
 -- src/lib.rt:149:1
 returns-5 : tie.Need-returns-5
-returns-5 c = (λ side vert hi. add-helper (c .before .before .before .before .before .before .before .before .before .before .before .before .before .before .before .before .before .before .args .la .now) (c .before .before .before .before .before .before .before .before .before .before .before .before .before .before .before .before .before .before .args .lb .now) (c .before .before .before .before .before .before .before .before .before .before .before .before .before .before .before .before .before .before .args .ids .now) side vert (c .before .before .before .before .before .before .before .before .before .before .before .before .before .before .before .before .before .before .args .half .now) (c .before .before .before .before .before .before .before .before .before .before .before .before .before .before .before .before .before .before .args .s1 .now) (c .before .before .before .before .before .before .before .before .before .before .before .before .before .before .before .before .before .before .args .s2 .now) (c .before .before .before .before .before .before .before .before .before .before .before .before .before .before .before .before .before .before .args .d1 .now) (c .before .before .before .before .before .before .before .before .before .before .before .before .before .before .before .before .before .before .args .d2 .now) (c .before .before .before .before .before .before .before .before .before .before .before .before .before .before .before .before .before .before .args .lo .now) hi (c .before .before .before .before .before .before .before .before .before .before .before .before .before .before .before .before .before .before .args .w) (c .before .before .before .before .before .before .before .before .before .before .before .before .before .before .before .before .before .before .args .line) (c .before .before .before .before .before .before .before .before .before .before .before .before .before .before .before .before .before .before .args .x) (c .before .before .before .before .before .before .before .before .before .before .before .before .before .before .before .before .before .before .args .end) (c .before .before .before .before .before .before .before .before .before .before .before .before .before .before .before .before .before .word .result) _ (c .before .before .before .before .before .before .before .before .before .before .before .before .before .before .before .before .below .result) (c .before .before .before .before .before .before .before .before .before .before .before .before .before .before .before .before .before .word .ensures .0) refl (c .before .before .before .before .before .before .before .before .before .before .before .before .before .before .before .before .below .ensures) _ _ _ _ _ _ _ _ _ _ (c .before .before .before .before .before .before .before .before .before .before .before .before .before .before .shorten .ensures) (c .before .before .before .before .before .before .before .before .before .before .before .crossing .result) (c .before .before .before .before .before .before .before .before .before .before .before .crossing .ensures) (c .before .before .before .before .before .before .before .before .before .if1 .left) (c .before .before .before .before .before .before .leaving .result) (c .before .before .before .before .before .before .leaving .ensures) (c .before .before .before .before .before .if3 .left) (c .before .add .ensures) refl refl refl refl refl refl, ((omega (arith, c .before .before .before .before .before .before .before .before .before .before .before .before .before .before .before .before .before .before .pre .6, c .before .before .before .before .before .before .before .before .before .before .before .before .before .before .before .before .before .before .pre .7), c .before .before .before .before .before .before .before .before .before .before .before .before .before .before .before .before .before .before .pre .7, omega arith, omega arith), rw (c .before .add .ensures .ids-is) (low-set (c .before .before .before .before .before .before .before .before .before .before .before .before .before .before .before .before .before .before .args .ids .now) (c .before .before .before .before .before .before .before .before .before .before .before .before .before .before .before .before .before .before .args .w .n) (c .before .before .before .before .before .before .before .before .before .before .before .before .before .before .before .before .before .before .args .w .next) (c .before .before .before .before .before .before .before .before .before .before .before .before .before .before .before .before .before .before .pre .5) (omega (arith, c .before .before .before .before .before .before .before .before .before .before .before .before .before .before .before .before .before .before .pre .1)))))
+returns-5 c =
+    let at-add = c .before in
+    let at-if3 = at-add .before .before .before .before in
+    let at-leaving = at-if3 .before in
+    let at-if1 = at-leaving .before .before .before in
+    let at-crossing = at-if1 .before .before in
+    let at-shorten = at-crossing .before .before .before in
+    let at-below = at-shorten .before .before in
+    let at-word = at-below .before in
+    let start = at-word .before in (
+      λ side vert hi. add-helper (start .args .la .now) (start .args .lb .now) (start .args .ids .now) side vert (start .args .half .now) (start .args .s1 .now) (start .args .s2 .now)
+          (start .args .d1 .now) (start .args .d2 .now) (start .args .lo .now) hi (start .args .w) (start .args .line) (start .args .x) (start .args .end)
+          (at-word .word .result) _ (at-below .below .result) (at-word .word .ensures .0) refl (at-below .below .ensures) _ _ _ _ _ _ _ _ _ _
+          (at-shorten .shorten .ensures) (at-crossing .crossing .result) (at-crossing .crossing .ensures) (at-if1 .if1 .left) (at-leaving .leaving .result)
+          (at-leaving .leaving .ensures) (at-if3 .if3 .left) (at-add .add .ensures) refl refl refl refl refl refl,
+      (
+        (omega (arith, start .pre .6, start .pre .7), start .pre .7, omega arith, omega arith),
+        rw (at-add .add .ensures .ids-is) (low-set (start .args .ids .now) (start .args .w .n) (start .args .w .next) (start .pre .5) (omega (arith, start .pre .1))),
+      ),
+    )
 
 pub no-end-spec : {M : Type 1} → statement M
 no-end-spec =
