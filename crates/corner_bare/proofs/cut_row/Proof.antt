@@ -60,7 +60,10 @@ second-dir-requires c κs = search needs
 
 -- src/lib.rt:143:5
 part-requires : tie.Need-part-requires
-part-requires c κs = (omega (arith, c .before .before .before .before .before .before .before .before .before .wide .ensures .0, c .before .before .before .before .before .before .before .before .before .before .before .before .before .pre .3 (c .before .before .before .before .before .before .before .before .before .before .before .before .before .args .i)), c .before .before .before .before .before .before .before .before .before .before .before .before .before .pre .2)
+part-requires c κs =
+    let at-wide = c .before .before .before .before .before .before .before .before .before in
+    let start = at-wide .before .before .before .before in
+    (omega (arith, at-wide .wide .ensures .0, start .pre .3 (start .args .i)), start .pre .2)
 
 -- src/lib.rt:144:5
 divide-requires : tie.Need-divide-requires
@@ -76,7 +79,18 @@ add-t24 c = search needs
 
 -- src/lib.rt:131:1
 returns : tie.Need-returns
-returns c = cut-row-is _ _ _ _ _ _ _ _ (c .before .before .before .before .before .before .before .before .before .before .before .before .before .before .before .before .before .before .args .w) (c .before .before .before .before .before .before .before .before .before .before .before .before .before .before .before .before .before .before .args .i) (c .before .before .before .before .before .before .before .before .before .before .before .before .before .before .before .before .before .before .args .first) (c .before .before .before .before .before .before .before .before .before .before .before .before .before .before .before .before .before .before .args .nul) (c .before .before .before .before .before .before .before .before .before .before .before .before .before .before .before .before .before .before .args .bul) (c .before .before .before .before .before .before .before .before .before .before .before .before .before .before .wide .result) (c .before .before .before .before .before .before .before .before .before .before .before .before .before .pick .result) (c .before .before .before .before .before .before .before .before .before .before .before .before .pick2 .result) (c .before .before .before .before .before .before .first-dir .result) (c .before .before .before .before .before .second-dir .result) _ _ _ _ _ _ _ _ _ (c .before .before .before .before .before .before .before .before .before .before .before .before .before .before .wide .ensures .0) (c .before .before .before .before .before .before .before .before .before .before .before .before .before .pick .ensures) (c .before .before .before .before .before .before .before .before .before .before .before .before .pick2 .ensures) (c .before .before .before .before .before .before .first-dir .ensures) (c .before .before .before .before .before .second-dir .ensures) (c .before .before .before .before .part .ensures) (c .divide .ensures) refl
+returns c =
+    let at-part = c .before .before .before .before in
+    let at-second-dir = at-part .before in
+    let at-first-dir = at-second-dir .before in
+    let at-pick2 = at-first-dir .before .before .before .before .before .before in
+    let at-pick = at-pick2 .before in
+    let at-wide = at-pick .before in
+    let start = at-wide .before .before .before .before in
+    cut-row-is _ _ _ _ _ _ _ _ (start .args .w) (start .args .i) (start .args .first) (start .args .nul) (start .args .bul) (at-wide .wide .result)
+    (at-pick .pick .result) (at-pick2 .pick2 .result) (at-first-dir .first-dir .result) (at-second-dir .second-dir .result) _ _ _ _ _ _ _ _ _
+    (at-wide .wide .ensures .0) (at-pick .pick .ensures) (at-pick2 .pick2 .ensures) (at-first-dir .first-dir .ensures) (at-second-dir .second-dir .ensures)
+    (at-part .part .ensures) (c .divide .ensures) refl
 
 pub cut-row-spec : {M : Type 1} → statement M
 cut-row-spec =

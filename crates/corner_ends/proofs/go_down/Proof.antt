@@ -54,15 +54,39 @@ add-t17 c = search needs
 
 -- src/lib.rt:205:13
 returns : tie.Need-returns
-returns c = (λ half s1 s2 d1 d2 lo hi. down-done (c .before .before .before .before .before .before .before .before .before .before .before .before .args .la .now) (c .before .before .before .before .before .before .before .before .before .before .before .before .args .lb .now) (c .before .before .before .before .before .before .before .before .before .before .before .before .args .ids .now) (c .before .before .before .before .before .before .before .before .before .before .before .before .args .side .now) (c .before .before .before .before .before .before .before .before .before .before .before .before .args .vert .now) half s1 s2 d1 d2 lo hi (c .before .before .before .before .before .before .before .before .before .before .before .before .args .w) (c .before .before .before .before .before .before .before .before .before .before .before .before .args .line) (c .before .before .before .before .before .before .before .before .before .before .before .before .args .x) (c .before .before .before .before .before .before .before .before .before .before .before .before .args .end) (c .before .before .before .before .before .before .before .before .before .before .before .before .args .i) (c .before .before .before .before .before .before .before .before .before .word .result) (c .before .before .before .before .before .before .before .before .below .result) _ _ (c .before .before .before .before .before .before .before .before .before .word .ensures .0) (c .before .before .before .before .before .before .before .before .before .before .if2 .taken) _ _ _ _ lo _ (c .before .slide .ensures .0) (c .before .slide .ensures .1) (c .before .before .before .before .before .before .before .before .before .before .before .if1 .taken) (c .before .before .before .before .before .before .bit .result) (c .before .before .before .before .before .before .bit .ensures .0) (c .before .before .before .before .before .before .before .before .below .ensures) refl refl refl refl, (omega (arith, c .before .before .before .before .before .before .before .before .before .before .before .before .pre .5, c .before .before .before .before .before .before .before .before .before .before .before .before .pre .6), c .before .before .before .before .before .before .before .before .before .before .before .before .pre .6, omega arith, omega arith))
+returns c =
+    let at-slide = c .before in
+    let at-bit = at-slide .before .before .before .before .before in
+    let at-below = at-bit .before .before in
+    let at-word = at-below .before in
+    let at-if2 = at-word .before in
+    let at-if1 = at-if2 .before in
+    let start = at-if1 .before in (
+      λ half s1 s2 d1 d2 lo hi. down-done (start .args .la .now) (start .args .lb .now) (start .args .ids .now) (start .args .side .now) (start .args .vert .now) half s1 s2 d1 d2 lo hi
+          (start .args .w) (start .args .line) (start .args .x) (start .args .end) (start .args .i) (at-word .word .result) (at-below .below .result) _ _
+          (at-word .word .ensures .0) (at-if2 .if2 .taken) _ _ _ _ lo _ (at-slide .slide .ensures .0) (at-slide .slide .ensures .1) (at-if1 .if1 .taken)
+          (at-bit .bit .result) (at-bit .bit .ensures .0) (at-below .below .ensures) refl refl refl refl,
+      (omega (arith, start .pre .5, start .pre .6), start .pre .6, omega arith, omega arith),
+    )
 
 -- src/lib.rt:192:1
 returns-2 : tie.Need-returns-2
-returns-2 c = (λ half s1 s2 d1 d2 lo hi. down-none (c .before .before .args .la .now) (c .before .before .args .lb .now) (c .before .before .args .ids .now) (c .before .before .args .side .now) (c .before .before .args .vert .now) half s1 s2 d1 d2 lo hi (c .before .before .args .w) (c .before .before .args .line) (c .before .before .args .x) (c .before .before .args .end) (c .before .before .args .i) _ (c .before .if1 .taken) (c .if2 .left), (omega (arith, c .before .before .pre .5, c .before .before .pre .6), c .before .before .pre .6, omega arith, omega arith))
+returns-2 c =
+    let at-if1 = c .before in
+    let start = at-if1 .before in (
+      λ half s1 s2 d1 d2 lo hi. down-none (start .args .la .now) (start .args .lb .now) (start .args .ids .now) (start .args .side .now) (start .args .vert .now) half s1 s2 d1 d2 lo hi
+          (start .args .w) (start .args .line) (start .args .x) (start .args .end) (start .args .i) _ (at-if1 .if1 .taken) (c .if2 .left),
+      (omega (arith, start .pre .5, start .pre .6), start .pre .6, omega arith, omega arith),
+    )
 
 -- src/lib.rt:192:1
 returns-3 : tie.Need-returns-3
-returns-3 c = (λ half s1 s2 d1 d2 lo hi. down-empty (c .before .args .la .now) (c .before .args .lb .now) (c .before .args .ids .now) (c .before .args .side .now) (c .before .args .vert .now) half s1 s2 d1 d2 lo hi (c .before .args .w) (c .before .args .line) (c .before .args .x) (c .before .args .end) (c .before .args .i) _ (c .if1 .left), (omega (arith, c .before .pre .5, c .before .pre .6), c .before .pre .6, omega arith, omega arith))
+returns-3 c =
+    let start = c .before in (
+      λ half s1 s2 d1 d2 lo hi. down-empty (start .args .la .now) (start .args .lb .now) (start .args .ids .now) (start .args .side .now) (start .args .vert .now) half s1 s2 d1 d2 lo hi
+          (start .args .w) (start .args .line) (start .args .x) (start .args .end) (start .args .i) _ (c .if1 .left),
+      (omega (arith, start .pre .5, start .pre .6), start .pre .6, omega arith, omega arith),
+    )
 
 pub go-down-spec : {M : Type 1} → statement M
 go-down-spec =

@@ -41,19 +41,50 @@ slide-requires c κs = search needs
 
 -- src/lib.rt:226:17
 returns : tie.Need-returns
-returns c = (λ half s1 s2 d1 d2 hi. right-done (c .before .before .before .before .before .before .before .before .before .before .before .before .before .args .la .now) (c .before .before .before .before .before .before .before .before .before .before .before .before .before .args .lb .now) (c .before .before .before .before .before .before .before .before .before .before .before .before .before .args .ids .now) (c .before .before .before .before .before .before .before .before .before .before .before .before .before .args .side .now) (c .before .before .before .before .before .before .before .before .before .before .before .before .before .args .vert .now) half s1 s2 d1 d2 (c .before .before .before .before .before .before .before .before .before .before .before .before .before .args .lo .now) hi (c .before .before .before .before .before .before .before .before .before .before .before .before .before .args .w) (c .before .before .before .before .before .before .before .before .before .before .before .before .before .args .line) (c .before .before .before .before .before .before .before .before .before .before .before .before .before .args .x) (c .before .before .before .before .before .before .before .before .before .before .before .before .before .args .end) (c .before .before .before .before .before .before .before .before .before .before .before .before .before .args .i) (c .before .before .before .before .before .before .before .before .word .result) _ _ _ (c .before .before .before .before .before .before .before .before .word .ensures .0) (c .before .before .before .before .before .before .before .before .before .if3 .taken) _ _ _ _ _ _ (c .slide .ensures .0) (c .slide .ensures .1) (c .before .before .before .before .before .before .before .before .before .before .before .if1 .taken) (c .before .before .before .before .before .before .before .before .before .before .if2 .taken) refl refl refl (c .before .before .before .before .before .shorten .ensures) refl, (c .before .before .before .before .before .before .before .before .before .before .before .before .before .pre .5, c .before .before .before .before .before .before .before .before .before .before .before .before .before .pre .6, omega arith, omega arith))
+returns c =
+    let at-shorten = c .before .before .before .before .before in
+    let at-word = at-shorten .before .before .before in
+    let at-if3 = at-word .before in
+    let at-if2 = at-if3 .before in
+    let at-if1 = at-if2 .before in
+    let start = at-if1 .before .before in (
+      λ half s1 s2 d1 d2 hi. right-done (start .args .la .now) (start .args .lb .now) (start .args .ids .now) (start .args .side .now) (start .args .vert .now) half s1 s2 d1 d2
+          (start .args .lo .now) hi (start .args .w) (start .args .line) (start .args .x) (start .args .end) (start .args .i) (at-word .word .result) _ _ _
+          (at-word .word .ensures .0) (at-if3 .if3 .taken) _ _ _ _ _ _ (c .slide .ensures .0) (c .slide .ensures .1) (at-if1 .if1 .taken) (at-if2 .if2 .taken) refl refl
+          refl (at-shorten .shorten .ensures) refl,
+      (start .pre .5, start .pre .6, omega arith, omega arith),
+    )
 
 -- src/lib.rt:212:1
 returns-2 : tie.Need-returns-2
-returns-2 c = (λ half s1 s2 d1 d2 hi. right-none (c .before .before .before .before .args .la .now) (c .before .before .before .before .args .lb .now) (c .before .before .before .before .args .ids .now) (c .before .before .before .before .args .side .now) (c .before .before .before .before .args .vert .now) half s1 s2 d1 d2 (c .before .before .before .before .args .lo .now) hi (c .before .before .before .before .args .w) (c .before .before .before .before .args .line) (c .before .before .before .before .args .x) (c .before .before .before .before .args .end) (c .before .before .before .before .args .i) _ (c .before .before .if1 .taken) (c .before .if2 .taken) (c .if3 .left), (c .before .before .before .before .pre .5, c .before .before .before .before .pre .6, omega arith, omega arith))
+returns-2 c =
+    let at-if2 = c .before in
+    let at-if1 = at-if2 .before in
+    let start = at-if1 .before .before in (
+      λ half s1 s2 d1 d2 hi. right-none (start .args .la .now) (start .args .lb .now) (start .args .ids .now) (start .args .side .now) (start .args .vert .now) half s1 s2 d1 d2
+          (start .args .lo .now) hi (start .args .w) (start .args .line) (start .args .x) (start .args .end) (start .args .i) _ (at-if1 .if1 .taken) (at-if2 .if2 .taken)
+          (c .if3 .left),
+      (start .pre .5, start .pre .6, omega arith, omega arith),
+    )
 
 -- src/lib.rt:212:1
 returns-3 : tie.Need-returns-3
-returns-3 c = (λ half s1 s2 d1 d2 hi. right-thin (c .before .before .before .args .la .now) (c .before .before .before .args .lb .now) (c .before .before .before .args .ids .now) (c .before .before .before .args .side .now) (c .before .before .before .args .vert .now) half s1 s2 d1 d2 (c .before .before .before .args .lo .now) hi (c .before .before .before .args .w) (c .before .before .before .args .line) (c .before .before .before .args .x) (c .before .before .before .args .end) (c .before .before .before .args .i) _ (c .before .if1 .taken) (c .if2 .left), (c .before .before .before .pre .5, c .before .before .before .pre .6, omega arith, omega arith))
+returns-3 c =
+    let at-if1 = c .before in
+    let start = at-if1 .before .before in (
+      λ half s1 s2 d1 d2 hi. right-thin (start .args .la .now) (start .args .lb .now) (start .args .ids .now) (start .args .side .now) (start .args .vert .now) half s1 s2 d1 d2
+          (start .args .lo .now) hi (start .args .w) (start .args .line) (start .args .x) (start .args .end) (start .args .i) _ (at-if1 .if1 .taken) (c .if2 .left),
+      (start .pre .5, start .pre .6, omega arith, omega arith),
+    )
 
 -- src/lib.rt:212:1
 returns-4 : tie.Need-returns-4
-returns-4 c = (λ half s1 s2 d1 d2 hi. right-deep (c .before .before .args .la .now) (c .before .before .args .lb .now) (c .before .before .args .ids .now) (c .before .before .args .side .now) (c .before .before .args .vert .now) half s1 s2 d1 d2 (c .before .before .args .lo .now) hi (c .before .before .args .w) (c .before .before .args .line) (c .before .before .args .x) (c .before .before .args .end) (c .before .before .args .i) _ (c .if1 .left), (c .before .before .pre .5, c .before .before .pre .6, omega arith, omega arith))
+returns-4 c =
+    let start = c .before .before in (
+      λ half s1 s2 d1 d2 hi. right-deep (start .args .la .now) (start .args .lb .now) (start .args .ids .now) (start .args .side .now) (start .args .vert .now) half s1 s2 d1 d2
+          (start .args .lo .now) hi (start .args .w) (start .args .line) (start .args .x) (start .args .end) (start .args .i) _ (c .if1 .left),
+      (start .pre .5, start .pre .6, omega arith, omega arith),
+    )
 
 pub go-right-spec : {M : Type 1} → statement M
 go-right-spec =

@@ -31,7 +31,15 @@ first-at-requires c κs = search needs
 
 -- src/lib.rt:89:9
 returns : tie.Need-returns
-returns c = (λ half s1 s2 d1 d2 hi. two-stuck (c .before .before .before .before .before .args .la .now) (c .before .before .before .before .before .args .lb .now) (c .before .before .before .before .before .args .ids .now) (c .before .before .before .before .before .args .side .now) (c .before .before .before .before .before .args .vert .now) half s1 s2 d1 d2 (c .before .before .before .before .before .args .lo .now) hi (c .before .before .before .before .before .args .w) (c .before .before .before .before .before .args .i) (c .before .before .before .before .before .args .line) (c .before .before .before .before .before .args .x) (c .before .before .before .before .word .result) (c .before .before .before .before .before .pre .0) (c .before .before .before .before .word .ensures .0) _ (c .before .first-at .result) (c .before .first-at .ensures) (c .if1 .taken), (c .before .before .before .before .before .pre .5, c .before .before .before .before .before .pre .6, omega arith, omega arith))
+returns c =
+    let at-first-at = c .before in
+    let at-word = at-first-at .before .before .before in
+    let start = at-word .before in (
+      λ half s1 s2 d1 d2 hi. two-stuck (start .args .la .now) (start .args .lb .now) (start .args .ids .now) (start .args .side .now) (start .args .vert .now) half s1 s2 d1 d2
+          (start .args .lo .now) hi (start .args .w) (start .args .i) (start .args .line) (start .args .x) (at-word .word .result) (start .pre .0)
+          (at-word .word .ensures .0) _ (at-first-at .first-at .result) (at-first-at .first-at .ensures) (c .if1 .taken),
+      (start .pre .5, start .pre .6, omega arith, omega arith),
+    )
 
 -- src/lib.rt:91:9
 below-requires : tie.Need-below-requires
@@ -79,7 +87,18 @@ bit-requires c κs = search needs
 
 -- src/lib.rt:96:9
 split-requires : tie.Need-split-requires
-split-requires c κs = (omega (arith, c .before .before .before .before .before .before .before .before .before .before .before .before .before .before .before .before .before .before .before .first-at .ensures .most, c .before .before .before .before .before .before .before .before .before .before .before .before .before .before .before .before .before .before .if1 .left), omega arith, omega (arith, c .before .before .before .before .before .before .before .before .before .before .before .before .before .before .before .before .before .before .before .before .before .before .word .ensures), search needs, omega (arith, c .before .before .before .before .before .before .before .before .before .before .before .before .before .before .before .before .before .before .before .before .before .before .before .pre .4 (c .before .before .before .before .before .before .before .before .before .before .before .before .before .before .before .before .before .before .before .first-at .result)), omega (arith, c .before .before .before .before .before .before .before .before .before .before .before .before .before .before .before .before .before .before .before .before .before .before .before .pre .4 (c .before .before .before .before .before .before .before .before .before .before .before .before .before .before .before .before .before .before .before .before .before .before .before .args .i)))
+split-requires c κs =
+    let at-if1 = c .before .before .before .before .before .before .before .before .before .before .before .before .before .before .before .before .before .before in
+    let at-first-at = at-if1 .before in
+    let at-word = at-first-at .before .before .before in
+    let start = at-word .before in (
+      omega (arith, at-first-at .first-at .ensures .most, at-if1 .if1 .left),
+      omega arith,
+      omega (arith, at-word .word .ensures),
+      search needs,
+      omega (arith, start .pre .4 (at-first-at .first-at .result)),
+      omega (arith, start .pre .4 (start .args .i)),
+    )
 
 -- src/lib.rt:98:60
 mul-split-2 : tie.Need-mul-split-2
@@ -99,15 +118,68 @@ bit-requires-2 c κs = search needs
 
 -- src/lib.rt:98:9
 split-requires-2 : tie.Need-split-requires-2
-split-requires-2 c κs = (omega arith, omega (arith, c .before .before .before .before .before .before .before .before .before .before .before .before .before .before .before .before .before .before .before .first-at .ensures .most, c .before .before .before .before .before .before .before .before .before .before .before .before .before .before .before .before .before .before .if1 .left), omega (arith, c .before .before .before .before .before .before .before .before .before .before .before .before .before .before .before .before .before .before .before .before .before .before .word .ensures), search needs, omega (arith, c .before .before .before .before .before .before .before .before .before .before .before .before .before .before .before .before .before .before .before .before .before .before .before .pre .4 (c .before .before .before .before .before .before .before .before .before .before .before .before .before .before .before .before .before .before .before .before .before .before .before .args .i)), omega (arith, c .before .before .before .before .before .before .before .before .before .before .before .before .before .before .before .before .before .before .before .before .before .before .before .pre .4 (c .before .before .before .before .before .before .before .before .before .before .before .before .before .before .before .before .before .before .before .first-at .result)))
+split-requires-2 c κs =
+    let at-if1 = c .before .before .before .before .before .before .before .before .before .before .before .before .before .before .before .before .before .before in
+    let at-first-at = at-if1 .before in
+    let at-word = at-first-at .before .before .before in
+    let start = at-word .before in (
+      omega arith,
+      omega (arith, at-first-at .first-at .ensures .most, at-if1 .if1 .left),
+      omega (arith, at-word .word .ensures),
+      search needs,
+      omega (arith, start .pre .4 (start .args .i)),
+      omega (arith, start .pre .4 (at-first-at .first-at .result)),
+    )
 
 -- src/lib.rt:79:1
 returns-2 : tie.Need-returns-2
-returns-2 c = (λ half s1 s2 d1 d2 hi. two-swapped (c .before .before .before .before .before .before .before .before .before .before .before .before .before .before .before .before .before .before .before .before .before .before .before .before .args .la .now) (c .before .before .before .before .before .before .before .before .before .before .before .before .before .before .before .before .before .before .before .before .before .before .before .before .args .lb .now) (c .before .before .before .before .before .before .before .before .before .before .before .before .before .before .before .before .before .before .before .before .before .before .before .before .args .ids .now) (c .before .before .before .before .before .before .before .before .before .before .before .before .before .before .before .before .before .before .before .before .before .before .before .before .args .side .now) (c .before .before .before .before .before .before .before .before .before .before .before .before .before .before .before .before .before .before .before .before .before .before .before .before .args .vert .now) half s1 s2 d1 d2 (c .before .before .before .before .before .before .before .before .before .before .before .before .before .before .before .before .before .before .before .before .before .before .before .before .args .lo .now) hi (c .before .before .before .before .before .before .before .before .before .before .before .before .before .before .before .before .before .before .before .before .before .before .before .before .args .w) (c .before .before .before .before .before .before .before .before .before .before .before .before .before .before .before .before .before .before .before .before .before .before .before .before .args .i) (c .before .before .before .before .before .before .before .before .before .before .before .before .before .before .before .before .before .before .before .before .before .before .before .before .args .line) (c .before .before .before .before .before .before .before .before .before .before .before .before .before .before .before .before .before .before .before .before .before .before .before .before .args .x) (c .before .before .before .before .before .before .before .before .before .before .before .before .before .before .before .before .before .before .before .before .before .before .before .word .result) (c .before .before .before .before .before .before .before .before .before .before .before .before .before .before .before .before .before .before .before .before .before .before .before .before .pre .0) (c .before .before .before .before .before .before .before .before .before .before .before .before .before .before .before .before .before .before .before .before .before .before .before .word .ensures .0) (c .before .before .before .before .before .before .before .before .before .before .before .before .before .before .before .before .before .before .before .before .first-at .result) (c .before .before .before .before .before .before .before .before .before .before .before .before .before .before .before .before .before .before .below .result) (c .before .bit .result) (c .before .before .before .before .before .before .before .before .before .before .before .before .before .before .wide .result) (c .before .before .before .before .before .before .before .before .before .before .wide2 .result) (c .before .before .before .before .before .before .before .before .before .before .before .before .before .before .before .before .before .before .before .before .first-at .ensures) (c .before .before .before .before .before .before .before .before .before .before .before .before .before .before .before .before .before .before .before .if1 .left) (c .before .before .before .before .before .before .before .before .before .before .before .before .before .before .before .before .before .before .below .ensures) (c .before .bit .ensures .0) (c .before .before .before .before .before .before .before .before .before .before .before .before .before .before .wide .ensures .0 ∙ c .before .before .before .before .before .before .before .before .before .before .before .before .before .before .before .far .ensures) (c .before .before .before .before .before .before .before .before .before .before .wide2 .ensures .0 ∙ c .before .before .before .before .before .before .before .before .before .before .before .far2 .ensures) _ _ _ _ _ (c .before .before .before .before .before .before .before .before .shorten .ensures) _ refl (sym (c .before .before .before .before .before .before .before .swaps .ensures) ∙ c .before .before .before .before .before .before .if2 .taken) (c .split .ensures), (c .before .before .before .before .before .before .before .before .before .before .before .before .before .before .before .before .before .before .before .before .before .before .before .before .pre .5, c .before .before .before .before .before .before .before .before .before .before .before .before .before .before .before .before .before .before .before .before .before .before .before .before .pre .6, omega arith, omega arith))
+returns-2 c =
+    let at-bit = c .before in
+    let at-if2 = at-bit .before .before .before .before .before in
+    let at-swaps = at-if2 .before in
+    let at-shorten = at-swaps .before in
+    let at-wide2 = at-shorten .before .before in
+    let at-far2 = at-wide2 .before in
+    let at-wide = at-far2 .before .before .before in
+    let at-far = at-wide .before in
+    let at-below = at-far .before .before .before in
+    let at-if1 = at-below .before in
+    let at-first-at = at-if1 .before in
+    let at-word = at-first-at .before .before .before in
+    let start = at-word .before in (
+      λ half s1 s2 d1 d2 hi. two-swapped (start .args .la .now) (start .args .lb .now) (start .args .ids .now) (start .args .side .now) (start .args .vert .now) half s1 s2 d1 d2
+          (start .args .lo .now) hi (start .args .w) (start .args .i) (start .args .line) (start .args .x) (at-word .word .result) (start .pre .0)
+          (at-word .word .ensures .0) (at-first-at .first-at .result) (at-below .below .result) (at-bit .bit .result) (at-wide .wide .result) (at-wide2 .wide2 .result)
+          (at-first-at .first-at .ensures) (at-if1 .if1 .left) (at-below .below .ensures) (at-bit .bit .ensures .0) (at-wide .wide .ensures .0 ∙ at-far .far .ensures)
+          (at-wide2 .wide2 .ensures .0 ∙ at-far2 .far2 .ensures) _ _ _ _ _ (at-shorten .shorten .ensures) _ refl (sym (at-swaps .swaps .ensures) ∙ at-if2 .if2 .taken)
+          (c .split .ensures),
+      (start .pre .5, start .pre .6, omega arith, omega arith),
+    )
 
 -- src/lib.rt:79:1
 returns-3 : tie.Need-returns-3
-returns-3 c = (λ half s1 s2 d1 d2 hi. two-kept (c .before .before .before .before .before .before .before .before .before .before .before .before .before .before .before .before .before .before .before .before .before .before .before .before .args .la .now) (c .before .before .before .before .before .before .before .before .before .before .before .before .before .before .before .before .before .before .before .before .before .before .before .before .args .lb .now) (c .before .before .before .before .before .before .before .before .before .before .before .before .before .before .before .before .before .before .before .before .before .before .before .before .args .ids .now) (c .before .before .before .before .before .before .before .before .before .before .before .before .before .before .before .before .before .before .before .before .before .before .before .before .args .side .now) (c .before .before .before .before .before .before .before .before .before .before .before .before .before .before .before .before .before .before .before .before .before .before .before .before .args .vert .now) half s1 s2 d1 d2 (c .before .before .before .before .before .before .before .before .before .before .before .before .before .before .before .before .before .before .before .before .before .before .before .before .args .lo .now) hi (c .before .before .before .before .before .before .before .before .before .before .before .before .before .before .before .before .before .before .before .before .before .before .before .before .args .w) (c .before .before .before .before .before .before .before .before .before .before .before .before .before .before .before .before .before .before .before .before .before .before .before .before .args .i) (c .before .before .before .before .before .before .before .before .before .before .before .before .before .before .before .before .before .before .before .before .before .before .before .before .args .line) (c .before .before .before .before .before .before .before .before .before .before .before .before .before .before .before .before .before .before .before .before .before .before .before .before .args .x) (c .before .before .before .before .before .before .before .before .before .before .before .before .before .before .before .before .before .before .before .before .before .before .before .word .result) (c .before .before .before .before .before .before .before .before .before .before .before .before .before .before .before .before .before .before .before .before .before .before .before .before .pre .0) (c .before .before .before .before .before .before .before .before .before .before .before .before .before .before .before .before .before .before .before .before .before .before .before .word .ensures .0) (c .before .before .before .before .before .before .before .before .before .before .before .before .before .before .before .before .before .before .before .before .first-at .result) (c .before .before .before .before .before .before .before .before .before .before .before .before .before .before .before .before .before .before .below .result) (c .before .bit2 .result) (c .before .before .before .before .before .before .before .before .before .before .before .before .before .before .wide .result) (c .before .before .before .before .before .before .before .before .before .before .wide2 .result) (c .before .before .before .before .before .before .before .before .before .before .before .before .before .before .before .before .before .before .before .before .first-at .ensures) (c .before .before .before .before .before .before .before .before .before .before .before .before .before .before .before .before .before .before .before .if1 .left) (c .before .before .before .before .before .before .before .before .before .before .before .before .before .before .before .before .before .before .below .ensures) (c .before .bit2 .ensures .0) (c .before .before .before .before .before .before .before .before .before .before .before .before .before .before .wide .ensures .0 ∙ c .before .before .before .before .before .before .before .before .before .before .before .before .before .before .before .far .ensures) (c .before .before .before .before .before .before .before .before .before .before .wide2 .ensures .0 ∙ c .before .before .before .before .before .before .before .before .before .before .before .far2 .ensures) _ _ _ _ _ (c .before .before .before .before .before .before .before .before .shorten .ensures) _ refl (sym (c .before .before .before .before .before .before .before .swaps .ensures) ∙ c .before .before .before .before .before .before .if2 .left) (c .split2 .ensures), (c .before .before .before .before .before .before .before .before .before .before .before .before .before .before .before .before .before .before .before .before .before .before .before .before .pre .5, c .before .before .before .before .before .before .before .before .before .before .before .before .before .before .before .before .before .before .before .before .before .before .before .before .pre .6, omega arith, omega arith))
+returns-3 c =
+    let at-bit2 = c .before in
+    let at-if2 = at-bit2 .before .before .before .before .before in
+    let at-swaps = at-if2 .before in
+    let at-shorten = at-swaps .before in
+    let at-wide2 = at-shorten .before .before in
+    let at-far2 = at-wide2 .before in
+    let at-wide = at-far2 .before .before .before in
+    let at-far = at-wide .before in
+    let at-below = at-far .before .before .before in
+    let at-if1 = at-below .before in
+    let at-first-at = at-if1 .before in
+    let at-word = at-first-at .before .before .before in
+    let start = at-word .before in (
+      λ half s1 s2 d1 d2 hi. two-kept (start .args .la .now) (start .args .lb .now) (start .args .ids .now) (start .args .side .now) (start .args .vert .now) half s1 s2 d1 d2
+          (start .args .lo .now) hi (start .args .w) (start .args .i) (start .args .line) (start .args .x) (at-word .word .result) (start .pre .0)
+          (at-word .word .ensures .0) (at-first-at .first-at .result) (at-below .below .result) (at-bit2 .bit2 .result) (at-wide .wide .result) (at-wide2 .wide2 .result)
+          (at-first-at .first-at .ensures) (at-if1 .if1 .left) (at-below .below .ensures) (at-bit2 .bit2 .ensures .0) (at-wide .wide .ensures .0 ∙ at-far .far .ensures)
+          (at-wide2 .wide2 .ensures .0 ∙ at-far2 .far2 .ensures) _ _ _ _ _ (at-shorten .shorten .ensures) _ refl (sym (at-swaps .swaps .ensures) ∙ at-if2 .if2 .left)
+          (c .split2 .ensures),
+      (start .pre .5, start .pre .6, omega arith, omega arith),
+    )
 
 pub two-ends-spec : {M : Type 1} → statement M
 two-ends-spec =
