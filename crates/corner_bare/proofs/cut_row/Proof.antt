@@ -14,70 +14,70 @@ use Rattle.corner_bare.proofs.first_dir.Reads as first-dir-reads
 use Rattle.corner_bare.proofs.pick.Reads as pick-reads
 use Rattle.corner_bare.proofs.second_dir.Reads as second-dir-reads
 
--- src/lib.rt:138:13
+-- src/lib.rt:51:13
 mul-a : tie.Need-mul-a
 mul-a c = search needs
 
--- src/lib.rt:138:13
+-- src/lib.rt:51:13
 element-copy-out-a : tie.Need-element-copy-out-a
 element-copy-out-a c = search needs
 
--- src/lib.rt:139:13
+-- src/lib.rt:52:13
 mul-b : tie.Need-mul-b
 mul-b c = search needs
 
--- src/lib.rt:139:13
+-- src/lib.rt:52:13
 element-copy-out-b : tie.Need-element-copy-out-b
 element-copy-out-b c = search needs
 
--- src/lib.rt:140:32
+-- src/lib.rt:53:32
 mul-wide : tie.Need-mul-wide
 mul-wide c = search needs
 
--- src/lib.rt:140:32
+-- src/lib.rt:53:32
 element-copy-out-wide : tie.Need-element-copy-out-wide
 element-copy-out-wide c = search needs
 
--- src/lib.rt:140:9
+-- src/lib.rt:53:9
 wide-requires : tie.Need-wide-requires
 wide-requires c κs = search needs
 
--- src/lib.rt:141:9
+-- src/lib.rt:54:9
 pick-requires : tie.Need-pick-requires
 pick-requires c κs = search needs
 
--- src/lib.rt:142:9
+-- src/lib.rt:55:9
 pick-requires-2 : tie.Need-pick-requires-2
 pick-requires-2 c κs = search needs
 
--- src/lib.rt:143:67
+-- src/lib.rt:68:9
 first-dir-requires : tie.Need-first-dir-requires
 first-dir-requires c κs = search needs
 
--- src/lib.rt:143:91
+-- src/lib.rt:69:9
 second-dir-requires : tie.Need-second-dir-requires
 second-dir-requires c κs = search needs
 
--- src/lib.rt:143:5
+-- src/lib.rt:56:5
 part-requires : tie.Need-part-requires
 part-requires c κs =
     let at-wide = c .before .before .before .before .before .before .before .before .before in
     let start = at-wide .before .before .before .before in
     (omega (arith, at-wide .wide .ensures .0, start .pre .3 (start .args .i)), start .pre .2)
 
--- src/lib.rt:144:5
+-- src/lib.rt:71:5
 divide-requires : tie.Need-divide-requires
 divide-requires c κs = search needs
 
--- src/lib.rt:145:55
+-- src/lib.rt:76:12
 add-t21 : tie.Need-add-t21
 add-t21 c = search needs
 
--- src/lib.rt:145:68
+-- src/lib.rt:77:15
 add-t24 : tie.Need-add-t24
 add-t24 c = search needs
 
--- src/lib.rt:131:1
+-- src/lib.rt:30:1
 returns : tie.Need-returns
 returns c =
     let at-part = c .before .before .before .before in

@@ -19,39 +19,39 @@ use Rattle.corner_bare.proofs.cut_row.Reads as cut-row-reads
 use Rattle.corner_ends.proofs.shorten.Reads as shorten-reads
 use Rattle.corner_ends.proofs.word.Reads as word-reads
 
--- src/lib.rt:157:9
+-- src/lib.rt:105:9
 word-requires : tie.Need-word-requires
 word-requires c κs = search needs
 
--- src/lib.rt:158:15
+-- src/lib.rt:106:15
 add-nul : tie.Need-add-nul
 add-nul c = search needs
 
--- src/lib.rt:159:9
+-- src/lib.rt:107:9
 below-requires : tie.Need-below-requires
 below-requires c κs = search needs
 
--- src/lib.rt:160:5
+-- src/lib.rt:108:5
 shorten-requires : tie.Need-shorten-requires
 shorten-requires c κs = search needs
 
--- src/lib.rt:161:9
+-- src/lib.rt:109:9
 crossing-requires : tie.Need-crossing-requires
 crossing-requires c κs = search needs
 
--- src/lib.rt:162:13
+-- src/lib.rt:110:13
 sub-if1 : tie.Need-sub-if1
 sub-if1 c = search needs
 
--- src/lib.rt:162:13
+-- src/lib.rt:110:13
 add-if1 : tie.Need-add-if1
 add-if1 c = search needs
 
--- src/lib.rt:163:13
+-- src/lib.rt:111:13
 least-requires : tie.Need-least-requires
 least-requires c κs = search needs
 
--- src/lib.rt:165:13
+-- src/lib.rt:113:13
 returns : tie.Need-returns
 returns c =
     let at-least = c .before in
@@ -69,19 +69,19 @@ returns c =
       ((omega (arith, start .pre .6, start .pre .7), start .pre .7, omega arith, omega arith), start .pre .5),
     )
 
--- src/lib.rt:167:36
+-- src/lib.rt:122:36
 mul-wide : tie.Need-mul-wide
 mul-wide c = search needs
 
--- src/lib.rt:167:36
+-- src/lib.rt:122:36
 element-copy-out-wide : tie.Need-element-copy-out-wide
 element-copy-out-wide c = search needs
 
--- src/lib.rt:167:17
+-- src/lib.rt:122:17
 wide-requires : tie.Need-wide-requires
 wide-requires c κs = search needs
 
--- src/lib.rt:168:9
+-- src/lib.rt:123:9
 cut-row-requires : tie.Need-cut-row-requires
 cut-row-requires c κs =
     let at-if2 = c .before .before .before .before .before .before .before .before .before .before in
@@ -95,7 +95,7 @@ cut-row-requires c κs =
       start .pre .7,
     )
 
--- src/lib.rt:168:9
+-- src/lib.rt:123:9
 returns-2 : tie.Need-returns-2
 returns-2 c =
     let at-wide = c .before .before .before .before .before .before .before .before .before in
@@ -119,25 +119,25 @@ returns-2 c =
       ),
     )
 
--- src/lib.rt:170:9
+-- src/lib.rt:125:9
 leaving-requires : tie.Need-leaving-requires
 leaving-requires c κs = search needs
 
--- src/lib.rt:171:8
+-- src/lib.rt:126:8
 add-if3 : tie.Need-add-if3
 add-if3 c =
     let start = c .before .before .before .before .before .before .before .before .before .before .before .before in
     omega (arith, c .leaving .ensures, leave-le (start .args .la .now) (start .args .lb .now) (start .args .line) (start .args .w .n))
 
--- src/lib.rt:171:17
+-- src/lib.rt:126:17
 add-if3-2 : tie.Need-add-if3-2
 add-if3-2 c = search needs
 
--- src/lib.rt:172:13
+-- src/lib.rt:127:13
 first-at-requires : tie.Need-first-at-requires
 first-at-requires c κs = search needs
 
--- src/lib.rt:174:13
+-- src/lib.rt:129:13
 returns-3 : tie.Need-returns-3
 returns-3 c =
     let at-first-at = c .before in
@@ -157,15 +157,15 @@ returns-3 c =
       ((omega (arith, start .pre .6, start .pre .7), start .pre .7, omega arith, omega arith), start .pre .5),
     )
 
--- src/lib.rt:176:17
+-- src/lib.rt:138:17
 mul-a : tie.Need-mul-a
 mul-a c = search needs
 
--- src/lib.rt:176:17
+-- src/lib.rt:138:17
 element-copy-out-a : tie.Need-element-copy-out-a
 element-copy-out-a c = search needs
 
--- src/lib.rt:177:9
+-- src/lib.rt:139:9
 cut-row-requires-2 : tie.Need-cut-row-requires-2
 cut-row-requires-2 c κs =
     let at-if4 = c .before .before .before .before .before .before .before .before .before in
@@ -179,7 +179,7 @@ cut-row-requires-2 c κs =
       start .pre .7,
     )
 
--- src/lib.rt:177:9
+-- src/lib.rt:139:9
 returns-4 : tie.Need-returns-4
 returns-4 c =
     let at-if4 = c .before .before .before .before .before .before .before .before .before .before in
@@ -204,19 +204,19 @@ returns-4 c =
       ),
     )
 
--- src/lib.rt:179:5
+-- src/lib.rt:141:5
 add-requires : tie.Need-add-requires
 add-requires c κs = search needs
 
--- src/lib.rt:180:55
+-- src/lib.rt:146:12
 add-t28 : tie.Need-add-t28
 add-t28 c = search needs
 
--- src/lib.rt:180:68
+-- src/lib.rt:147:15
 add-t67 : tie.Need-add-t67
 add-t67 c = search needs
 
--- src/lib.rt:149:1
+-- src/lib.rt:83:1
 returns-5 : tie.Need-returns-5
 returns-5 c =
     let at-add = c .before in

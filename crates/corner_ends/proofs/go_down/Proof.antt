@@ -12,47 +12,47 @@ use Rattle.corner_ends.proofs.bit.Reads as bit-reads
 use Rattle.corner_ends.proofs.slide.Reads as slide-reads
 use Rattle.corner_ends.proofs.word.Reads as word-reads
 
--- src/lib.rt:201:17
+-- src/lib.rt:174:17
 word-requires : tie.Need-word-requires
 word-requires c κs = search needs
 
--- src/lib.rt:202:17
+-- src/lib.rt:175:17
 below-requires : tie.Need-below-requires
 below-requires c κs = search needs
 
--- src/lib.rt:203:25
+-- src/lib.rt:176:25
 mul-v : tie.Need-mul-v
 mul-v c = search needs
 
--- src/lib.rt:203:25
+-- src/lib.rt:176:25
 element-copy-out-v : tie.Need-element-copy-out-v
 element-copy-out-v c = search needs
 
--- src/lib.rt:203:21
+-- src/lib.rt:176:21
 mul-v-2 : tie.Need-mul-v-2
 mul-v-2 c = omega (arith, c .before .before .before .before .before .pre .4 (c .before .before .before .before .before .args .i))
 
--- src/lib.rt:203:21
+-- src/lib.rt:176:21
 add-v : tie.Need-add-v
 add-v c = omega (arith, c .before .before .before .before .before .pre .4 (c .before .before .before .before .before .args .i))
 
--- src/lib.rt:203:38
+-- src/lib.rt:176:38
 bit-requires : tie.Need-bit-requires
 bit-requires c κs = search needs
 
--- src/lib.rt:203:21
+-- src/lib.rt:176:21
 add-v-2 : tie.Need-add-v-2
 add-v-2 c = omega (arith, c .before .before .before .before .before .before .pre .4 (c .before .before .before .before .before .before .args .i), c .bit .ensures)
 
--- src/lib.rt:204:13
+-- src/lib.rt:177:13
 slide-requires : tie.Need-slide-requires
 slide-requires c κs = search needs
 
--- src/lib.rt:205:32
+-- src/lib.rt:179:22
 add-t17 : tie.Need-add-t17
 add-t17 c = search needs
 
--- src/lib.rt:205:13
+-- src/lib.rt:178:13
 returns : tie.Need-returns
 returns c =
     let at-slide = c .before in
@@ -69,7 +69,7 @@ returns c =
       (omega (arith, start .pre .5, start .pre .6), start .pre .6, omega arith, omega arith),
     )
 
--- src/lib.rt:192:1
+-- src/lib.rt:154:1
 returns-2 : tie.Need-returns-2
 returns-2 c =
     let at-if1 = c .before in
@@ -79,7 +79,7 @@ returns-2 c =
       (omega (arith, start .pre .5, start .pre .6), start .pre .6, omega arith, omega arith),
     )
 
--- src/lib.rt:192:1
+-- src/lib.rt:154:1
 returns-3 : tie.Need-returns-3
 returns-3 c =
     let start = c .before in (

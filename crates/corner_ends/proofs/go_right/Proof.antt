@@ -11,35 +11,35 @@ use Rattle.corner_ends.proofs.shorten.Reads as shorten-reads
 use Rattle.corner_ends.proofs.slide.Reads as slide-reads
 use Rattle.corner_ends.proofs.word.Reads as word-reads
 
--- src/lib.rt:222:21
+-- src/lib.rt:221:21
 word-requires : tie.Need-word-requires
 word-requires c κs = search needs
 
--- src/lib.rt:223:25
+-- src/lib.rt:222:25
 mul-s : tie.Need-mul-s
 mul-s c = search needs
 
--- src/lib.rt:223:25
+-- src/lib.rt:222:25
 element-copy-out-s : tie.Need-element-copy-out-s
 element-copy-out-s c = search needs
 
--- src/lib.rt:223:25
+-- src/lib.rt:222:25
 add-s : tie.Need-add-s
 add-s c = omega (arith, c .before .before .before .before .before .before .pre .4 (c .before .before .before .before .before .before .args .i))
 
--- src/lib.rt:224:17
+-- src/lib.rt:223:17
 shorten-requires : tie.Need-shorten-requires
 shorten-requires c κs = search needs
 
--- src/lib.rt:225:52
+-- src/lib.rt:224:52
 add-slide : tie.Need-add-slide
 add-slide c = search needs
 
--- src/lib.rt:225:17
+-- src/lib.rt:224:17
 slide-requires : tie.Need-slide-requires
 slide-requires c κs = search needs
 
--- src/lib.rt:226:17
+-- src/lib.rt:225:17
 returns : tie.Need-returns
 returns c =
     let at-shorten = c .before .before .before .before .before in
@@ -55,7 +55,7 @@ returns c =
       (start .pre .5, start .pre .6, omega arith, omega arith),
     )
 
--- src/lib.rt:212:1
+-- src/lib.rt:199:1
 returns-2 : tie.Need-returns-2
 returns-2 c =
     let at-if2 = c .before in
@@ -67,7 +67,7 @@ returns-2 c =
       (start .pre .5, start .pre .6, omega arith, omega arith),
     )
 
--- src/lib.rt:212:1
+-- src/lib.rt:199:1
 returns-3 : tie.Need-returns-3
 returns-3 c =
     let at-if1 = c .before in
@@ -77,7 +77,7 @@ returns-3 c =
       (start .pre .5, start .pre .6, omega arith, omega arith),
     )
 
--- src/lib.rt:212:1
+-- src/lib.rt:199:1
 returns-4 : tie.Need-returns-4
 returns-4 c =
     let start = c .before .before in (

@@ -17,19 +17,19 @@ use Rattle.corner_ends.proofs.bit.Reads as bit-reads
 use Rattle.corner_ends.proofs.shorten.Reads as shorten-reads
 use Rattle.corner_ends.proofs.word.Reads as word-reads
 
--- src/lib.rt:86:9
+-- src/lib.rt:96:9
 word-requires : tie.Need-word-requires
 word-requires c κs = search needs
 
--- src/lib.rt:87:50
+-- src/lib.rt:97:50
 add-first-at : tie.Need-add-first-at
 add-first-at c = search needs
 
--- src/lib.rt:87:9
+-- src/lib.rt:97:9
 first-at-requires : tie.Need-first-at-requires
 first-at-requires c κs = search needs
 
--- src/lib.rt:89:9
+-- src/lib.rt:99:9
 returns : tie.Need-returns
 returns c =
     let at-first-at = c .before in
@@ -41,51 +41,51 @@ returns c =
       (start .pre .5, start .pre .6, omega arith, omega arith),
     )
 
--- src/lib.rt:91:9
+-- src/lib.rt:108:9
 below-requires : tie.Need-below-requires
 below-requires c κs = search needs
 
--- src/lib.rt:92:32
+-- src/lib.rt:109:32
 far-requires : tie.Need-far-requires
 far-requires c κs = search needs
 
--- src/lib.rt:92:9
+-- src/lib.rt:109:9
 wide-requires : tie.Need-wide-requires
 wide-requires c κs = search needs
 
--- src/lib.rt:93:32
+-- src/lib.rt:110:32
 far-requires-2 : tie.Need-far-requires-2
 far-requires-2 c κs = search needs
 
--- src/lib.rt:93:9
+-- src/lib.rt:110:9
 wide-requires-2 : tie.Need-wide-requires-2
 wide-requires-2 c κs = search needs
 
--- src/lib.rt:94:5
+-- src/lib.rt:111:5
 shorten-requires : tie.Need-shorten-requires
 shorten-requires c κs = search needs
 
--- src/lib.rt:95:8
+-- src/lib.rt:112:8
 swaps-requires : tie.Need-swaps-requires
 swaps-requires c κs = search needs
 
--- src/lib.rt:96:60
+-- src/lib.rt:121:13
 mul-split : tie.Need-mul-split
 mul-split c = search needs
 
--- src/lib.rt:96:60
+-- src/lib.rt:121:13
 add-split : tie.Need-add-split
 add-split c = search needs
 
--- src/lib.rt:96:81
+-- src/lib.rt:123:13
 add-split-2 : tie.Need-add-split-2
 add-split-2 c = search needs
 
--- src/lib.rt:96:96
+-- src/lib.rt:125:13
 bit-requires : tie.Need-bit-requires
 bit-requires c κs = search needs
 
--- src/lib.rt:96:9
+-- src/lib.rt:113:9
 split-requires : tie.Need-split-requires
 split-requires c κs =
     let at-if1 = c .before .before .before .before .before .before .before .before .before .before .before .before .before .before .before .before .before .before in
@@ -100,23 +100,23 @@ split-requires c κs =
       omega (arith, start .pre .4 (start .args .i)),
     )
 
--- src/lib.rt:98:60
+-- src/lib.rt:136:13
 mul-split-2 : tie.Need-mul-split-2
 mul-split-2 c = search needs
 
--- src/lib.rt:98:60
+-- src/lib.rt:136:13
 add-split-3 : tie.Need-add-split-3
 add-split-3 c = search needs
 
--- src/lib.rt:98:81
+-- src/lib.rt:138:13
 add-split-4 : tie.Need-add-split-4
 add-split-4 c = search needs
 
--- src/lib.rt:98:96
+-- src/lib.rt:140:13
 bit-requires-2 : tie.Need-bit-requires-2
 bit-requires-2 c κs = search needs
 
--- src/lib.rt:98:9
+-- src/lib.rt:128:9
 split-requires-2 : tie.Need-split-requires-2
 split-requires-2 c κs =
     let at-if1 = c .before .before .before .before .before .before .before .before .before .before .before .before .before .before .before .before .before .before in
@@ -131,7 +131,7 @@ split-requires-2 c κs =
       omega (arith, start .pre .4 (at-first-at .first-at .result)),
     )
 
--- src/lib.rt:79:1
+-- src/lib.rt:78:1
 returns-2 : tie.Need-returns-2
 returns-2 c =
     let at-bit = c .before in
@@ -156,7 +156,7 @@ returns-2 c =
       (start .pre .5, start .pre .6, omega arith, omega arith),
     )
 
--- src/lib.rt:79:1
+-- src/lib.rt:78:1
 returns-3 : tie.Need-returns-3
 returns-3 c =
     let at-bit2 = c .before in
