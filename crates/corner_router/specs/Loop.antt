@@ -20,8 +20,8 @@ use Rattle.corner_keeps.specs.StepLaws.{step-holds, never-stuck}
 use Rattle.corner_loop.specs.Tidy.{tableR, Tidied}
 use Rattle.corner_loop.specs.Fewer.{vertices-some, vertices-few, step-fewer}
 use Rattle.corner_loop.specs.Pass.{turn-vertices, ready-for}
-use Rattle.router.specs.declared.Work.{Work}
-use Rattle.router.specs.View.{run, Went}
+use Rattle.corner_ends.specs.declared.Work.{Work}
+use Rattle.corner_ends.specs.View.{run, Went}
 use Rattle.corner_router.specs.Promise.{Turned, After}
 
 pub after-none : (R : Run) → After R R 0

@@ -7,8 +7,8 @@ use Prim.Native.Nat.{ℕ, _+_, _*_, _≤_, _<_}
 use Rattle.corner.specs.Shape.{vertices, Top}
 use Rattle.notes.specs.State.{State}
 use Rattle.corner_keeps.specs.Run.{Run, Holds, Sized, shapeR}
-use Rattle.router.specs.declared.Work.{Work}
-use Rattle.router.specs.View.{run}
+use Rattle.corner_ends.specs.declared.Work.{Work}
+use Rattle.corner_ends.specs.View.{run}
 
 -- the numbers that a turn keeps
 abbrev pub Kept : Work → Work → Type 0

@@ -10,8 +10,8 @@ use Rattle.notes.specs.Arrays.{notesOf, born}
 use Rattle.trace.specs.Directions.{Ordered}
 use Rattle.corner_keeps.specs.Run.{Run, Holds, Sized, stateR}
 use Rattle.corner_loop.specs.Start.{Starts, start-holds, routed-end}
-use Rattle.router.specs.declared.Work.{Work}
-use Rattle.router.specs.View.{run}
+use Rattle.corner_ends.specs.declared.Work.{Work}
+use Rattle.corner_ends.specs.View.{run}
 use Rattle.corner_router.specs.Promise.{CutAll}
 
 -- DEFINITION: what is handed to path assembly: the notes route the start, each pair that was asked for is noted with the ends that it was made with, and

@@ -3,9 +3,9 @@ ghost use mathlib.Core.Path.{_≡_};
 ghost use mathlib.Core.Bool.{false};
 ghost use Prim.Native.Nat.{_+_, _≤_, _<_};
 ghost use lib.ListN.{getD};
-ghost use Rattle.router.specs.View.{Low};
+ghost use Rattle.corner_ends.specs.View.{Low};
 ghost use Rattle.corner_router.specs.Promise.{Turned, CutAll, Kept};
-use router::Work;
+use corner_ends::Work;
 
 fn long(x: u8) -> usize
     ensures { λ r. ⌜ (r ≡ x) × (r < 256) ⌝ }

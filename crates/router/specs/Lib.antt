@@ -1,5 +1,2 @@
-pub mod View
-pub mod Went
-pub mod Divided
-pub mod Moved
+pub mod Stepped
 pub mod Stepping

@@ -9,9 +9,10 @@ use lib.ListN.{getD}
 use Rattle.corner_steps.specs.Scans.{First, seenD}
 use Rattle.corner_keeps.specs.Run.{Run, lineR, colR, ulR}
 use Rattle.corner_keeps.specs.Step.{FirstR, endR}
-use Rattle.router.specs.declared.Work.{Work}
-use Rattle.router.specs.View.{run, Went, TwoEndsR, NoEndsR, OneEdgeR}
-use Rattle.router.specs.Moved.{column-is}
+use Rattle.corner_ends.specs.declared.Work.{Work}
+use Rattle.corner_ends.specs.View.{run, Went, TwoEndsR, OneEdgeR}
+use Rattle.corner_ends.specs.Moved.{column-is}
+use Rattle.corner_bare.specs.Promise.{NoEndsR}
 
 module _ (la lb ids side vert half s1 s2 d1 d2 lo hi : List ℕ) (w : Work) (line x end from i : ℕ) (es : line ≡ seenD (w .up) (w .top)) (ec : x ≡ getD lo line 0 % 32)
     (ee : end ≡ getD hi line 0) (word : from ≡ line * 32 + x) (F : First la lb from 0 (w .n) i) (low : getD lo (seenD (w .up) (w .top)) 0 < 32) (R' : Run) (b : Bool) where

@@ -16,7 +16,7 @@ use Rattle.net.specs.declared.Pair.{Pair}
 use Rattle.net.specs.declared.Held.{Held}
 use Rattle.net.specs.declared.Held.the-variants.{Nothing, Ends}
 use Rattle.net.specs.declared.Place.{Place}
-use Rattle.router.specs.View.{Low}
+use Rattle.corner_ends.specs.View.{Low}
 
 -- ── DEFINITIONS ──
 abbrev pub wordOf : Vertex → ℕ

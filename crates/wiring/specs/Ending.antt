@@ -31,7 +31,7 @@ use Rattle.notes.specs.Alike.{Alike, present-alike, shapeOf}
 use Rattle.notes.specs.Arrays.{leftOf, notesOf, born}
 use Rattle.trace.specs.Traces.{pathD}
 use Rattle.corner_keeps.specs.Run.{Run, stateR, shapeR, rowR}
-use Rattle.router.specs.declared.Work.{Work}
+use Rattle.corner_ends.specs.declared.Work.{Work}
 use Rattle.corner_router.specs.Promise.{CutAll}
 use Rattle.corner_router.specs.Routed as ended
 use Rattle.writer.specs.Written.{Written}

@@ -28,8 +28,8 @@ use Rattle.notes.specs.Arrays.{vtx}
 use Rattle.corner_keeps.specs.Run.{Run, Sized, rowR, shapeR, pairsR}
 use Rattle.corner_keeps.specs.Place.{vtx-at, last-is}
 use Rattle.corner_loop.specs.Start.{Starts}
-use Rattle.router.specs.declared.Work.{Work}
-use Rattle.router.specs.View.{run}
+use Rattle.corner_ends.specs.declared.Work.{Work}
+use Rattle.corner_ends.specs.View.{run}
 use Rattle.start.specs.Lines.{Lined, lined-alike}
 use Rattle.start.specs.Table.{wordOf, noPair, Clear, Table}
 

@@ -9,7 +9,7 @@ use board::Vertex;
 use cut::Cut;
 use cut::FoundCut;
 use cut::FoundVertex;
-use router::Work;
+use corner_ends::Work;
 use session::Session;
 
 // What routing answers: the count of words written, or a refusal: 20 an unsound session, 31 a buffer under 2,049 words, 32 the first odd

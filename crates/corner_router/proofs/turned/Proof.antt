@@ -1,7 +1,7 @@
 -- Turned or not: the comparison of the two widths, by the laws of Loop.
 use native.Mathlib.Omega.{arith}
 use mathlib.Core.Path.{refl}
-use Rattle.router.specs.Moved.{seen-low}
+use Rattle.corner_ends.specs.Moved.{seen-low}
 use Rattle.corner_router.specs.Loop.{turn-yes, turn-no}
 use borrow.Author.Needs.{needs}
 use Rattle.corner_router.proofs.turned.Statement.{statement}
@@ -29,7 +29,10 @@ long-requires c κs = search needs
 
 -- src/lib.rt:24:27
 element-copy-out-long-2 : tie.Need-element-copy-out-long-2
-element-copy-out-long-2 c = omega (arith, c .before .before .before .seen .ensures, seen-low (c .before .before .before .before .args .w .up) (c .before .before .before .before .args .w .top) (c .before .before .before .before .pre .0))
+element-copy-out-long-2 c =
+    let at-seen = c .before .before .before in
+    let start = at-seen .before in
+    omega (arith, at-seen .seen .ensures, seen-low (start .args .w .up) (start .args .w .top) (start .pre .0))
 
 -- src/lib.rt:24:22
 long-requires-2 : tie.Need-long-requires-2
@@ -41,7 +44,17 @@ add-if1 c = search needs
 
 -- src/lib.rt:24:41
 element-copy-out-long-3 : tie.Need-element-copy-out-long-3
-element-copy-out-long-3 c = omega (arith, c .before .before .before .before .before .seen .ensures, seen-low (c .before .before .before .before .before .before .args .w .up) (c .before .before .before .before .before .before .args .w .top) (c .before .before .before .before .before .before .pre .0))
+element-copy-out-long-3 c =
+    let at-seen2 = c .before .before .before .before in
+    let at-seen = at-seen2 .before in
+    let start = at-seen .before in
+    omega (
+      arith,
+      at-seen .seen .ensures,
+      at-seen2 .seen2 .ensures,
+      seen-low (start .args .w .up) (start .args .w .top) (start .pre .0),
+      seen-low (start .args .w .up) (start .args .w .bottom) (start .pre .1),
+    )
 
 -- src/lib.rt:24:36
 long-requires-3 : tie.Need-long-requires-3
@@ -49,7 +62,17 @@ long-requires-3 c κs = search needs
 
 -- src/lib.rt:24:55
 element-copy-out-long-4 : tie.Need-element-copy-out-long-4
-element-copy-out-long-4 c = omega (arith, c .before .before .before .before .before .before .seen2 .ensures, seen-low (c .before .before .before .before .before .before .before .before .args .w .up) (c .before .before .before .before .before .before .before .before .args .w .bottom) (c .before .before .before .before .before .before .before .before .pre .1))
+element-copy-out-long-4 c =
+    let at-seen2 = c .before .before .before .before .before .before in
+    let at-seen = at-seen2 .before in
+    let start = at-seen .before in
+    omega (
+      arith,
+      at-seen .seen .ensures,
+      at-seen2 .seen2 .ensures,
+      seen-low (start .args .w .up) (start .args .w .top) (start .pre .0),
+      seen-low (start .args .w .up) (start .args .w .bottom) (start .pre .1),
+    )
 
 -- src/lib.rt:24:50
 long-requires-4 : tie.Need-long-requires-4
@@ -69,11 +92,36 @@ sub-t26 c = search needs
 
 -- src/lib.rt:25:9
 returns : tie.Need-returns
-returns c = (turn-yes (c .before .before .before .before .before .before .before .before .before .before .before .before .before .before .args .lo .now) (c .before .before .before .before .before .before .before .before .before .before .before .before .before .before .args .hi .now) (c .before .before .before .before .before .before .before .before .before .before .before .before .before .before .args .w) (c .before .before .before .before .before .before .before .before .before .before .before .before .before .seen .result) (c .before .before .before .before .before .before .before .before .before .before .before .before .seen2 .result) (c .before .before .before .before .before .before .before .before .before .before .long .result) (c .before .before .before .before .before .before .before .before .long2 .result) (c .before .before .before .before .before .before .long3 .result) (c .before .before .before .before .long4 .result) (c .before .before .before .before .before .before .before .before .before .before .before .before .before .seen .ensures) (c .before .before .before .before .before .before .before .before .before .before .before .before .seen2 .ensures) (c .before .before .before .before .before .before .before .before .before .before .long .ensures .0) (c .before .before .before .before .before .before .before .before .long2 .ensures .0) (c .before .before .before .before .before .before .long3 .ensures .0) (c .before .before .before .before .long4 .ensures .0) (c .before .before .before .if1 .taken) _ refl, (omega arith, omega arith, refl, refl))
+returns c =
+    let at-if1 = c .before .before .before in
+    let at-long4 = at-if1 .before in
+    let at-long3 = at-long4 .before .before in
+    let at-long2 = at-long3 .before .before in
+    let at-long = at-long2 .before .before in
+    let at-seen2 = at-long .before .before in
+    let at-seen = at-seen2 .before in
+    let start = at-seen .before in (
+      turn-yes (start .args .lo .now) (start .args .hi .now) (start .args .w) (at-seen .seen .result) (at-seen2 .seen2 .result) (at-long .long .result)
+          (at-long2 .long2 .result) (at-long3 .long3 .result) (at-long4 .long4 .result) (at-seen .seen .ensures) (at-seen2 .seen2 .ensures) (at-long .long .ensures .0)
+          (at-long2 .long2 .ensures .0) (at-long3 .long3 .ensures .0) (at-long4 .long4 .ensures .0) (at-if1 .if1 .taken) _ refl,
+      (omega arith, omega arith, refl, refl),
+    )
 
 -- src/lib.rt:17:1
 returns-2 : tie.Need-returns-2
-returns-2 c = (turn-no (c .before .before .before .before .before .before .before .before .before .before .before .args .lo .now) (c .before .before .before .before .before .before .before .before .before .before .before .args .hi .now) (c .before .before .before .before .before .before .before .before .before .before .before .args .w) (c .before .before .before .before .before .before .before .before .before .before .seen .result) (c .before .before .before .before .before .before .before .before .before .seen2 .result) (c .before .before .before .before .before .before .before .long .result) (c .before .before .before .before .before .long2 .result) (c .before .before .before .long3 .result) (c .before .long4 .result) (c .before .before .before .before .before .before .before .before .before .before .seen .ensures) (c .before .before .before .before .before .before .before .before .before .seen2 .ensures) (c .before .before .before .before .before .before .before .long .ensures .0) (c .before .before .before .before .before .long2 .ensures .0) (c .before .before .before .long3 .ensures .0) (c .before .long4 .ensures .0) (λ h. omega (arith, h, c .if1 .left)) _ refl, (c .before .before .before .before .before .before .before .before .before .before .before .pre .0, c .before .before .before .before .before .before .before .before .before .before .before .pre .1, refl, refl))
+returns-2 c =
+    let at-long4 = c .before in
+    let at-long3 = at-long4 .before .before in
+    let at-long2 = at-long3 .before .before in
+    let at-long = at-long2 .before .before in
+    let at-seen2 = at-long .before .before in
+    let at-seen = at-seen2 .before in
+    let start = at-seen .before in (
+      turn-no (start .args .lo .now) (start .args .hi .now) (start .args .w) (at-seen .seen .result) (at-seen2 .seen2 .result) (at-long .long .result)
+          (at-long2 .long2 .result) (at-long3 .long3 .result) (at-long4 .long4 .result) (at-seen .seen .ensures) (at-seen2 .seen2 .ensures) (at-long .long .ensures .0)
+          (at-long2 .long2 .ensures .0) (at-long3 .long3 .ensures .0) (at-long4 .long4 .ensures .0) (λ h. omega (arith, h, c .if1 .left)) _ refl,
+      (start .pre .0, start .pre .1, refl, refl),
+    )
 
 pub turned-spec : {M : Type 1} → statement M
 turned-spec =

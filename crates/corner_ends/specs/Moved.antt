@@ -14,8 +14,8 @@ use Rattle.corner_keeps.specs.Run.{Run, lineR, colR, ulR, nulR, bulR, bulW}
 use Rattle.corner_keeps.specs.Ready.{upN}
 use Rattle.corner_keeps.specs.OneEdge.{rightRun, downRun}
 use Rattle.corner_keeps.specs.Step.{Step, Stuck, FirstR, endR, right, down, no-right, no-down, no-edge, no-line}
-use Rattle.router.specs.declared.Work.{Work}
-use Rattle.router.specs.View.{run, Went, OneEdgeR}
+use Rattle.corner_ends.specs.declared.Work.{Work}
+use Rattle.corner_ends.specs.View.{run, Went, OneEdgeR}
 
 pub seen-low : (o : Bool) (l : ℕ) → l ≤ 31 → seenD o l < 32
 seen-low true l h = omega arith

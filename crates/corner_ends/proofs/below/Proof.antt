@@ -1,24 +1,24 @@
 -- Upside down and not.
 use native.Mathlib.Omega.{arith}
 use borrow.Author.Needs.{needs}
-use Rattle.router.proofs.below.Statement.{statement}
-use Rattle.router.proofs.below.Tie as tie
-use Rattle.router.proofs.below.Reads as reads
-use Rattle.router.proofs.below.Lts as lts
+use Rattle.corner_ends.proofs.below.Statement.{statement}
+use Rattle.corner_ends.proofs.below.Tie as tie
+use Rattle.corner_ends.proofs.below.Reads as reads
+use Rattle.corner_ends.proofs.below.Lts as lts
 
--- src/lib.rt:40:9
+-- src/lib.rt:37:9
 add-result : tie.Need-add-result
 add-result c = search needs
 
--- src/lib.rt:33:1
+-- src/lib.rt:30:1
 returns : tie.Need-returns
 returns c = rw (c .before .if1 .taken) (omega arith)
 
--- src/lib.rt:33:1
+-- src/lib.rt:30:1
 returns-2 : tie.Need-returns-2
 returns-2 c = rw (c .before .if1 .taken)
 
--- src/lib.rt:33:1
+-- src/lib.rt:30:1
 returns-3 : tie.Need-returns-3
 returns-3 c = rw (c .if1 .left)
 

@@ -15,8 +15,8 @@ use Rattle.corner_keeps.specs.Ready.{upN}
 use Rattle.corner_keeps.specs.TwoEnds.{splitRun}
 use Rattle.corner_keeps.specs.Choice.{farW}
 use Rattle.corner_keeps.specs.Step.{Step, Stuck, FirstR, endR, split-two, no-second}
-use Rattle.router.specs.declared.Work.{Work}
-use Rattle.router.specs.View.{run, Went, TwoEndsR, TwoEnds}
+use Rattle.corner_ends.specs.declared.Work.{Work}
+use Rattle.corner_ends.specs.View.{run, Went, TwoEndsR, TwoEnds}
 
 -- ── two ends ──
 module _ (la lb ids side vert half s1 s2 d1 d2 lo hi : List ℕ) (w : Work) (i line x from : ℕ) (li : i < w .n) (word : from ≡ line * 32 + x) where

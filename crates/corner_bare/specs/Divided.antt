@@ -20,8 +20,9 @@ use Rattle.corner_keeps.specs.Run.{Run, lineR, colR, ulR, nulR, bulR, bulW}
 use Rattle.corner_keeps.specs.Divide.{divideRun, dir1, dir2}
 use Rattle.corner_keeps.specs.Helper.{helperRun}
 use Rattle.corner_keeps.specs.Step.{Step, Stuck, FirstR, NoEnd, LeftFull, TopFull, endR, nearest, at-nul, helped, no-nearest, no-nul}
-use Rattle.router.specs.declared.Work.{Work}
-use Rattle.router.specs.View.{run, Low, Near, Went, CutRow, NoEndsR}
+use Rattle.corner_ends.specs.declared.Work.{Work}
+use Rattle.corner_ends.specs.View.{run, Low, Near, Went}
+use Rattle.corner_bare.specs.Promise.{CutRow, NoEndsR}
 
 -- a number that is stored is low
 pub low-set : (ids : List ℕ) (i v : ℕ) → Low ids → v < 2112 → Low (set ids i v)
