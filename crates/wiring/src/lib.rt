@@ -6,10 +6,10 @@ ghost use Rattle.session.specs.View.{sessionOf};
 ghost use Rattle.calls.specs.Route.{HandsBack, Routes, RoutesBytes};
 ghost use Rattle.wiring.specs.Answers.{Even, Roomy, routeAnswer, written};
 use board::Vertex;
+use corner_ends::Work;
 use cut::Cut;
 use cut::FoundCut;
 use cut::FoundVertex;
-use corner_ends::Work;
 use session::Session;
 
 // What routing answers: the count of words written, or a refusal: 20 an unsound session, 31 a buffer under 2,049 words, 32 the first odd

@@ -1,0 +1,62 @@
+-- `routed` reads the board, then routes it.
+use native.Mathlib.Omega.{arith}
+use Rattle.editor.specs.Laws.{routed-unread, routed-read}
+use borrow.Author.Needs.{needs}
+use Rattle.editor.proofs.routed.Statement.{statement}
+use Rattle.editor.proofs.routed.Tie as tie
+use Rattle.editor.proofs.routed.Reads as reads
+use Rattle.editor.proofs.routed.Lts as lts
+use Rattle.editor.proofs.refused.Reads as refused-reads
+use Rattle.editor.proofs.route_told.Reads as route-told-reads
+use Rattle.reading.proofs.read_bytes.Reads as read-bytes-reads
+use Rattle.wiring.proofs.route_bytes.Reads as route-bytes-reads
+
+-- src/lib.rt:96:9
+read-bytes-requires : tie.Need-read-bytes-requires
+read-bytes-requires c κs = search needs
+
+-- src/lib.rt:99:29
+enum-known-answer : tie.Need-enum-known-answer
+enum-known-answer c = search needs
+
+-- src/lib.rt:99:47
+refused-requires : tie.Need-refused-requires
+refused-requires c κs = search needs
+
+-- src/lib.rt:100:79
+enum-told : tie.Need-enum-told
+enum-told c = search needs
+
+-- src/lib.rt:100:44
+route-bytes-requires : tie.Need-route-bytes-requires
+route-bytes-requires c κs = search needs
+
+-- src/lib.rt:100:33
+route-told-requires : tie.Need-route-told-requires
+route-told-requires c κs = search needs
+
+-- src/lib.rt:93:1
+returns : tie.Need-returns
+returns c = rw (c .refused .ensures) (routed-unread _ _ (c .before .before .before .before .read-bytes .ensures) (c .before .before .answer .given .1))
+
+-- src/lib.rt:93:1
+same-length : tie.Need-same-length
+same-length c = search needs
+
+-- src/lib.rt:93:1
+returns-2 : tie.Need-returns-2
+returns-2 c = routed-read (c .before .before .before .before .before .before .before .read-bytes .ensures) (c .before .before .before .before .before .enum-told .given .1) (c .before .before .before .route-bytes .ensures) (c .route-told .ensures)
+
+pub routed-spec : {M : Type 1} → statement M
+routed-spec =
+    tie.close
+    (tie.spec
+    read-bytes-requires
+    enum-known-answer
+    refused-requires
+    enum-told
+    route-bytes-requires
+    route-told-requires
+    returns
+    same-length
+    returns-2)

@@ -1,0 +1,68 @@
+-- What reading hands back, as a result of the definition; and the calls in their parts.
+-- Assumes what reading, routing and judging promise.
+use mathlib.Core.Path.{_≡_, refl, ap, sym, _∙_}
+use mathlib.Core.List.{List}
+use mathlib.Core.Option.{Option, none, some}
+use Prim.Native.Nat.{ℕ}
+use native.Mathlib.Omega.{arith}
+use Rattle.machine.specs.Refusal.{Refusal, refusal}
+use Rattle.machine.specs.Session.{Session}
+use Rattle.session.specs.View.{sessionOf}
+use Rattle.calls.specs.Result.{Result, no, yes, andThen}
+use Rattle.calls.specs.Reading.{readBytes, handedBack}
+use Rattle.calls.specs.Route.{RoutesBytes}
+use Rattle.calls.specs.Judge.{judgeBytes}
+use Rattle.calls.specs.Editor.{EditorRoutes, unread, read, editorJudge}
+use Rattle.reading.specs.Promise.{readAnswer, refusalIn, ReadPromise}
+use Rattle.reading.specs.declared.AfterRead.{AfterRead}
+use Rattle.reading.specs.declared.ReadAnswer.the-variants as answer
+use Rattle.editor.specs.Told.{tell, routeTold, judgeTold, refusedTold, RoutePromise}
+use Rattle.editor.specs.declared.Told.{Told}
+
+-- ── reading ──
+is-no : (x : Result Session) (r : Refusal) → some r ≡ refusalIn x → x ≡ no r
+is-no (no q) r e = cc
+is-no (yes s) r e = absurd (let z : _≡_ {A = ℕ} 0 1 = cc in omega arith)
+
+is-yes : (x : Result Session) → none ≡ refusalIn x → x ≡ yes (handedBack x)
+is-yes (no q) e = absurd (let z : _≡_ {A = ℕ} 0 1 = cc in omega arith)
+is-yes (yes s) e = refl
+
+pub read-refused : {x : Result Session} {r : AfterRead} → ReadPromise x r → (n p : ℕ) → r .answer ≡ answer.Refused n p → x ≡ no (refusal n p)
+read-refused {x} P n p e = is-no x (refusal n p) (sym (ap readAnswer e) ∙ P .answers)
+
+pub read-accepted : {x : Result Session} {r : AfterRead} → ReadPromise x r → r .answer ≡ answer.Accepted → x ≡ yes (sessionOf (r .session))
+read-accepted {x} P e = is-yes x (sym (ap readAnswer e) ∙ P .answers) ∙ ap yes (sym (P .session))
+
+-- ── the two calls ──
+-- DEFINITION: the numbers and the buffer after reading with routing
+pub record RoutedAs (board before : List ℕ) (t : Told) (after : List ℕ) : Type 0 where
+  pub result : Result ℕ
+  pub routes : EditorRoutes board before result after
+  pub told : t ≡ routeTold result
+
+pub routed-unread : {board before : List ℕ} {r : AfterRead} (n p : ℕ) → ReadPromise (readBytes board) r → r .answer ≡ answer.Refused n p
+    → RoutedAs board before (tell n p 0 0) before
+routed-unread n p P e = record { result = no (refusal n p); routes = unread (read-refused P n p e); told = refl }
+
+pub routed-read : {board before after : List ℕ} {r : AfterRead} {a : Result ℕ} {t : Told} → ReadPromise (readBytes board) r → r .answer ≡ answer.Accepted
+    → RoutesBytes (sessionOf (r .session)) before a after → t ≡ routeTold a → RoutedAs board before t after
+routed-read {a = a} P e R f = record { result = a; routes = read (read-accepted P e) R; told = f }
+
+-- routing leaves the third number 0
+no-third : (a : Result ℕ) → tell (routeTold a .number) (routeTold a .first) (routeTold a .second) 0 ≡ routeTold a
+no-third (yes n) = refl
+no-third (no r) = refl
+
+pub two-numbers : (t : Told) (a : Result ℕ) → t ≡ routeTold a → tell (t .number) (t .first) (t .second) 0 ≡ routeTold a
+two-numbers t a e = ap (λ (x : Told). tell (x .number) (x .first) (x .second) 0) e ∙ no-third a
+
+pub judged-unread : (board list : List ℕ) {r : AfterRead} (n p : ℕ) → ReadPromise (readBytes board) r → r .answer ≡ answer.Refused n p
+    → tell n p 0 0 ≡ judgeTold (editorJudge board list)
+unfolding editorJudge
+judged-unread board list n p P e = rw (read-refused P n p e) refl
+
+pub judged-read : (board list : List ℕ) {r : AfterRead} {t : Told} → ReadPromise (readBytes board) r → r .answer ≡ answer.Accepted
+    → t ≡ judgeTold (judgeBytes (sessionOf (r .session)) list) → t ≡ judgeTold (editorJudge board list)
+unfolding editorJudge
+judged-read board list P e f = rw (read-accepted P e) f

@@ -1,0 +1,149 @@
+// The layout editor's two calls, for programs in C. editor/cidrask.h tells a caller how to use them.
+ghost use mathlib.Core.Path.{_≡_};
+ghost use Rattle.machine.specs.Refusal.{refusal};
+ghost use Rattle.calls.specs.Route.{overfullRefusal};
+ghost use Rattle.calls.specs.Editor.{editorJudge};
+ghost use Rattle.wiring.specs.Answers.{routeAnswer};
+ghost use Rattle.judging.specs.Answers.{judgementOf};
+ghost use Rattle.editor.specs.Told.{refusedTold, routeTold, judgeTold, RoutePromise, JudgePromise};
+ghost use Rattle.editor.specs.Laws.{RoutedAs};
+use cut::Cut;
+use judging::Judgement;
+use reading::ReadAnswer;
+use wiring::RouteAnswer;
+
+// The numbers by which a caller is told what came out.
+pub struct Told {
+    pub number: u32,
+    pub first: u64,
+    pub second: u64,
+    pub third: u64,
+}
+
+// A refusal with a place of one number.
+fn refused(number: u8, place: usize) -> Told
+    ensures { λ r. ⌜ r ≡ refusedTold (refusal number place) ⌝ }
+{
+    Told {
+        number: number as u32,
+        first: place as u64,
+        second: 0,
+        third: 0,
+    }
+}
+
+fn cut_told(x: Cut) -> Told
+    ensures { λ r. ⌜ r ≡ refusedTold (overfullRefusal x) ⌝ }
+{
+    match x {
+        Cut::Row(i) => Told {
+            number: 33,
+            first: 0,
+            second: i as u64,
+            third: 0,
+        },
+        Cut::Column(j) => Told {
+            number: 33,
+            first: 1,
+            second: j as u64,
+            third: 0,
+        },
+    }
+}
+
+fn route_told(answer: RouteAnswer) -> Told
+    ensures { λ r. ⌜ r ≡ routeTold (routeAnswer answer) ⌝ }
+{
+    match answer {
+        RouteAnswer::Routed(count) => Told {
+            number: 0,
+            first: count as u64,
+            second: 0,
+            third: 0,
+        },
+        RouteAnswer::Unsound => refused(20, 0),
+        RouteAnswer::ShortBuffer => refused(31, 0),
+        RouteAnswer::Odd(v) => Told {
+            number: 32,
+            first: v.line as u64,
+            second: v.column as u64,
+            third: 0,
+        },
+        RouteAnswer::Overfull(x) => cut_told(x),
+    }
+}
+
+fn judge_told(judgement: Judgement) -> Told
+    ensures { λ r. ⌜ r ≡ judgeTold (judgementOf judgement) ⌝ }
+{
+    match judgement {
+        Judgement::Passed(report) => Told {
+            number: 0,
+            first: report.edges as u64,
+            second: report.turns as u64,
+            third: report.knocks as u64,
+        },
+        Judgement::Unsound => refused(20, 0),
+        Judgement::UnevenBytes => refused(10, 0),
+        Judgement::Refused(r) => refused(r.number, r.place as usize),
+    }
+}
+
+// The board is read first; a board that is refused leaves the buffer untouched.
+fn routed(board: &[u8], buffer: &mut [u8]) -> Told
+    ensures { λ r. ⌜ RoutedAs (now (board .entry)) (now (buffer .entry)) r (now (buffer .exit)) ⌝ }
+{
+    let after = reading::read_bytes(board);
+    let answer = after.answer;
+    match answer {
+        ReadAnswer::Refused(number, place) => refused(number, place),
+        ReadAnswer::Accepted => route_told(wiring::route_bytes(after.session, buffer)),
+    }
+}
+
+fn judged(board: &[u8], list: &[u8]) -> Told
+    ensures { λ r. ⌜ r ≡ judgeTold (editorJudge (now (board .entry)) (now (list .entry))) ⌝ }
+{
+    let after = reading::read_bytes(board);
+    let answer = after.answer;
+    match answer {
+        ReadAnswer::Refused(number, place) => refused(number, place),
+        ReadAnswer::Accepted => judge_told(judging::judge_bytes(after.session, list)),
+    }
+}
+
+// Reads a board and routes its nets into the buffer. Answers 0 or the refusal's number; the other two numbers are the count of words and 0,
+// or the place.
+#[no_mangle]
+pub extern "C" fn cidrask_route(
+    board: &[u8],
+    buffer: &mut [u8],
+    first: &mut u64,
+    second: &mut u64,
+) -> u32
+    ensures { λ r. ⌜ RoutePromise (now (board .entry)) (now (buffer .entry)) r (now (first .exit)) (now (second .exit)) (now (buffer .exit)) ⌝ }
+{
+    let told = routed(board, buffer);
+    *first = told.first;
+    *second = told.second;
+    told.number
+}
+
+// Reads a board and judges a list of routing words against it. Answers 0 or the refusal's number; the other three numbers are the report's, or
+// the place.
+#[no_mangle]
+pub extern "C" fn cidrask_judge(
+    board: &[u8],
+    list: &[u8],
+    first: &mut u64,
+    second: &mut u64,
+    third: &mut u64,
+) -> u32
+    ensures { λ r. ⌜ JudgePromise (now (board .entry)) (now (list .entry)) r (now (first .exit)) (now (second .exit)) (now (third .exit)) ⌝ }
+{
+    let told = judged(board, list);
+    *first = told.first;
+    *second = told.second;
+    *third = told.third;
+    told.number
+}
