@@ -1,0 +1,140 @@
+/* A small layout editor: reads a board from a file, has it routed, has the routing judged, and prints a picture of the board.
+ *
+ *     layout FILE
+ *
+ * Prints "refused", the number and the place, and ends with status 1, where the board is refused; with status 2 where the file cannot be read.
+ * In the picture "+" is a vertex and "o" one with terminals. An edge that a net uses shows the net's sign: 1 to 9, A to Z, a to z, then #, @ and &
+ * for nets 1 to 64; an edge that no net uses is drawn thin. */
+#include <stdint.h>
+#include <stdio.h>
+#include <string.h>
+
+#include "cidrask.h"
+
+enum { LINES = 32, WORDS = 2049, BOARD_BYTES = 4 * 97 };
+
+static const char signs[] = "?123456789ABCDEFGHIJKLMNOPQRSTUVWXYZabcdefghijklmnopqrstuvwxyz#@&";
+
+struct picture {
+    char across[LINES][LINES]; /* the sign of the edge from a vertex to the right, '-' if it is unused, 0 if there is none */
+    char down[LINES][LINES];   /* the same downwards, with '|' */
+    char vertex[LINES][LINES]; /* '+' or 'o', or 0 */
+};
+
+static uint32_t word_at(const uint8_t *bytes, size_t index) {
+    const uint8_t *b = bytes + 4 * index;
+    return b[0] | (uint32_t)b[1] << 8 | (uint32_t)b[2] << 16 | (uint32_t)b[3] << 24;
+}
+
+/* The cells of a row: their corners are vertices, their sides edges. */
+static void draw_row(struct picture *p, int line, uint32_t word) {
+    int left = word >> 5 & 31, right = word & 31;
+    for (int c = left; c < right; c++) {
+        p->across[line][c] = p->across[line + 1][c] = '-';
+        p->down[line][c] = p->down[line][c + 1] = '|';
+        for (int k = 0; k < 4; k++)
+            if (!p->vertex[line + k / 2][c + k % 2]) p->vertex[line + k / 2][c + k % 2] = '+';
+    }
+}
+
+static void draw_board(struct picture *p, const uint8_t *board, size_t words) {
+    int line = 0;
+    for (size_t i = 0; i < words; i++) {
+        uint32_t w = word_at(board, i);
+        if (w >> 28 == 1) draw_row(p, line++, w);
+    }
+    for (size_t i = 0; i < words; i++) {
+        uint32_t w = word_at(board, i);
+        if (w >> 28 == 2) p->vertex[w >> 15 & 31][w >> 10 & 31] = p->vertex[w >> 5 & 31][w & 31] = 'o';
+    }
+}
+
+/* Where the path of a net starts: its first terminal. */
+static void start_of(const uint8_t *board, size_t words, uint32_t number, int *line, int *column) {
+    for (size_t i = 0; i < words; i++) {
+        uint32_t w = word_at(board, i);
+        if (w >> 28 == 2 && (w >> 20 & 255) == number) {
+            *line = w >> 15 & 31;
+            *column = w >> 10 & 31;
+        }
+    }
+}
+
+static void draw_step(struct picture *p, int *line, int *column, int direction, char sign) {
+    switch (direction) {
+    case 0: p->down[--*line][*column] = sign; break;
+    case 1: p->across[*line][(*column)++] = sign; break;
+    case 2: p->down[(*line)++][*column] = sign; break;
+    default: p->across[*line][--*column] = sign; break;
+    }
+}
+
+static void draw_paths(struct picture *p, const uint8_t *board, size_t words, const uint8_t *routing, size_t count) {
+    int line = 0, column = 0;
+    char sign = '?';
+    for (size_t i = 0; i < count; i++) {
+        uint32_t w = word_at(routing, i);
+        if (w >> 28 == 4) {
+            start_of(board, words, w >> 20 & 255, &line, &column);
+            sign = signs[w >> 20 & 255];
+        } else if (w >> 28 == 5) {
+            for (uint32_t k = 0; k < (w & 31); k++) draw_step(p, &line, &column, w >> 26 & 3, sign);
+        }
+    }
+}
+
+/* The length of a line of text without the blanks at its end. */
+static int used(const char *text, int length) {
+    while (length > 0 && text[length - 1] == ' ') length--;
+    return length;
+}
+
+static void print_text(const char *text, int length) { printf("%.*s\n", used(text, length), text); }
+
+static void print_picture(const struct picture *p) {
+    for (int l = 0; l < LINES; l++) {
+        char level[4 * LINES], upright[4 * LINES];
+        memset(level, ' ', sizeof level);
+        memset(upright, ' ', sizeof upright);
+        for (int c = 0; c < LINES; c++) {
+            if (p->vertex[l][c]) level[4 * c] = p->vertex[l][c];
+            if (p->across[l][c]) memset(level + 4 * c + 1, p->across[l][c] == '-' ? '.' : p->across[l][c], 3);
+            if (p->down[l][c]) upright[4 * c] = p->down[l][c] == '|' ? ':' : p->down[l][c];
+        }
+        if (used(level, 4 * LINES) == 0) continue;
+        print_text(level, 4 * LINES);
+        if (used(upright, 4 * LINES) > 0) print_text(upright, 4 * LINES);
+    }
+}
+
+static int refused(uint32_t number, uint64_t first, uint64_t second) {
+    printf("refused %u %llu", (unsigned)number, (unsigned long long)first);
+    if (number == 32 || number == 33) printf(" %llu", (unsigned long long)second);
+    printf("\n");
+    return 1;
+}
+
+int main(int argc, char **argv) {
+    static uint8_t board[BOARD_BYTES + 1], routing[4 * WORDS];
+    static struct picture p;
+    uint64_t count, second, edges, turns, knocks;
+    FILE *f = argc == 2 ? fopen(argv[1], "rb") : NULL;
+    if (!f) {
+        fprintf(stderr, "usage: layout FILE\n");
+        return 2;
+    }
+    size_t length = fread(board, 1, sizeof board, f);
+    fclose(f);
+    uint32_t r = cidrask_route(board, length, routing, sizeof routing, &count, &second);
+    if (r != 0) return refused(r, count, second);
+    r = cidrask_judge(board, length, routing, 4 * count, &edges, &turns, &knocks);
+    if (r != 0) {
+        fprintf(stderr, "layout: the routing does not pass: ");
+        return refused(r, edges, 0);
+    }
+    draw_board(&p, board, length / 4);
+    draw_paths(&p, board, length / 4, routing, count);
+    print_picture(&p);
+    printf("%llu edges, %llu turns, %llu knock-knees\n", (unsigned long long)edges, (unsigned long long)turns, (unsigned long long)knocks);
+    return 0;
+}
