@@ -1,0 +1,1 @@
+// The demands that Cidrask meets: see specs/Demands.antt.
