@@ -66,6 +66,9 @@ overfullRows b ps = select (overfull? b ps) (map Row (upTo (height b)))
 unfoldable pub overfullColumns : Board → List Pair → List Cut
 overfullColumns b ps = select (overfull? b ps) (map Column (upTo 31))
 
+abbrev pub overfullAmong : Bool → Board → List Pair → List Cut
+overfullAmong rows b ps = cond rows (overfullRows b ps) (overfullColumns b ps)
+
 -- what was found first
 abbrev pub foundCut : Option Cut → code-cut.FoundCut
 foundCut none = code-cut.the-variants.Nothing

@@ -9,7 +9,7 @@ ghost use Rattle.board.specs.View.{boardOf};
 ghost use Rattle.net.specs.View.{pairsOf};
 ghost use Rattle.cut.specs.Cut.{edges, side, crosses, Overfull, overfull?, overfullCuts};
 ghost use Rattle.cut.specs.Odd.{odd?, oddVertices};
-ghost use Rattle.cut.specs.View.{cutEdge, withHeld, TallyOf, overfullRows, overfullColumns, foundCut, foundVertex};
+ghost use Rattle.cut.specs.View.{cutEdge, withHeld, TallyOf, overfullRows, overfullColumns, overfullAmong, foundCut, foundVertex};
 use board::Board;
 use board::Direction;
 use board::Vertex;
@@ -163,14 +163,25 @@ fn overfull_column(b: Board, nets: [Place; 64]) -> FoundCut
     FoundCut::Nothing
 }
 
+// The first overfull row where rows are asked for, otherwise the first overfull column.
+fn overfull_among(rows: bool, b: Board, nets: [Place; 64]) -> FoundCut
+    ensures { λ r. ⌜ r ≡ foundCut (head? (overfullAmong rows (boardOf b) (pairsOf nets))) ⌝ }
+{
+    if rows {
+        overfull_row(b, nets)
+    } else {
+        overfull_column(b, nets)
+    }
+}
+
 // The first overfull cut: rows from the top, then columns from the left.
 pub fn first_overfull(b: Board, nets: [Place; 64]) -> FoundCut
     ensures { λ r. ⌜ r ≡ foundCut (head? (overfullCuts (boardOf b) (pairsOf nets))) ⌝ }
 {
-    let row = overfull_row(b, nets);
-    match row {
+    let found = overfull_among(true, b, nets);
+    match found {
         FoundCut::At(x) => FoundCut::At(x),
-        FoundCut::Nothing => overfull_column(b, nets),
+        FoundCut::Nothing => overfull_among(false, b, nets),
     }
 }
 
