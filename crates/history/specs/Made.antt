@@ -11,7 +11,8 @@ use Rattle.session.specs.declared.Session.{Session}
 use Rattle.session.specs.declared.AfterAdd.{AfterAdd}
 use Rattle.session.specs.declared.AfterWithdraw.{AfterWithdraw}
 use Rattle.session.specs.declared.AfterTakeBack.{AfterTakeBack}
-use Rattle.session.specs.Answers.{addAnswer, withdrawAnswer, takeBackAnswer}
+use Rattle.checking.specs.Answers.{addAnswer}
+use Rattle.session.specs.Answers.{withdrawAnswer, takeBackAnswer}
 use Rattle.session.specs.Promise.{AddPromise, WithdrawPromise, TakeBackPromise}
 
 -- a call that was made, with its arguments, and what it handed back
