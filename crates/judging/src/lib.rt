@@ -29,13 +29,14 @@ pub fn judge_words(s: Session, words: &[u32]) -> Judgement
     ensures { λ r. ⌜ judgementOf r ≡ judgeWords (sessionOf s) (now (words .entry)) ⌝ }
 {
     if !s.sound() {
-        return Judgement::Unsound;
-    }
-    let board = s.board;
-    let nets = s.nets;
-    match judge::judge(board, nets, words) {
-        Verdict::Passed(report) => Judgement::Passed(report),
-        Verdict::Refused(refusal) => Judgement::Refused(refusal),
+        Judgement::Unsound
+    } else {
+        let board = s.board;
+        let nets = s.nets;
+        match judge::judge(board, nets, words) {
+            Verdict::Passed(report) => Judgement::Passed(report),
+            Verdict::Refused(refusal) => Judgement::Refused(refusal),
+        }
     }
 }
 
@@ -58,10 +59,11 @@ pub fn compare_words(s: Session, first: &[u32], second: &[u32]) -> Likeness
 pub fn judge_bytes(s: Session, bytes: &[u8]) -> Judgement
     ensures { λ r. ⌜ judgementOf r ≡ judgeBytes (sessionOf s) (now (bytes .entry)) ⌝ }
 {
-    if !s.sound() {
+    let unsound = !s.sound();
+    let size = bytes.len();
+    if unsound {
         return Judgement::Unsound;
     }
-    let size = bytes.len();
     if size % 4 != 0 {
         return Judgement::UnevenBytes;
     }

@@ -41,7 +41,7 @@ fn add_word(b: Board, nets: [Place; 64], w: BoardWord) -> Added
 {
     match w {
         BoardWord::Net(net) => {
-            let told = session::add_told(session::check(b, nets, net));
+            let told = checking::add_told(checking::check(b, nets, net));
             if told.number == 0 {
                 let ends = net.ends;
                 Added {
@@ -107,12 +107,15 @@ pub fn read_words(words: &[u32]) -> AfterRead
     ensures { λ r. ⌜ ReadPromise (readWords (now (words .entry))) r ⌝ }
 {
     let scanned = scan::scan_words(words);
-    if scanned.number != 0 {
-        return refused(scanned.number, scanned.index);
-    }
+    let number = scanned.number;
+    let index = scanned.index;
     let scan = scanned.scan;
     let board = scan.board;
-    if !convex::is_convex(board) {
+    let bent = !convex::is_convex(board);
+    if number != 0 {
+        return refused(number, index);
+    }
+    if bent {
         return refused(16, 0);
     }
     let added = add_words(board, words);

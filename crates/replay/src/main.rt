@@ -14,6 +14,7 @@ ghost use Prim.Native.Nat.{_≤_};
 use board::Board;
 use board::Row;
 use board::Vertex;
+use checking::Told;
 use net::Change;
 use net::Held;
 use net::Net;
@@ -21,7 +22,6 @@ use net::Pair;
 use net::Place;
 use places::Pile;
 use session::Session;
-use session::Told;
 
 // A number that was read, and where it ended.
 struct Read {
@@ -234,7 +234,7 @@ fn row_line(session: Session, s: &[u8], at: usize) -> Session {
 fn add_line(session: Session, s: &[u8], at: usize) -> Session {
     let after = session.add(net(s, at));
     let answer = after.answer;
-    print_told(session::add_told(answer));
+    print_told(checking::add_told(answer));
     after.session
 }
 

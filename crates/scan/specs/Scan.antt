@@ -11,22 +11,25 @@ use Rattle.words.specs.declared.BoardWord.{BoardWord}
 use Rattle.words.specs.declared.BoardWord.the-variants as word
 use Rattle.scan.specs.declared.Scan.{Scan}
 
+-- the number of the first refusal that holds, in the order of the table: 12 an unknown word, 13 a misplaced one, 14 a bad row, 15 a bad count
+abbrev pub firstOf : (unknown misplaced row count : Bool) → ℕ
+firstOf unknown misplaced row count = cond unknown 12 (cond misplaced 13 (cond row 14 (cond count 15 0)))
+
 unfoldable pub rowRefused : Scan → Row → ℕ
-rowRefused s r =
-    cond (ltb 0 (s .nets) || s .ended) 13 (cond (not (ltb (r .left) (r .right)) || leb 31 (s .board .count)) 14 0)
+rowRefused s r = firstOf false (ltb 0 (s .nets) || s .ended) (not (ltb (r .left) (r .right)) || leb 31 (s .board .count)) false
 
 unfoldable pub netRefused : Scan → Bool → Net → ℕ
-netRefused s first n = cond (first || ((ltb 0 (s .nets) && leb (n .number) (s .last)) || s .ended)) 13 0
+netRefused s first n = firstOf false (first || ((ltb 0 (s .nets) && leb (n .number) (s .last)) || s .ended)) false false
 
 unfoldable pub endRefused : Scan → Bool → Counts → ℕ
 endRefused s first c =
-    cond (first || s .ended) 13 (cond (not (eqb (c .rows) (s .board .count) && eqb (c .nets) (s .nets))) 15 0)
+    firstOf false (first || s .ended) false (not (eqb (c .rows) (s .board .count) && eqb (c .nets) (s .nets)))
 
 unfoldable pub wordRefused : Scan → Bool → BoardWord → ℕ
 wordRefused s first (word.Row r) = rowRefused s r
 wordRefused s first (word.Net n) = netRefused s first n
 wordRefused s first (word.End c) = endRefused s first c
-wordRefused s first word.Unknown = 12
+wordRefused s first word.Unknown = firstOf true (first || s .ended) false false
 
 -- with what a word says; beyond 31 rows and 255 nets nothing is taken
 unfoldable pub withRow : Scan → Row → Scan

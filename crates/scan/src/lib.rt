@@ -2,6 +2,7 @@
 ghost use mathlib.Core.Path.{_≡_};
 ghost use Rattle.scan.specs.Promise.{ScanPromise};
 ghost use Rattle.scan.specs.Scan.{
+  firstOf,
   rowRefused,
   netRefused,
   endRefused,
@@ -33,40 +34,46 @@ pub struct Scanned {
     pub scan: Scan,
 }
 
-// The number of the refusal of a row, 0 for none.
+// The number of the first refusal that holds, in the order of the table, 0 for none.
+fn first_of(unknown: bool, misplaced: bool, row: bool, count: bool) -> u8
+    ensures { λ r. ⌜ r ≡ firstOf unknown misplaced row count ⌝ }
+{
+    if unknown {
+        return 12;
+    }
+    if misplaced {
+        return 13;
+    }
+    if row {
+        return 14;
+    }
+    if count {
+        return 15;
+    }
+    0
+}
+
 fn row_refused(s: Scan, r: Row) -> u8
     ensures { λ n. ⌜ n ≡ rowRefused s r ⌝ }
 {
     let board = s.board;
-    if (0 < s.nets) | s.ended {
-        return 13;
-    }
-    if !(r.left < r.right) | (31 <= board.count) {
-        return 14;
-    }
-    0
+    let bad = !(r.left < r.right) | (31 <= board.count);
+    first_of(false, (0 < s.nets) | s.ended, bad, false)
 }
 
 fn net_refused(s: Scan, first: bool, n: Net) -> u8
     ensures { λ r. ⌜ r ≡ netRefused s first n ⌝ }
 {
-    if first | (((0 < s.nets) & (n.number <= s.last)) | s.ended) {
-        return 13;
-    }
-    0
+    let again = (0 < s.nets) & (n.number <= s.last);
+    first_of(false, first | (again | s.ended), false, false)
 }
 
 fn end_refused(s: Scan, first: bool, c: Counts) -> u8
     ensures { λ r. ⌜ r ≡ endRefused s first c ⌝ }
 {
     let board = s.board;
-    if first | s.ended {
-        return 13;
-    }
-    if !((c.rows == board.count) & (c.nets == s.nets)) {
-        return 15;
-    }
-    0
+    let counted = (c.rows == board.count) & (c.nets == s.nets);
+    first_of(false, first | s.ended, false, !counted)
 }
 
 // The number of the refusal of a word, 0 for none.
@@ -77,7 +84,7 @@ fn word_refused(s: Scan, first: bool, w: BoardWord) -> u8
         BoardWord::Row(r) => row_refused(s, r),
         BoardWord::Net(n) => net_refused(s, first, n),
         BoardWord::End(c) => end_refused(s, first, c),
-        BoardWord::Unknown => 12,
+        BoardWord::Unknown => first_of(true, first | s.ended, false, false),
     }
 }
 

@@ -2,7 +2,6 @@ pub mod Answers
 pub mod View
 pub mod Value
 pub mod Promise
-pub mod Check
 pub mod Reverse
 pub mod OneByOne
 pub mod Steps

@@ -26,10 +26,11 @@ use Rattle.places.specs.Nets.{heldAs, net-of, remove-of}
 use Rattle.places.specs.Pile.{pileOf, topOf, lifted}
 use Rattle.places.specs.Changes.{laid-pile, pile-top, pile-empty, length-pile}
 use Rattle.session.specs.declared.Session.{Session}
-use Rattle.session.specs.Answers.{addAnswer, withdrawAnswer, takeBackAnswer}
+use Rattle.checking.specs.Answers.{addAnswer}
+use Rattle.session.specs.Answers.{withdrawAnswer, takeBackAnswer}
 use Rattle.session.specs.View.{sessionOf}
 use Rattle.session.specs.Value.{changed, addSound, withdrawHeld, withdrawSound, takeBackSound}
-use Rattle.session.specs.Check.{answered, check-answer, check-accepts}
+use Rattle.checking.specs.Check.{answered, check-answer, check-accepts}
 use Rattle.session.specs.Reverse.{insert-accepted, reversed-of}
 
 -- DEFINITION: the arrays of the code have 64 places

@@ -1,15 +1,12 @@
 -- Definitions only: what each call hands back, as a value of the code. Nothing is proved here:
 -- `add-promise`, `withdraw-promise` and `take-back-promise` in Kept say that it is what the list machine gives.
-use mathlib.Core.Bool.{Bool, not, cond}
+use mathlib.Core.Bool.{cond}
 use mathlib.Core.List.{List}
 use Prim.Native.Nat.{ℕ}
 use lib.Dec.{eqb}
 use lib.ListN.{replicate}
-use Rattle.board.specs.Board.{Board}
-use Rattle.board.specs.Degree.{vertex?}
 use Rattle.board.specs.View.{boardOf}
 use Rattle.board.specs.declared.Board as code-board
-use Rattle.net.specs.Terminals.{same}
 use Rattle.net.specs.View.{nothing}
 use Rattle.net.specs.declared.Net.{Net}
 use Rattle.net.specs.declared.Change.{Change}
@@ -17,39 +14,20 @@ use Rattle.net.specs.declared.Change.the-variants.{Added, Withdrawn}
 use Rattle.net.specs.declared.Held.{Held}
 use Rattle.net.specs.declared.Held.the-variants.{Nothing, Ends}
 use Rattle.net.specs.declared.Place.{Place}
-use Rattle.machine.specs.Session.{holds}
-use Rattle.machine.specs.Add.{goodNumber, full}
 use Rattle.machine.specs.Sound.{sound?}
 use Rattle.places.specs.Numbered.{replaced}
 use Rattle.places.specs.Places.{net, holding, netsOf, placeAt, reversedIn}
 use Rattle.places.specs.Pile.{noSlot, topOf, lifted, laid}
+use Rattle.checking.specs.Answers.{isAccepted}
+use Rattle.checking.specs.Lines.{checkOf}
+use Rattle.checking.specs.declared.AddAnswer.the-variants.{Unsound}
 use Rattle.session.specs.declared.Session.{Session}
 use Rattle.session.specs.declared.AfterAdd.{AfterAdd}
 use Rattle.session.specs.declared.AfterWithdraw.{AfterWithdraw}
 use Rattle.session.specs.declared.AfterTakeBack.{AfterTakeBack}
-use Rattle.session.specs.declared.AddAnswer.{AddAnswer}
-use Rattle.session.specs.declared.AddAnswer.the-variants.{Accepted, Unsound, BadNumber, NumberTaken, NoVertex, SameVertex, PinsTaken}
 use Rattle.session.specs.declared.WithdrawAnswer.the-variants as withdraw-is
 use Rattle.session.specs.declared.TakeBackAnswer.the-variants as back-is
-use Rattle.session.specs.Answers.{isAccepted}
 use Rattle.session.specs.View.{sessionOf}
-
--- the first of the conditions for adding that holds, in the order of the table
-unfoldable pub firstOf : Bool → Bool → Bool → Bool → Bool → Bool → Bool → AddAnswer
-firstOf is21 is22 is23-0 is23-1 is24 is25-0 is25-1 =
-    cond is21 BadNumber
-    (cond is22 NumberTaken
-    (cond is23-0 (NoVertex 0)
-    (cond is23-1 (NoVertex 1)
-    (cond is24 SameVertex
-    (cond is25-0 (PinsTaken 0)
-    (cond is25-1 (PinsTaken 1) Accepted))))))
-
--- what adding the net n to the nets ns on the board b answers
-unfoldable pub checkOf : Board → List Net → Net → AddAnswer
-checkOf b ns n =
-    firstOf (not (goodNumber (n .number))) (holds (n .number) ns) (not (vertex? b (n .ends .first))) (not (vertex? b (n .ends .second)))
-    (same (n .ends .first) (n .ends .second)) (full b ns (n .ends .first)) (full b ns (n .ends .second))
 
 -- the session with other places, and a change laid on the pile
 abbrev pub changed : Session → List Place → Change → Session

@@ -2,7 +2,8 @@
 // Each call takes a session and hands back the next. A refused call hands back the session that it was given.
 use board::Board;
 use board::Row;
-use board::Vertex;
+use checking::AddAnswer;
+use checking::Told;
 use net::Change;
 use net::Held;
 use net::Net;
@@ -12,13 +13,13 @@ ghost use mathlib.Core.Path.{_≡_};
 ghost use mathlib.Core.List.{[]};
 ghost use Rattle.count.specs.Truth.{Decides};
 ghost use Rattle.board.specs.View.{boardOf};
-ghost use Rattle.machine.specs.Add.{full, accepts};
 ghost use Rattle.machine.specs.Sound.{addable?, liftable?, lifts?, Sound, sound?};
 ghost use Rattle.places.specs.Places.{netsOf};
 ghost use Rattle.places.specs.Pile.{pileOf};
-ghost use Rattle.session.specs.Answers.{isAccepted, addAnswer, withdrawAnswer, takeBackAnswer, toldOf};
+ghost use Rattle.checking.specs.Answers.{toldOf};
+ghost use Rattle.session.specs.Answers.{withdrawAnswer, takeBackAnswer};
 ghost use Rattle.session.specs.View.{sessionOf};
-ghost use Rattle.session.specs.Value.{checkOf, changed, addSound, withdrawSound, takeBackSound};
+ghost use Rattle.session.specs.Value.{changed, addSound, withdrawSound, takeBackSound};
 ghost use Rattle.session.specs.OneByOne.{heldAccepted};
 ghost use Rattle.session.specs.Promise.{AddPromise, WithdrawPromise, TakeBackPromise, FreshPromise, BlankPromise};
 
@@ -27,17 +28,6 @@ pub struct Session {
     pub board: Board,
     pub nets: [Place; 64],
     pub pile: Pile,
-}
-
-// What add answers. The number is that of the terminal: 0 the first, 1 the second.
-pub enum AddAnswer {
-    Accepted,
-    Unsound,
-    BadNumber,
-    NumberTaken,
-    NoVertex(u8),
-    SameVertex,
-    PinsTaken(u8),
 }
 
 pub enum WithdrawAnswer {
@@ -50,12 +40,6 @@ pub enum TakeBackAnswer {
     Accepted,
     Unsound,
     PileEmpty,
-}
-
-// An answer by its number and place; number 0 where the call is accepted.
-pub struct Told {
-    pub number: u8,
-    pub place: u8,
 }
 
 // What each call hands back: its answer and the next session.
@@ -74,65 +58,6 @@ pub struct AfterTakeBack {
     pub session: Session,
 }
 
-// Are the pins of v all taken?
-fn is_full(b: Board, nets: [Place; 64], v: Vertex) -> bool
-    ensures { λ r. ⌜ r ≡ full (boardOf b) (netsOf nets) v ⌝ }
-{
-    board::pins_of(b, v) <= net::terminals_at(nets, v)
-}
-
-// What adding the net answers: the first condition that holds, in the order of the table.
-pub fn check(b: Board, nets: [Place; 64], net: Net) -> AddAnswer
-    ensures { λ r. ⌜ r ≡ checkOf (boardOf b) (netsOf nets) net ⌝ }
-{
-    let ends = net.ends;
-    let first = ends.first;
-    let second = ends.second;
-    if !((1 <= net.number) & (net.number <= 64)) {
-        return AddAnswer::BadNumber;
-    }
-    if places::is_held(nets, net.number) {
-        return AddAnswer::NumberTaken;
-    }
-    if !board::is_vertex(b, first) {
-        return AddAnswer::NoVertex(0);
-    }
-    if !board::is_vertex(b, second) {
-        return AddAnswer::NoVertex(1);
-    }
-    if net::same_vertex(first, second) {
-        return AddAnswer::SameVertex;
-    }
-    if is_full(b, nets, first) {
-        return AddAnswer::PinsTaken(0);
-    }
-    if is_full(b, nets, second) {
-        return AddAnswer::PinsTaken(1);
-    }
-    AddAnswer::Accepted
-}
-
-fn is_accepted(answer: AddAnswer) -> bool
-    ensures { λ r. ⌜ r ≡ isAccepted answer ⌝ }
-{
-    match answer {
-        AddAnswer::Accepted => true,
-        AddAnswer::Unsound => false,
-        AddAnswer::BadNumber => false,
-        AddAnswer::NumberTaken => false,
-        AddAnswer::NoVertex(_) => false,
-        AddAnswer::SameVertex => false,
-        AddAnswer::PinsTaken(_) => false,
-    }
-}
-
-// Does add accept the net?
-fn is_free(b: Board, nets: [Place; 64], net: Net) -> bool
-    ensures { λ r. ⌜ r ≡ accepts (boardOf b) (netsOf nets) net ⌝ }
-{
-    is_accepted(check(b, nets, net))
-}
-
 // Does add accept what the place holds under this number?
 fn is_held_free(b: Board, nets: [Place; 64], number: u8, place: Place) -> bool
     ensures { λ r. ⌜ r ≡ heldAccepted (boardOf b) (netsOf nets) number (place .held) ⌝ }
@@ -140,7 +65,7 @@ fn is_held_free(b: Board, nets: [Place; 64], number: u8, place: Place) -> bool
     let held = place.held;
     match held {
         Held::Nothing => true,
-        Held::Ends(ends) => is_free(b, nets, Net { number, ends }),
+        Held::Ends(ends) => checking::is_free(b, nets, Net { number, ends }),
     }
 }
 
@@ -169,7 +94,7 @@ fn is_liftable(b: Board, nets: [Place; 64], change: Change) -> bool
 {
     match change {
         Change::Added(net) => places::is_recorded(nets, net),
-        Change::Withdrawn(net) => is_free(b, nets, net),
+        Change::Withdrawn(net) => checking::is_free(b, nets, net),
     }
 }
 
@@ -188,35 +113,6 @@ fn lifts(b: Board, nets: [Place; 64], pile: Pile) -> bool
         rest = rest.lift();
     }
     ok
-}
-
-pub fn add_told(answer: AddAnswer) -> Told
-    ensures { λ r. ⌜ toldOf r ≡ addAnswer answer ⌝ }
-{
-    match answer {
-        AddAnswer::Accepted => Told {
-            number: 0,
-            place: 0,
-        },
-        AddAnswer::Unsound => Told {
-            number: 20,
-            place: 0,
-        },
-        AddAnswer::BadNumber => Told {
-            number: 21,
-            place: 0,
-        },
-        AddAnswer::NumberTaken => Told {
-            number: 22,
-            place: 0,
-        },
-        AddAnswer::NoVertex(place) => Told { number: 23, place },
-        AddAnswer::SameVertex => Told {
-            number: 24,
-            place: 0,
-        },
-        AddAnswer::PinsTaken(place) => Told { number: 25, place },
-    }
 }
 
 pub fn withdraw_told(answer: WithdrawAnswer) -> Told
@@ -312,8 +208,8 @@ impl Session {
         ensures { λ r. ⌜ r ≡ addSound self net ⌝ }
     {
         let nets = self.nets;
-        let answer = check(self.board, nets, net);
-        if !is_accepted(answer) {
+        let answer = checking::check(self.board, nets, net);
+        if !checking::is_accepted(answer) {
             return AfterAdd {
                 answer,
                 session: self,

@@ -111,11 +111,13 @@ fn walk_run(b: Board, run: Run, from: Vertex, used: &mut [u8; 2048]) -> Walked
     let mut left = run.length;
     let mut v = from;
     while 0 < left {
-        if !board::is_edge(b, d, v) {
+        let slot = slot_of(d, v);
+        let off = !board::is_edge(b, d, v);
+        let again = 0 < used[slot];
+        if off {
             return Walked::Refused(44);
         }
-        let slot = slot_of(d, v);
-        if 0 < used[slot] {
+        if again {
             return Walked::Refused(45);
         }
         used[slot] = 1;

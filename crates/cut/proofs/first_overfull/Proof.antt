@@ -1,3 +1,4 @@
+-- `first_overfull` names the first overfull row, and where there is none the first overfull column.
 use Rattle.cut.specs.Laws.{first-is-row, first-is-column}
 use Rattle.net.specs.View.{pairsOf}
 use Rattle.board.specs.View.{boardOf}

@@ -1,5 +1,7 @@
+-- `is_crossing` is `crosses`.
 use Rattle.cut.specs.Cut.{crosses}
 use mathlib.Core.Bool.{xor}
+use mathlib.Core.Path.{refl}
 use borrow.Author.Needs.{needs}
 use Rattle.cut.proofs.is_crossing.Statement.{statement}
 use Rattle.cut.proofs.is_crossing.Tie as tie
@@ -15,7 +17,7 @@ is-before-requires-2 c κs = search needs
 
 returns : tie.Need-returns
 unfolding crosses xor
-returns c = cc
+returns c = rw (← c .before .is-before .ensures, ← c .is-before2 .ensures) refl
 
 pub is-crossing-spec : {M : Type 1} → statement M
 is-crossing-spec = tie.close (tie.spec is-before-requires is-before-requires-2 returns)

@@ -1,3 +1,4 @@
+-- `overfull_among` is the search that is asked for.
 use borrow.Author.Needs.{needs}
 use Rattle.cut.proofs.overfull_among.Statement.{statement}
 use Rattle.cut.proofs.overfull_among.Tie as tie

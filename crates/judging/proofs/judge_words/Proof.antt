@@ -15,9 +15,6 @@ use Rattle.session.proofs.Session.sound.Reads as sound-reads
 sound-requires : tie.Need-sound-requires
 sound-requires c κs = search needs
 
-returns : tie.Need-returns
-returns c = sym (judge-unsound (sessionOf (c .before .before .before .args .s)) (c .before .before .before .args .words .now) (sym (c .before .sound .ensures .same) ∙ not-true (c .before .sound .result) (c .if1 .taken)))
-
 judge-requires : tie.Need-judge-requires
 judge-requires c κs = search needs
 
@@ -26,6 +23,9 @@ enum-known-report c = search needs
 
 enum-known-refusal : tie.Need-enum-known-refusal
 enum-known-refusal c = search needs
+
+returns : tie.Need-returns
+returns c = sym (judge-unsound (sessionOf (c .before .before .before .args .s)) (c .before .before .before .args .words .now) (sym (c .before .sound .ensures .same) ∙ not-true (c .before .sound .result) (c .if1 .taken)))
 
 returns-2 : tie.Need-returns-2
 returns-2 c =
@@ -42,9 +42,9 @@ judge-words-spec =
     tie.close
     (tie.spec
     sound-requires
-    returns
     judge-requires
     enum-known-report
     enum-known-refusal
+    returns
     returns-2
     returns-3)

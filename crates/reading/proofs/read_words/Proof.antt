@@ -17,25 +17,25 @@ use Rattle.session.proofs.fresh.Reads as fresh-reads
 scan-words-requires : tie.Need-scan-words-requires
 scan-words-requires c κs = search needs
 
+is-convex-requires : tie.Need-is-convex-requires
+is-convex-requires c κs = search needs
+
 refused-requires : tie.Need-refused-requires
 refused-requires c κs = search needs
 
 returns : tie.Need-returns
 returns c =
-    let ws = c .before .before .before .before .before .args .words .now in let s = c .before .before .before .scan-words in
+    let ws = c .before .before .before .before .before .before .before .args .words .now in let s = c .before .before .before .before .before .scan-words in
     refused-read (readWords ws) (s .result .number) (s .result .index) _ (c .refused .ensures) (scan-refused ws (s .result) (s .ensures) (c .before .if1 .taken))
-
-is-convex-requires : tie.Need-is-convex-requires
-is-convex-requires c κs = search needs
 
 refused-requires-2 : tie.Need-refused-requires-2
 refused-requires-2 c κs = search needs
 
 returns-2 : tie.Need-returns-2
 returns-2 c =
-    let ws = c .before .before .before .before .before .before .before .before .before .args .words .now in let s = c .before .before .before .before .before .before .before .scan-words in
+    let ws = c .before .before .before .before .before .before .before .before .args .words .now in let s = c .before .before .before .before .before .before .scan-words in let x = c .before .before .before .is-convex in
     refused-read (readWords ws) 16 0 _ (c .refused2 .ensures)
-    (bent-refused ws (s .result) (s .ensures) (c .before .before .before .before .before .if1 .left) (sym (c .before .before .is-convex .ensures .same) ∙ not-true (c .before .before .is-convex .result) (c .before .if2 .taken)))
+    (bent-refused ws (s .result) (s .ensures) (c .before .before .if1 .left) (sym (x .ensures .same) ∙ not-true (x .result) (c .before .if2 .taken)))
 
 add-words-requires : tie.Need-add-words-requires
 add-words-requires c κs = search needs
@@ -45,17 +45,17 @@ refused-requires-3 c κs = search needs
 
 returns-3 : tie.Need-returns-3
 returns-3 c =
-    let ws = c .before .before .before .before .before .before .before .before .before .before .before .before .args .words .now in let s = c .before .before .before .before .before .before .before .before .before .before .scan-words in let a = c .before .before .before .add-words in
+    let ws = c .before .before .before .before .before .before .before .before .before .before .before .args .words .now in let s = c .before .before .before .before .before .before .before .before .before .scan-words in let x = c .before .before .before .before .before .before .is-convex in let a = c .before .before .before .add-words in
     refused-read (readWords ws) (a .result .number) (a .result .index) _ (c .refused3 .ensures)
-    (net-refused ws (s .result) (s .ensures) (c .before .before .before .before .before .before .before .before .if1 .left) (sym (c .before .before .before .before .before .is-convex .ensures .same) ∙ not-false (c .before .before .before .before .before .is-convex .result) (c .before .before .before .before .if2 .left)) (a .result) (a .ensures) (c .before .if3 .taken))
+    (net-refused ws (s .result) (s .ensures) (c .before .before .before .before .before .if1 .left) (sym (x .ensures .same) ∙ not-false (x .result) (c .before .before .before .before .if2 .left)) (a .result) (a .ensures) (c .before .if3 .taken))
 
 fresh-requires : tie.Need-fresh-requires
 fresh-requires c κs = search needs
 
 returns-4 : tie.Need-returns-4
 returns-4 c =
-    let ws = c .before .before .before .before .before .before .before .before .before .before .before .before .before .before .args .words .now in let s = c .before .before .before .before .before .before .before .before .before .before .before .before .scan-words in let a = c .before .before .before .before .before .add-words in
-    session-read ws (s .result) (s .ensures) (c .before .before .before .before .before .before .before .before .before .before .if1 .left) (sym (c .before .before .before .before .before .before .before .is-convex .ensures .same) ∙ not-false (c .before .before .before .before .before .before .before .is-convex .result) (c .before .before .before .before .before .before .if2 .left)) (a .result) (a .ensures) (c .before .before .before .if3 .left)
+    let ws = c .before .before .before .before .before .before .before .before .before .before .before .before .before .args .words .now in let s = c .before .before .before .before .before .before .before .before .before .before .before .scan-words in let x = c .before .before .before .before .before .before .before .before .is-convex in let a = c .before .before .before .before .before .add-words in
+    session-read ws (s .result) (s .ensures) (c .before .before .before .before .before .before .before .if1 .left) (sym (x .ensures .same) ∙ not-false (x .result) (c .before .before .before .before .before .before .if2 .left)) (a .result) (a .ensures) (c .before .before .before .if3 .left)
     (c .before .before .fresh .result) (c .before .before .fresh .ensures)
 
 pub read-words-spec : {M : Type 1} → statement M
@@ -63,9 +63,9 @@ read-words-spec =
     tie.close
     (tie.spec
     scan-words-requires
+    is-convex-requires
     refused-requires
     returns
-    is-convex-requires
     refused-requires-2
     returns-2
     add-words-requires

@@ -1,22 +1,18 @@
 -- `row_refused` is `rowRefused`.
 use Rattle.scan.specs.Scan.{rowRefused}
-use mathlib.Core.Path.{refl}
+use borrow.Author.Needs.{needs}
 use Rattle.scan.proofs.row_refused.Statement.{statement}
 use Rattle.scan.proofs.row_refused.Tie as tie
 use Rattle.scan.proofs.row_refused.Reads as reads
 use Rattle.scan.proofs.row_refused.Lts as lts
+use Rattle.scan.proofs.first_of.Reads as first-of-reads
+
+first-of-requires : tie.Need-first-of-requires
+first-of-requires c κs = search needs
 
 returns : tie.Need-returns
 unfolding rowRefused
-returns c = rw (c .if1 .taken) refl
-
-returns-2 : tie.Need-returns-2
-unfolding rowRefused
-returns-2 c = rw (c .before .before .before .if1 .left, c .if2 .taken) refl
-
-returns-3 : tie.Need-returns-3
-unfolding rowRefused
-returns-3 c = rw (c .before .before .before .if1 .left, c .if2 .left) refl
+returns c = c .first-of .ensures
 
 pub row-refused-spec : {M : Type 1} → statement M
-row-refused-spec = tie.close (tie.spec returns returns-2 returns-3)
+row-refused-spec = tie.close (tie.spec first-of-requires returns)

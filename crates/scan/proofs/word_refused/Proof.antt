@@ -1,12 +1,12 @@
 -- `word_refused` is `wordRefused`.
 use Rattle.scan.specs.Scan.{wordRefused}
-use mathlib.Core.Path.{refl}
 use borrow.Author.Needs.{needs}
 use Rattle.scan.proofs.word_refused.Statement.{statement}
 use Rattle.scan.proofs.word_refused.Tie as tie
 use Rattle.scan.proofs.word_refused.Reads as reads
 use Rattle.scan.proofs.word_refused.Lts as lts
 use Rattle.scan.proofs.end_refused.Reads as end-refused-reads
+use Rattle.scan.proofs.first_of.Reads as first-of-reads
 use Rattle.scan.proofs.net_refused.Reads as net-refused-reads
 use Rattle.scan.proofs.row_refused.Reads as row-refused-reads
 
@@ -31,6 +31,9 @@ end-refused-requires c κs = search needs
 enum-told : tie.Need-enum-told
 enum-told c = search needs
 
+first-of-requires : tie.Need-first-of-requires
+first-of-requires c κs = search needs
+
 returns : tie.Need-returns
 unfolding wordRefused
 returns c = rw (c .before .before .w .given .1) (c .row-refused .ensures)
@@ -45,7 +48,7 @@ returns-3 c = rw (c .before .before .w3 .given .1) (c .end-refused .ensures)
 
 returns-4 : tie.Need-returns-4
 unfolding wordRefused
-returns-4 c = rw (c .enum-told .given .1) refl
+returns-4 c = rw (c .before .before .enum-told .given .1) (c .first-of .ensures)
 
 pub word-refused-spec : {M : Type 1} → statement M
 word-refused-spec =
@@ -58,6 +61,7 @@ word-refused-spec =
     enum-known-w-3
     end-refused-requires
     enum-told
+    first-of-requires
     returns
     returns-2
     returns-3

@@ -1,7 +1,8 @@
 -- `add_told` gives the number and place of an answer.
+use mathlib.Core.Path.{refl}
 use borrow.Author.Needs.{needs}
-use Rattle.session.proofs.add_told.Statement.{statement}
-use Rattle.session.proofs.add_told.Tie as tie
+use Rattle.checking.proofs.add_told.Statement.{statement}
+use Rattle.checking.proofs.add_told.Tie as tie
 
 enum-told : tie.Need-enum-told
 enum-told c = search needs
@@ -37,13 +38,13 @@ returns-4 : tie.Need-returns-4
 returns-4 c = cc
 
 returns-5 : tie.Need-returns-5
-returns-5 c = cc
+returns-5 c = rw (c .before .answer .given .1) refl
 
 returns-6 : tie.Need-returns-6
 returns-6 c = cc
 
 returns-7 : tie.Need-returns-7
-returns-7 c = cc
+returns-7 c = rw (c .before .answer2 .given .1) refl
 
 pub add-told-spec : {M : Type 1} → statement M
 add-told-spec =

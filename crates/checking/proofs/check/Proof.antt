@@ -1,9 +1,9 @@
 -- `check` gives the first condition for adding that holds, in the order of the table.
 use mathlib.Core.Path.{refl}
-use Rattle.session.specs.Value.{firstOf, checkOf}
+use Rattle.checking.specs.Lines.{firstOf, checkOf}
 use borrow.Author.Needs.{needs}
-use Rattle.session.proofs.check.Statement.{statement}
-use Rattle.session.proofs.check.Tie as tie
+use Rattle.checking.proofs.check.Statement.{statement}
+use Rattle.checking.proofs.check.Tie as tie
 
 returns : tie.Need-returns
 unfolding checkOf firstOf

@@ -2,11 +2,11 @@
 use mathlib.Core.Path.{ap, _∙_}
 use Rattle.board.specs.View.{boardOf}
 use Rattle.places.specs.Places.{netsOf}
-use Rattle.session.specs.Answers.{isAccepted}
-use Rattle.session.specs.Check.{check-accepts}
+use Rattle.checking.specs.Answers.{isAccepted}
+use Rattle.checking.specs.Check.{check-accepts}
 use borrow.Author.Needs.{needs}
-use Rattle.session.proofs.is_free.Statement.{statement}
-use Rattle.session.proofs.is_free.Tie as tie
+use Rattle.checking.proofs.is_free.Statement.{statement}
+use Rattle.checking.proofs.is_free.Tie as tie
 
 check-requires : tie.Need-check-requires
 check-requires c κs = search needs

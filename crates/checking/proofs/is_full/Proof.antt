@@ -1,8 +1,8 @@
 -- `is_full` tells whether the pins of a vertex are all taken.
 use Rattle.places.specs.Nets.{pairs-of}
 use borrow.Author.Needs.{needs}
-use Rattle.session.proofs.is_full.Statement.{statement}
-use Rattle.session.proofs.is_full.Tie as tie
+use Rattle.checking.proofs.is_full.Statement.{statement}
+use Rattle.checking.proofs.is_full.Tie as tie
 
 pins-of-requires : tie.Need-pins-of-requires
 pins-of-requires c κs = search needs
