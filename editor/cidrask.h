@@ -13,12 +13,15 @@
  *   10  the count of the board's bytes, or of the list's, is not a multiple of 4      place 0
  *   11  a board's list has no words or more than 96                                   place 0
  *   12  a board word of another kind, or with an unnamed bit set                      place its index
- *   13  a board word out of order, or no end word (then the list's length)            place its index
+ *   13  a board word out of order (a net's number not above the last one's too), or no
+ *       end word (then the list's length)                                             place its index
  *   14  a row whose left is not below its right, or a 32nd row                        place its index
  *   15  the end word's counts differ                                                  place its index
  *   16  the board is not convex                                                       place 0
- *   21 to 25  a net word that cannot be added: its number is not 1 to 64 or not above the last one's (21), is taken (22), a terminal is no
- *       vertex (23), both terminals are one vertex (24), a terminal's pins are all taken (25)   place the word's index
+ *   21  a net's number is not 1 to 64                                                 place its word's index
+ *   23  a net's terminal is no vertex                                                 place its word's index
+ *   24  both terminals of a net are one vertex                                        place its word's index
+ *   25  a terminal's pins are all taken                                               place its word's index
  *   31  the buffer has room for fewer than 2,049 words                                place 0
  *   32  a vertex is odd                                                               place its line, its column
  *   33  a row or column is crossed by more nets than it has edges                     place 0 row or 1 column, its index

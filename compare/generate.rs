@@ -1,0 +1,479 @@
+//! Seeded inputs: boards true and damaged, and lists of routing words true and damaged.
+
+use crate::independent::*;
+
+/// splitmix64.
+pub struct Random(u64);
+
+impl Random {
+    /// Each case has its own stream, so that it can be repeated alone.
+    pub fn of_case(seed: u64, part: char, case: u64) -> Random {
+        let mut random = Random(seed);
+        let mixed = random.next() ^ (part as u64) << 56 ^ case;
+        random.0 = mixed;
+        random.0 = random.next();
+        random
+    }
+
+    pub fn next(&mut self) -> u64 {
+        self.0 = self.0.wrapping_add(0x9E3779B97F4A7C15);
+        let mut z = self.0;
+        z = (z ^ (z >> 30)).wrapping_mul(0xBF58476D1CE4E5B9);
+        z = (z ^ (z >> 27)).wrapping_mul(0x94D049BB133111EB);
+        z ^ (z >> 31)
+    }
+
+    /// A number below n; 0 where n is 0.
+    pub fn below(&mut self, n: usize) -> usize {
+        if n == 0 {
+            return 0;
+        }
+        (self.next() % n as u64) as usize
+    }
+
+    pub fn one_in(&mut self, n: usize) -> bool {
+        self.below(n) == 0
+    }
+
+    pub fn pick<T: Copy>(&mut self, from: &[T]) -> T {
+        from[self.below(from.len())]
+    }
+
+    pub fn shuffle<T>(&mut self, list: &mut [T]) {
+        for i in (1..list.len()).rev() {
+            let j = self.below(i + 1);
+            list.swap(i, j);
+        }
+    }
+}
+
+// ---------------------------------------------------------------- boards
+
+/// Convex rows: a chain of spans, each within the last, laid on top or below.
+pub fn convex_rows(random: &mut Random, most_rows: usize, most_width: usize) -> Vec<(usize, usize)> {
+    let width = 1 + random.below(most_width);
+    let left = random.below(32 - width);
+    let count = 1 + random.below(most_rows);
+    let (mut span, mut rows) = ((left, left + width), std::collections::VecDeque::new());
+    let steep = random.pick(&[2, 4, 1000]);
+    for _ in 0..count {
+        if random.one_in(2) {
+            rows.push_front(span);
+        } else {
+            rows.push_back(span);
+        }
+        if random.one_in(steep) && span.1 - span.0 > 1 {
+            if random.one_in(2) {
+                span.0 += 1;
+            } else {
+                span.1 -= 1;
+            }
+        }
+    }
+    rows.into()
+}
+
+/// The size of a case's board: mostly small, at times as large as can be.
+pub fn size(random: &mut Random) -> (usize, usize) {
+    match random.below(40) {
+        0 => (31, 31),
+        1..=4 => (12, 12),
+        5..=16 => (7, 7),
+        _ => (4, 4),
+    }
+}
+
+/// Pairs of terminals as nets with rising numbers and ends either way round.
+pub fn numbered(random: &mut Random, mut pairs: Vec<(Vertex, Vertex)>) -> Vec<Net> {
+    random.shuffle(&mut pairs);
+    let mut numbers: Vec<u32> = (1..=64).collect();
+    if random.one_in(2) {
+        random.shuffle(&mut numbers);
+    }
+    numbers.truncate(pairs.len());
+    numbers.sort();
+    let turned = |random: &mut Random, (u, v)| if random.one_in(2) { (u, v) } else { (v, u) };
+    let ends: Vec<_> = pairs.into_iter().map(|p| turned(random, p)).collect();
+    numbers.iter().zip(ends).map(|(&number, (first, second))| Net { number, first, second }).collect()
+}
+
+/// Nets that leave no vertex odd. Where `mend`, nets that cross an overfull cut exchange ends, which leaves full cuts but seldom overfull ones.
+pub fn even_nets(random: &mut Random, rows: &[(usize, usize)], mend: bool) -> Vec<Net> {
+    let bare = Board::bare(rows);
+    let mut pins: Vec<Vertex> = Vec::new();
+    let corners = random.pick(&[1, 2, 4, 1000]);
+    for v in bare.vertices() {
+        match bare.pins(v) {
+            1 => pins.push(v),
+            2 if random.one_in(corners) => pins.extend([v, v]),
+            _ => {}
+        }
+    }
+    random.shuffle(&mut pins);
+    if random.one_in(4) {
+        // Near ones together.
+        pins.sort_by_key(|v| v.0 / 3 * 32 + v.1);
+    }
+    let mut pairs: Vec<(Vertex, Vertex)> = pins.chunks(2).map(|p| (p[0], p[1])).collect();
+    part_same_ends(random, &mut pairs);
+    pairs.retain(|p| p.0 != p.1);
+    if mend {
+        mend_cuts(random, &bare, &mut pairs);
+    }
+    numbered(random, pairs)
+}
+
+fn part_same_ends(random: &mut Random, pairs: &mut [(Vertex, Vertex)]) {
+    for _ in 0..20 {
+        for i in 0..pairs.len() {
+            if pairs[i].0 == pairs[i].1 {
+                let j = random.below(pairs.len());
+                if i != j {
+                    let other = pairs[j].1;
+                    pairs[j].1 = pairs[i].1;
+                    pairs[i].1 = other;
+                }
+            }
+        }
+    }
+}
+
+fn mend_cuts(random: &mut Random, bare: &Board, pairs: &mut [(Vertex, Vertex)]) {
+    let mut board = bare.clone();
+    for _ in 0..60 {
+        board.nets = pairs.iter().map(|&(first, second)| Net { number: 1, first, second }).collect();
+        let Some(cut) = board.first_overfull() else { return };
+        let mut crossing: Vec<usize> = (0..pairs.len()).filter(|&i| Board::crosses(&board.nets[i], cut)).collect();
+        random.shuffle(&mut crossing);
+        let low = |v: Vertex| match cut {
+            Cut::Row(i) => v.0 <= i,
+            Cut::Column(j) => v.1 <= j,
+        };
+        let sided = |p: (Vertex, Vertex)| if low(p.0) { p } else { (p.1, p.0) };
+        for two in crossing.chunks_exact(2).take(1 + random.below(3)) {
+            let ((a, b), (c, d)) = (sided(pairs[two[0]]), sided(pairs[two[1]]));
+            if a != c && b != d {
+                pairs[two[0]] = (a, c);
+                pairs[two[1]] = (b, d);
+            }
+        }
+    }
+}
+
+/// Nets on any pins, vertices odd or not.
+pub fn any_nets(random: &mut Random, rows: &[(usize, usize)]) -> Vec<Net> {
+    let bare = Board::bare(rows);
+    let mut pins: Vec<Vertex> = bare.vertices().into_iter().flat_map(|v| vec![v; bare.pins(v)]).collect();
+    random.shuffle(&mut pins);
+    let count = random.below(pins.len() / 2 + 1).min(64);
+    let pairs: Vec<_> = pins.chunks_exact(2).map(|p| (p[0], p[1])).filter(|p| p.0 != p.1).take(count).collect();
+    numbered(random, pairs)
+}
+
+/// A board that is accepted, of the given size at most.
+pub fn true_board(random: &mut Random, (most_rows, most_width): (usize, usize)) -> Board {
+    let rows = convex_rows(random, most_rows, most_width);
+    let nets = match random.below(8) {
+        0..=1 => any_nets(random, &rows),
+        2..=3 => even_nets(random, &rows, false),
+        _ => even_nets(random, &rows, true),
+    };
+    Board { rows, nets }
+}
+
+// ---------------------------------------------------------------- board bytes, true and damaged
+
+pub const BOARD_KINDS: [&str; 22] = [
+    "true board", "true board", "true board", "true board", "true board", "no bytes", "random bytes", "random words", "words of the kinds",
+    "bits flipped", "a word changed", "a word dropped", "a word doubled", "two words swapped", "words after the end", "cut short",
+    "a byte more or less", "counts off", "a number at the bounds", "a terminal elsewhere", "rows at the bounds", "rows not convex",
+];
+
+/// A board's bytes of that kind (an index into BOARD_KINDS).
+pub fn board_bytes(random: &mut Random, kind: usize) -> Vec<u8> {
+    let name = BOARD_KINDS[kind];
+    match name {
+        "no bytes" => return Vec::new(),
+        "random bytes" => return (0..random.below(500)).map(|_| random.next() as u8).collect(),
+        "random words" => return bytes_of(&(0..random.below(110)).map(|_| random.next() as u32).collect::<Vec<_>>()),
+        "words of the kinds" => {
+            let count = 1 + random.below(8);
+            return bytes_of(&(0..count).map(|_| any_board_word(random)).collect::<Vec<_>>());
+        }
+        "rows at the bounds" => return bounds(random),
+        "rows not convex" => return not_convex(random),
+        _ => {}
+    }
+    let size = size(random);
+    let board = true_board(random, size);
+    let mut words = board.words();
+    if name == "a byte more or less" {
+        let mut bytes = bytes_of(&words);
+        let change = 1 + random.below(3);
+        if random.one_in(2) {
+            bytes.truncate(bytes.len() - change);
+        } else {
+            bytes.extend(vec![0; change]);
+        }
+        return bytes;
+    }
+    damage_board(random, name, &board, &mut words);
+    bytes_of(&words)
+}
+
+fn damage_board(random: &mut Random, name: &str, board: &Board, words: &mut Vec<u32>) {
+    let at = random.below(words.len());
+    let end = words.len() - 1;
+    match name {
+        "bits flipped" => (0..1 + random.below(2)).for_each(|_| words[at] ^= 1 << random.below(32)),
+        "a word changed" => words[at] = any_board_word(random),
+        "a word dropped" => drop(words.remove(at)),
+        "a word doubled" => words.insert(at, words[at]),
+        "two words swapped" => words.swap(at, random.below(end + 1)),
+        "words after the end" => {
+            let count = if random.one_in(3) { 97 - words.len().min(96) } else { 1 + random.below(3) };
+            words.extend((0..count).map(|_| any_board_word(random)));
+        }
+        "cut short" => words.truncate(at),
+        "counts off" => words[end] = words[end].wrapping_add(random.pick(&[1, 0x100, !0, 0xFFFF_FF00, 0x101, 0xFF])),
+        "a number at the bounds" | "a terminal elsewhere" if !board.nets.is_empty() => {
+            let i = board.rows.len() + random.below(board.nets.len());
+            if name == "a terminal elsewhere" {
+                words[i] ^= 1 << random.below(20);
+            } else {
+                let i = random.pick(&[i, end - 1, board.rows.len()]);
+                words[i] = words[i] & 0xF00F_FFFF | random.pick(&[0, 1, 63, 64, 65, 66, 128, 255]) << 20;
+            }
+        }
+        _ => {}
+    }
+}
+
+/// A word of one of the board kinds, at times with a bit too many.
+fn any_board_word(random: &mut Random) -> u32 {
+    let small = |random: &mut Random| random.below(4) as u32;
+    let word = match random.below(5) {
+        0 | 1 => 1 << 28 | small(random) << 5 | small(random),
+        2 | 3 => {
+            let number = random.pick(&[0, 1, 2, 3, 10, 63, 64, 65, 255]);
+            2 << 28 | number << 20 | small(random) << 15 | small(random) << 10 | small(random) << 5 | small(random)
+        }
+        _ => 15 << 28 | small(random) << 8 | small(random),
+    };
+    if random.one_in(12) {
+        return word ^ 1 << random.below(32);
+    }
+    word
+}
+
+/// 30 to 33 rows; 95 to 98 words; as many nets as can be.
+fn bounds(random: &mut Random) -> Vec<u8> {
+    let count = random.pick(&[30, 31, 31, 32, 33]);
+    let width = random.pick(&[1, 2, 31, 31]);
+    let left = random.pick(&[0, 31 - width]);
+    let rows = vec![(left, left + width); count];
+    let mut board = Board::bare(&rows);
+    if count <= 31 && random.below(3) > 0 {
+        let mend = random.below(3) > 0;
+        board.nets = even_nets(random, &rows, mend);
+    }
+    let mut words = board.words();
+    let extra = random.pick(&[0, 0, 0, 1, 2]);
+    for _ in 0..extra {
+        let at = random.pick(&[0, words.len()]);
+        words.insert(at, words[if at == 0 { 0 } else { at - 1 }]);
+    }
+    if random.one_in(4) {
+        let length = random.pick(&[95, 96, 97, 98]);
+        let word = words[words.len() - 1];
+        words.resize(length, word);
+    }
+    bytes_of(&words)
+}
+
+/// Rows at random, seldom convex, at times with nets.
+fn not_convex(random: &mut Random) -> Vec<u8> {
+    let span = |random: &mut Random| {
+        let left = random.below(5);
+        (left, left + 1 + random.below(5))
+    };
+    let mut rows: Vec<_> = (0..1 + random.below(5)).map(|_| span(random)).collect();
+    if random.one_in(3) {
+        let (most_rows, most_width) = size(random);
+        rows = convex_rows(random, most_rows, most_width);
+        let at = random.below(rows.len());
+        let row = &mut rows[at];
+        if row.1 < 31 {
+            row.1 += 1;
+        }
+    }
+    let mut board = Board::bare(&rows);
+    board.nets = any_nets(random, &rows);
+    bytes_of(&board.words())
+}
+
+// ---------------------------------------------------------------- routings and lists of routing words
+
+/// Random trails, each from its net's first terminal to its second along free edges; they may pass a vertex twice. None where one gets stuck.
+pub fn trails(random: &mut Random, board: &Board) -> Option<Vec<Vec<usize>>> {
+    let mut used = std::collections::HashSet::new();
+    let mut paths = Vec::new();
+    for net in &board.nets {
+        let (mut at, mut path) = (net.first, Vec::new());
+        let stop_early = random.below(3) > 0;
+        loop {
+            if at == net.second && (stop_early || random.one_in(2)) {
+                break;
+            }
+            let free = |d: &usize| board.edge(at, *d) && !used.contains(&(at.min(step(at, *d)), d % 2));
+            let mut open: Vec<usize> = (0..4).filter(free).collect();
+            if open.is_empty() && at == net.second {
+                break;
+            }
+            if stop_early && random.below(4) > 0 {
+                let far = |v: Vertex| v.0.abs_diff(net.second.0) + v.1.abs_diff(net.second.1);
+                let nearer: Vec<usize> = open.iter().copied().filter(|&d| far(step(at, d)) < far(at)).collect();
+                if !nearer.is_empty() {
+                    open = nearer;
+                }
+            }
+            if open.is_empty() {
+                return None;
+            }
+            let direction = random.pick(&open);
+            used.insert((at.min(step(at, direction)), direction % 2));
+            at = step(at, direction);
+            path.push(direction);
+        }
+        paths.push(path);
+    }
+    Some(paths)
+}
+
+pub const LIST_KINDS: [&str; 19] = [
+    "no list", "random words as list", "list as it is", "list: bits flipped", "list: a word changed", "list: a word dropped",
+    "list: a word doubled", "list: two words swapped", "list: words after the end", "list: cut short", "list: a byte more or less",
+    "list: a run lengthened or shortened", "list: a run turned", "list: paths exchanged", "list: a path taken twice",
+    "list: there and back", "list: a last run dropped", "list: too long or as long as can be", "list: for another board",
+];
+
+/// A list's bytes of that kind, made from true routing words.
+pub fn list_bytes(random: &mut Random, kind: usize, words: &[u32], other: &[u32]) -> Vec<u8> {
+    let name = LIST_KINDS[kind];
+    let mut words = words.to_vec();
+    match name {
+        "no list" => words.clear(),
+        "random words as list" => words = (0..random.below(12)).map(|_| any_list_word(random)).collect(),
+        "list: for another board" => words = other.to_vec(),
+        "list: a byte more or less" => {
+            let mut bytes = bytes_of(&words);
+            let length = bytes.len() + random.pick(&[1, 2, 3, 5]);
+            bytes.resize(length - random.pick(&[0, 4]), 0);
+            return bytes;
+        }
+        "list: too long or as long as can be" => lengthen(random, &mut words),
+        _ => damage_list(random, name, &mut words),
+    }
+    bytes_of(&words)
+}
+
+fn damage_list(random: &mut Random, name: &str, words: &mut Vec<u32>) {
+    let at = random.below(words.len());
+    let last = words.len() - 1;
+    let of_kind = |words: &[u32], kind: u32| (0..words.len()).filter(|&i| words[i] >> 28 == kind).collect::<Vec<_>>();
+    let (paths, runs) = (of_kind(words, 4), of_kind(words, 5));
+    match name {
+        "list: bits flipped" => (0..1 + random.below(2)).for_each(|_| words[at] ^= 1 << random.below(32)),
+        "list: a word changed" => words[at] = any_list_word(random),
+        "list: a word dropped" => drop(words.remove(at)),
+        "list: a word doubled" => words.insert(at, words[at]),
+        "list: two words swapped" => words.swap(at, random.below(last + 1)),
+        "list: words after the end" => (0..1 + random.below(3)).for_each(|_| words.push(any_list_word(random))),
+        "list: cut short" => words.truncate(at),
+        _ if runs.is_empty() => {}
+        "list: a run lengthened or shortened" => {
+            let i = random.pick(&runs);
+            words[i] = words[i] & !31 | words[i].wrapping_add(random.pick(&[1, !0, 2, 5])) & 31;
+        }
+        "list: a run turned" => {
+            let i = random.pick(&runs);
+            words[i] = words[i] & !(3 << 26) | (random.below(4) as u32) << 26;
+        }
+        "list: a last run dropped" => {
+            let path = random.pick(&paths);
+            let count = (words[path] & 0x7FF) as usize;
+            if count > 0 {
+                words[path] -= 1;
+                words.remove(path + count);
+            }
+        }
+        "list: there and back" => {
+            // A run of one, back over it, and again; the path's later runs follow.
+            let path = random.pick(&paths);
+            if words[path] & 0x7FF > 0 {
+                let first = words[path + 1];
+                let back = first ^ 2 << 26;
+                words[path] += 2;
+                words.splice(path + 1..path + 1, [first, back]);
+            }
+        }
+        _ => exchange(random, name, words, &paths),
+    }
+}
+
+/// Runs of one path put in the place of another's, or both ways round.
+fn exchange(random: &mut Random, name: &str, words: &mut Vec<u32>, paths: &[usize]) {
+    let mut lists: Vec<(u32, Vec<u32>)> = Vec::new();
+    for &p in paths {
+        lists.push((words[p] & !0x7FF, words[p + 1..p + 1 + (words[p] & 0x7FF) as usize].to_vec()));
+    }
+    let (i, j) = (random.below(lists.len()), random.below(lists.len()));
+    if name == "list: paths exchanged" {
+        let (a, b) = (lists[i].1.clone(), lists[j].1.clone());
+        lists[i].1 = b;
+        lists[j].1 = a;
+    } else {
+        lists[j].1 = lists[i].1.clone();
+    }
+    let end = words[words.len() - 1];
+    words.clear();
+    for (path, runs) in lists {
+        words.push(path | runs.len() as u32);
+        words.extend(runs);
+    }
+    words.push(end);
+}
+
+/// A path of very many runs, so that the list has about 2,049 words, or more.
+fn lengthen(random: &mut Random, words: &mut Vec<u32>) {
+    let length = random.pick(&[2047, 2048, 2049, 2049, 2050, 2051]);
+    if words[0] >> 28 != 4 || random.one_in(3) {
+        return words.resize(length, 0);
+    }
+    let had = (words[0] & 0x7FF) as usize;
+    let more = length - words.len();
+    if had + more > 0x7FF {
+        return words.resize(length, 0);
+    }
+    let mut direction = if had > 0 { words[had] >> 26 & 3 } else { 0 };
+    let mut runs = Vec::new();
+    for _ in 0..more {
+        direction = (direction + 1 + random.below(3) as u32) & 3;
+        runs.push(5 << 28 | direction << 26 | 1);
+    }
+    words[0] += more as u32;
+    words.splice(had + 1..had + 1, runs);
+}
+
+fn any_list_word(random: &mut Random) -> u32 {
+    let word = match random.below(6) {
+        0 | 1 => 4 << 28 | (random.below(5) as u32) << 20 | random.below(3) as u32,
+        2 | 3 => 5 << 28 | (random.below(4) as u32) << 26 | random.below(4) as u32,
+        4 => 14 << 28 | random.below(4) as u32,
+        _ => random.next() as u32,
+    };
+    if random.one_in(10) {
+        return word ^ 1 << random.below(32);
+    }
+    word
+}

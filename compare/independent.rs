@@ -1,0 +1,484 @@
+//! The requirements read anew, from their words alone: boards and their words, convexity, pins, cuts, odd vertices,
+//! and the judge of routing words. Nothing here is taken from the proved library; it is what the library is held against.
+
+#![allow(dead_code)]
+
+/// A refusal's number and place; the second place number is 0 where the place is one number.
+#[derive(Clone, Copy, Debug, PartialEq, Eq)]
+pub struct Refusal {
+    pub number: u32,
+    pub place: [u32; 2],
+}
+
+fn refuse<T>(number: u32, place: usize) -> Result<T, Refusal> {
+    Err(Refusal { number, place: [place as u32, 0] })
+}
+
+/// (line, column).
+pub type Vertex = (usize, usize);
+
+pub const UP: usize = 0;
+pub const RIGHT: usize = 1;
+pub const DOWN: usize = 2;
+pub const LEFT: usize = 3;
+
+/// The vertex one step away; the caller sees to it that the edge is there.
+pub fn step(v: Vertex, direction: usize) -> Vertex {
+    match direction {
+        UP => (v.0 - 1, v.1),
+        RIGHT => (v.0, v.1 + 1),
+        DOWN => (v.0 + 1, v.1),
+        _ => (v.0, v.1 - 1),
+    }
+}
+
+#[derive(Clone, Debug, PartialEq, Eq)]
+pub struct Net {
+    pub number: u32,
+    pub first: Vertex,
+    pub second: Vertex,
+}
+
+#[derive(Clone, Debug, PartialEq, Eq)]
+pub struct Board {
+    /// Left and right of each row, from the top.
+    pub rows: Vec<(usize, usize)>,
+    /// In rising number.
+    pub nets: Vec<Net>,
+}
+
+// ---------------------------------------------------------------- the board
+
+impl Board {
+    pub fn bare(rows: &[(usize, usize)]) -> Board {
+        Board { rows: rows.to_vec(), nets: Vec::new() }
+    }
+
+    pub fn lines(&self) -> usize {
+        self.rows.len() + 1
+    }
+
+    /// Whether the unit cell of that row between `column` and `column + 1` is on the board.
+    fn cell(&self, row: isize, column: isize) -> bool {
+        row >= 0 && (row as usize) < self.rows.len() && {
+            let (left, right) = self.rows[row as usize];
+            left as isize <= column && column < right as isize
+        }
+    }
+
+    /// Vertices are the corners of cells.
+    pub fn vertex(&self, v: Vertex) -> bool {
+        let (l, c) = (v.0 as isize, v.1 as isize);
+        self.cell(l - 1, c - 1) || self.cell(l - 1, c) || self.cell(l, c - 1) || self.cell(l, c)
+    }
+
+    /// Edges are the sides of cells: the one that leaves `v` in that direction.
+    pub fn edge(&self, v: Vertex, direction: usize) -> bool {
+        let (l, c) = (v.0 as isize, v.1 as isize);
+        match direction {
+            UP => self.cell(l - 1, c - 1) || self.cell(l - 1, c),
+            RIGHT => self.cell(l - 1, c) || self.cell(l, c),
+            DOWN => self.cell(l, c - 1) || self.cell(l, c),
+            _ => self.cell(l - 1, c - 1) || self.cell(l, c - 1),
+        }
+    }
+
+    pub fn vertices(&self) -> Vec<Vertex> {
+        let all = (0..self.lines()).flat_map(|l| (0..32).map(move |c| (l, c)));
+        all.filter(|&v| self.vertex(v)).collect()
+    }
+
+    pub fn degree(&self, v: Vertex) -> usize {
+        (0..4).filter(|&d| self.edge(v, d)).count()
+    }
+
+    pub fn pins(&self, v: Vertex) -> usize {
+        4 - self.degree(v)
+    }
+
+    pub fn terminals(&self, v: Vertex) -> usize {
+        self.nets.iter().map(|n| (n.first == v) as usize + (n.second == v) as usize).sum()
+    }
+}
+
+// ---------------------------------------------------------------- convexity
+
+impl Board {
+    /// Any two vertices are joined by a path with at most one bend. From (l, c) to (m, d) such a path goes along line l to column d
+    /// and then along that column, or along column c to line m and then along that line. Sets of columns are bits of a word.
+    pub fn convex(&self) -> bool {
+        let lines = self.lines();
+        let set = |test: &dyn Fn(usize) -> bool| (0..32).filter(|&c| test(c)).fold(0u32, |s, c| s | 1 << c);
+        let on: Vec<u32> = (0..lines).map(|l| set(&|c| self.vertex((l, c)))).collect();
+        let down: Vec<u32> = (0..lines).map(|l| set(&|c| self.edge((l, c), DOWN))).collect();
+        let along: Vec<[u32; 32]> = (0..lines).map(|l| self.along(l)).collect();
+        for l in 0..lines {
+            // The columns along which one comes from line l to line m.
+            let mut straight = on[l];
+            for m in l..lines {
+                if m > l {
+                    straight &= down[m - 1];
+                }
+                for c in (0..32).filter(|c| on[l] >> c & 1 == 1) {
+                    let line_first = along[l][c] & straight;
+                    let column_first = if straight >> c & 1 == 1 { along[m][c] } else { 0 };
+                    if on[m] & !(line_first | column_first) != 0 {
+                        return false;
+                    }
+                }
+            }
+        }
+        true
+    }
+
+    /// For each column c: the columns reached from (line, c) along that line's edges.
+    fn along(&self, line: usize) -> [u32; 32] {
+        let mut reached = [0u32; 32];
+        let mut start = 0;
+        for c in 0..32 {
+            if c == 31 || !self.edge((line, c), RIGHT) {
+                let stretch = (start..=c).fold(0u32, |s, d| s | 1 << d);
+                (start..=c).for_each(|d| reached[d] = stretch);
+                start = c + 1;
+            }
+        }
+        reached
+    }
+
+    /// The same by the bare definition, for the self test: every two vertices, both ways round, edge by edge.
+    pub fn convex_by_definition(&self) -> bool {
+        let all = self.vertices();
+        all.iter().all(|&u| all.iter().all(|&v| self.one_bend(u, v) || self.one_bend(v, u)))
+    }
+
+    fn one_bend(&self, u: Vertex, v: Vertex) -> bool {
+        self.straight(u, (u.0, v.1)) && self.straight((u.0, v.1), v)
+    }
+
+    fn straight(&self, u: Vertex, v: Vertex) -> bool {
+        let (top, bottom) = (u.0.min(v.0), u.0.max(v.0));
+        let (left, right) = (u.1.min(v.1), u.1.max(v.1));
+        (top..bottom).all(|l| self.edge((l, u.1), DOWN)) && (left..right).all(|c| self.edge((u.0, c), RIGHT))
+    }
+
+    /// Lemma 1 in the requirements' words, for the self test.
+    pub fn convex_by_lemma(&self) -> bool {
+        let r = &self.rows;
+        let within = |a: (usize, usize), b: (usize, usize)| b.0 <= a.0 && a.1 <= b.1;
+        let nested = (0..r.len()).all(|i| (0..r.len()).all(|j| within(r[i], r[j]) || within(r[j], r[i])));
+        let width = |i: usize| r[i].1 - r[i].0;
+        let dips = (0..r.len()).any(|j| (0..j).any(|i| width(i) > width(j)) && (j + 1..r.len()).any(|k| width(k) > width(j)));
+        nested && !dips
+    }
+}
+
+// ---------------------------------------------------------------- cuts and odd vertices
+
+#[derive(Clone, Copy, Debug, PartialEq, Eq)]
+pub enum Cut {
+    Row(usize),
+    Column(usize),
+}
+
+impl Board {
+    /// Rows from the top, then columns from the left.
+    pub fn cuts(&self) -> Vec<Cut> {
+        (0..self.rows.len()).map(Cut::Row).chain((0..31).map(Cut::Column)).collect()
+    }
+
+    pub fn cut_edges(&self, cut: Cut) -> i32 {
+        match cut {
+            Cut::Row(i) => (0..32).filter(|&c| self.edge((i, c), DOWN)).count() as i32,
+            Cut::Column(j) => (0..self.lines()).filter(|&l| self.edge((l, j), RIGHT)).count() as i32,
+        }
+    }
+
+    pub fn crosses(net: &Net, cut: Cut) -> bool {
+        match cut {
+            Cut::Row(i) => (net.first.0 <= i) != (net.second.0 <= i),
+            Cut::Column(j) => (net.first.1 <= j) != (net.second.1 <= j),
+        }
+    }
+
+    pub fn margin(&self, cut: Cut) -> i32 {
+        self.cut_edges(cut) - self.nets.iter().filter(|n| Board::crosses(n, cut)).count() as i32
+    }
+
+    pub fn first_overfull(&self) -> Option<Cut> {
+        self.cuts().into_iter().find(|&cut| self.margin(cut) < 0)
+    }
+
+    pub fn first_odd(&self) -> Option<Vertex> {
+        let mut ends = [[0usize; 32]; 32];
+        for n in &self.nets {
+            ends[n.first.0][n.first.1] += 1;
+            ends[n.second.0][n.second.1] += 1;
+        }
+        self.vertices().into_iter().find(|&v| (self.degree(v) + ends[v.0][v.1]) % 2 == 1)
+    }
+}
+
+// ---------------------------------------------------------------- board words
+
+/// Bits `high` down to `low` of a word.
+fn bits(word: u32, high: u32, low: u32) -> usize {
+    ((word >> low) & ((1u64 << (high - low + 1)) - 1) as u32) as usize
+}
+
+pub fn words_of(bytes: &[u8]) -> Result<Vec<u32>, Refusal> {
+    if bytes.len() % 4 != 0 {
+        return refuse(10, 0);
+    }
+    Ok(bytes.chunks(4).map(|b| u32::from_le_bytes([b[0], b[1], b[2], b[3]])).collect())
+}
+
+pub fn bytes_of(words: &[u32]) -> Vec<u8> {
+    words.iter().flat_map(|w| w.to_le_bytes()).collect()
+}
+
+pub fn read(bytes: &[u8]) -> Result<Board, Refusal> {
+    let words = words_of(bytes)?;
+    if words.is_empty() || words.len() > 96 {
+        return refuse(11, 0);
+    }
+    let (rows, nets) = scan(&words)?;
+    let mut board = Board { rows, nets: Vec::new() };
+    if !board.convex() {
+        return refuse(16, 0);
+    }
+    for (index, net) in nets {
+        if let Some(number) = board.add_refused(&net) {
+            return refuse(number, index);
+        }
+        board.nets.push(net);
+    }
+    Ok(board)
+}
+
+type Rows = Vec<(usize, usize)>;
+
+/// The words one by one, each through 12 to 15. Nets come with the index of their word.
+fn scan(words: &[u32]) -> Result<(Rows, Vec<(usize, Net)>), Refusal> {
+    let mut rows: Rows = Vec::new();
+    let mut nets: Vec<(usize, Net)> = Vec::new();
+    let mut ended = false;
+    for (index, &word) in words.iter().enumerate() {
+        let kind = bits(word, 31, 28);
+        let unnamed = match kind {
+            1 => bits(word, 27, 10),
+            2 => 0,
+            15 => bits(word, 27, 16),
+            _ => return refuse(12, index),
+        };
+        if unnamed != 0 {
+            return refuse(12, index);
+        }
+        let number = bits(word, 27, 20) as u32;
+        let not_above = nets.last().map_or(false, |(_, last)| number <= last.number);
+        if (index == 0 && kind != 1) || (kind == 1 && !nets.is_empty()) || (kind == 2 && not_above) || ended {
+            return refuse(13, index);
+        }
+        match kind {
+            1 => {
+                let (left, right) = (bits(word, 9, 5), bits(word, 4, 0));
+                if left >= right || rows.len() == 31 {
+                    return refuse(14, index);
+                }
+                rows.push((left, right));
+            }
+            2 => {
+                let first = (bits(word, 19, 15), bits(word, 14, 10));
+                let second = (bits(word, 9, 5), bits(word, 4, 0));
+                nets.push((index, Net { number, first, second }));
+            }
+            _ => {
+                if bits(word, 15, 8) != rows.len() || bits(word, 7, 0) != nets.len() {
+                    return refuse(15, index);
+                }
+                ended = true;
+            }
+        }
+    }
+    if !ended {
+        return refuse(13, words.len());
+    }
+    Ok((rows, nets))
+}
+
+impl Board {
+    /// The number of the refusal that an add of this net gets, if any.
+    pub fn add_refused(&self, net: &Net) -> Option<u32> {
+        if net.number < 1 || net.number > 64 {
+            return Some(21);
+        }
+        if self.nets.iter().any(|n| n.number == net.number) {
+            return Some(22);
+        }
+        if !self.vertex(net.first) || !self.vertex(net.second) {
+            return Some(23);
+        }
+        if net.first == net.second {
+            return Some(24);
+        }
+        let full = |v: Vertex| self.terminals(v) >= self.pins(v);
+        if full(net.first) || full(net.second) {
+            return Some(25);
+        }
+        None
+    }
+
+    pub fn words(&self) -> Vec<u32> {
+        let row = |r: &(usize, usize)| 1 << 28 | (r.0 << 5) as u32 | r.1 as u32;
+        let end = 15 << 28 | (self.rows.len() << 8) as u32 | self.nets.len() as u32;
+        self.rows.iter().map(row).chain(self.nets.iter().map(net_word)).chain([end]).collect()
+    }
+}
+
+pub fn net_word(n: &Net) -> u32 {
+    let ends = n.first.0 << 15 | n.first.1 << 10 | n.second.0 << 5 | n.second.1;
+    2 << 28 | n.number << 20 | ends as u32
+}
+
+// ---------------------------------------------------------------- routing
+
+/// What stands before a routing: room, odd vertices, overfull cuts. None: a routing is owed.
+pub fn route_refused(board: &Board, buffer_length: usize) -> Option<Refusal> {
+    if buffer_length / 4 < 2049 {
+        return Some(Refusal { number: 31, place: [0, 0] });
+    }
+    if let Some((line, column)) = board.first_odd() {
+        return Some(Refusal { number: 32, place: [line as u32, column as u32] });
+    }
+    let place = match board.first_overfull()? {
+        Cut::Row(i) => [0, i as u32],
+        Cut::Column(j) => [1, j as u32],
+    };
+    Some(Refusal { number: 33, place })
+}
+
+/// The routing words of paths given by their steps, one path for each net in order.
+pub fn routing_words(board: &Board, paths: &[Vec<usize>]) -> Vec<u32> {
+    let mut words = Vec::new();
+    for (net, path) in board.nets.iter().zip(paths) {
+        let mut runs: Vec<(usize, u32)> = Vec::new();
+        for &direction in path {
+            match runs.last_mut() {
+                Some((same, length)) if *same == direction => *length += 1,
+                _ => runs.push((direction, 1)),
+            }
+        }
+        words.push(4 << 28 | net.number << 20 | runs.len() as u32);
+        words.extend(runs.iter().map(|&(direction, length)| 5 << 28 | (direction as u32) << 26 | length));
+    }
+    words.push(14 << 28 | paths.len() as u32);
+    words
+}
+
+// ---------------------------------------------------------------- judging
+
+#[derive(Clone, Copy, Debug, PartialEq, Eq)]
+pub struct Report {
+    pub edges: u32,
+    pub turns: u32,
+    pub knock_knees: u32,
+}
+
+/// Indices of a path word and of the word after its last run.
+struct Part {
+    path: usize,
+    end: usize,
+}
+
+pub fn judge(board: &Board, bytes: &[u8]) -> Result<Report, Refusal> {
+    let words = words_of(bytes)?;
+    if words.is_empty() || words.len() > 2049 {
+        return refuse(41, 0);
+    }
+    let parts = shape(board, &words)?;
+    walk(board, &words, &parts)
+}
+
+/// The words one by one, 42 before 43.
+fn shape(board: &Board, words: &[u32]) -> Result<Vec<Part>, Refusal> {
+    let mut parts: Vec<Part> = Vec::new();
+    let mut runs_end = 0;
+    let mut ended = false;
+    for (index, &word) in words.iter().enumerate() {
+        let kind = bits(word, 31, 28);
+        if ended {
+            return refuse(43, index);
+        }
+        if index < runs_end {
+            // A run is due.
+            let first_of_path = index == parts[parts.len() - 1].path + 1;
+            let repeated = !first_of_path && bits(words[index - 1], 27, 26) == bits(word, 27, 26);
+            if kind != 5 || bits(word, 25, 5) != 0 || bits(word, 4, 0) == 0 || repeated {
+                return refuse(42, index);
+            }
+        } else if kind == 4 && bits(word, 19, 11) == 0 {
+            let next = board.nets.get(parts.len());
+            if next.map_or(true, |net| net.number as usize != bits(word, 27, 20)) {
+                return refuse(43, index);
+            }
+            runs_end = index + 1 + bits(word, 10, 0);
+            parts.push(Part { path: index, end: runs_end });
+        } else if kind == 14 && bits(word, 27, 8) == 0 {
+            if parts.len() != board.nets.len() || bits(word, 7, 0) != parts.len() {
+                return refuse(43, index);
+            }
+            ended = true;
+        } else {
+            return refuse(42, index);
+        }
+    }
+    if !ended {
+        return refuse(43, words.len());
+    }
+    Ok(parts)
+}
+
+/// The paths walked, in order.
+fn walk(board: &Board, words: &[u32], parts: &[Part]) -> Result<Report, Refusal> {
+    let mut used = [[[false; 2]; 32]; 32];
+    let mut turning: Vec<(Vertex, u32)> = Vec::new();
+    let mut report = Report { edges: 0, turns: 0, knock_knees: 0 };
+    for (net, part) in board.nets.iter().zip(parts) {
+        let mut at = net.first;
+        for index in part.path + 1..part.end {
+            let (direction, length) = (bits(words[index], 27, 26), bits(words[index], 4, 0));
+            if index > part.path + 1 {
+                report.turns += 1;
+                turning.push((at, net.number));
+            }
+            for _ in 0..length {
+                if !board.edge(at, direction) {
+                    return refuse(44, index);
+                }
+                let to = step(at, direction);
+                // An edge is known by its upper or left end.
+                let end = at.min(to);
+                let mark = &mut used[end.0][end.1][direction % 2];
+                if *mark {
+                    return refuse(45, index);
+                }
+                *mark = true;
+                report.edges += 1;
+                at = to;
+            }
+        }
+        if at != net.second {
+            return refuse(46, part.path);
+        }
+    }
+    report.knock_knees = knock_knees(turning);
+    Ok(report)
+}
+
+/// The count of vertices where two different nets each turn.
+fn knock_knees(mut turning: Vec<(Vertex, u32)>) -> u32 {
+    turning.sort();
+    turning.dedup();
+    let mut vertices: Vec<Vertex> = turning.windows(2).filter(|w| w[0].0 == w[1].0).map(|w| w[0].0).collect();
+    vertices.dedup();
+    vertices.len() as u32
+}

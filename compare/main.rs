@@ -1,0 +1,440 @@
+//! Holds the proved library, over its C interface, against the independent side.
+//!
+//!     main [SEED]              all parts
+//!     main SEED PART CASE      one case again (part a or b)
+//!
+//! Parts: a, boards true and damaged through routing; b, lists true and damaged through judging; c, small boards against the exhaustive router.
+//! The first difference ends the run with status 1 and prints seed, part, case and the input's bytes.
+
+mod exhaustive;
+mod generate;
+mod independent;
+
+use exhaustive::Answer;
+use generate::*;
+use independent::*;
+use std::collections::BTreeMap;
+use std::time::Instant;
+
+#[link(name = "editor", kind = "static")]
+extern "C" {
+    fn cidrask_route(board: *const u8, board_length: usize, buffer: *mut u8, buffer_length: usize, first: *mut u64, second: *mut u64) -> u32;
+    fn cidrask_judge(
+        board: *const u8, board_length: usize, list: *const u8, list_length: usize, first: *mut u64, second: *mut u64, third: *mut u64,
+    ) -> u32;
+}
+
+const CASES_A: u64 = 220_000;
+const CASES_B: u64 = 120_000;
+const RANDOM_SMALL: u64 = 6_000;
+/// Bytes before and after a buffer that must stay as they are.
+const GUARD: usize = 16;
+
+/// The refusals that reading, routing and judging of bytes can give. 22 is not among them: a number that is on the board
+/// already is not above the last one, and gets 13 before any net is added.
+const REFUSALS: [u32; 20] = [10, 11, 12, 13, 14, 15, 16, 21, 23, 24, 25, 31, 32, 33, 41, 42, 43, 44, 45, 46];
+
+struct Run {
+    seed: u64,
+    part: char,
+    case: u64,
+    kinds: BTreeMap<String, u64>,
+    refusals: BTreeMap<u32, u64>,
+    routed: u64,
+    judged: u64,
+    most_words: usize,
+    most_nets: usize,
+    full_cuts: u64,
+    knock_knees: u64,
+}
+
+impl Run {
+    fn count(&mut self, kind: &str) {
+        *self.kinds.entry(kind.to_string()).or_insert(0) += 1;
+    }
+
+    fn difference(&self, what: &str, board: &[u8], list: &[u8]) -> ! {
+        println!("DIFFERENCE: {what}");
+        println!("seed {} part {} case {}", self.seed, self.part, self.case);
+        println!("board bytes: {}", hex(board));
+        println!("list bytes: {}", hex(list));
+        std::process::exit(1)
+    }
+
+    // ------------------------------------------------------------ the two calls
+
+    /// Calls routing and compares result, place and every byte. Hands back the routing words, where there are any.
+    fn route(&mut self, random: &mut Random, board: &[u8], buffer_length: usize) -> Option<Vec<u8>> {
+        let expected = read(board);
+        let refused = match &expected {
+            Ok(b) => route_refused(b, buffer_length),
+            Err(refusal) => Some(*refusal),
+        };
+        let shift = random.below(8);
+        let before = pattern(random.next(), shift + GUARD + buffer_length + GUARD);
+        let mut memory = before.clone();
+        let (start, end) = (shift + GUARD, shift + GUARD + buffer_length);
+        let lent = Lent::new(board, random.below(8));
+        let mut numbers = Numbers::new();
+        let buffer = memory[start..end].as_mut_ptr();
+        let result = unsafe { cidrask_route(lent.start(), board.len(), buffer, buffer_length, numbers.lend(0), numbers.lend(1)) };
+        let [first, second, third] = numbers.taken();
+        if !lent.unchanged() || !numbers.guarded() || third != UNTOUCHED {
+            self.difference("routing wrote to what it is not lent for writing", board, &[]);
+        }
+        if let Some(r) = refused {
+            *self.refusals.entry(r.number).or_insert(0) += 1;
+            if r.number == 33 {
+                self.count(if r.place[0] == 0 { "33 for a row" } else { "33 for a column" });
+            }
+            if (result, first, second) != (r.number, r.place[0] as u64, r.place[1] as u64) {
+                self.difference(&format!("routing: library {result} at {first} {second}, independent {r:?}"), board, &[]);
+            }
+            if memory != before {
+                self.difference("routing refused, but memory was written to", board, &[]);
+            }
+            return None;
+        }
+        if result != 0 || second != 0 || first == 0 || first > 2049 {
+            self.difference(&format!("routing: library {result} at {first} {second}, independent accepts"), board, &[]);
+        }
+        let count = 4 * first as usize;
+        if memory[..start] != before[..start] || memory[start + count..] != before[start + count..] {
+            self.difference("routing wrote outside its words", board, &memory[start..end]);
+        }
+        self.routed += 1;
+        self.most_words = self.most_words.max(first as usize);
+        if let Ok(b) = &expected {
+            self.most_nets = self.most_nets.max(b.nets.len());
+            self.full_cuts += b.cuts().iter().any(|&cut| b.cut_edges(cut) > 0 && b.margin(cut) == 0) as u64;
+        }
+        Some(memory[start..start + count].to_vec())
+    }
+
+    /// Calls judging and compares result and report or place.
+    fn judge(&mut self, board: &[u8], list: &[u8]) -> Option<Report> {
+        let expected = read(board).and_then(|b| judge(&b, list));
+        let shift = self.case as usize + list.len() / 4;
+        let (lent_board, lent_list) = (Lent::new(board, shift % 8), Lent::new(list, shift / 8 % 8));
+        let mut lent = Numbers::new();
+        let (first, second, third) = (lent.lend(0), lent.lend(1), lent.lend(2));
+        let result = unsafe { cidrask_judge(lent_board.start(), board.len(), lent_list.start(), list.len(), first, second, third) };
+        let n = lent.taken();
+        if !lent_board.unchanged() || !lent_list.unchanged() || !lent.guarded() {
+            self.difference("judging wrote to what it is not lent for writing", board, list);
+        }
+        let (number, numbers) = match expected {
+            Ok(report) => (0, [report.edges as u64, report.turns as u64, report.knock_knees as u64]),
+            Err(refusal) => (refusal.number, [refusal.place[0] as u64, 0, 0]),
+        };
+        if (result, n) != (number, numbers) {
+            self.difference(&format!("judging: library {result} {n:?}, independent {number} {numbers:?}"), board, list);
+        }
+        self.judged += 1;
+        if number != 0 {
+            *self.refusals.entry(number).or_insert(0) += 1;
+        }
+        let report = expected.ok()?;
+        self.knock_knees += report.knock_knees as u64;
+        Some(report)
+    }
+
+    /// Routes, and has the routing judged by both.
+    fn route_and_judge(&mut self, random: &mut Random, board: &[u8], buffer_length: usize) -> Option<Vec<u8>> {
+        let words = self.route(random, board, buffer_length)?;
+        if self.judge(board, &words).is_none() {
+            self.difference("both judges refuse the routing handed back", board, &words);
+        }
+        Some(words)
+    }
+
+    // ------------------------------------------------------------ the parts
+
+    fn part_a(&mut self, case: u64) {
+        (self.part, self.case) = ('a', case);
+        let mut random = Random::of_case(self.seed, 'a', case);
+        let kind = random.below(BOARD_KINDS.len());
+        let board = board_bytes(&mut random, kind);
+        self.count(BOARD_KINDS[kind]);
+        let length = match random.below(10) {
+            0 => random.pick(&[0, 1, 3, 4, 8191, 8192, 8195]),
+            1 => random.below(8196),
+            2 => random.pick(&[8197, 8198, 8199, 8200, 8204, 9001]),
+            _ => 8196,
+        };
+        self.route_and_judge(&mut random, &board, length);
+    }
+
+    fn part_b(&mut self, case: u64) {
+        (self.part, self.case) = ('b', case);
+        let mut random = Random::of_case(self.seed, 'b', case);
+        let size = size(&mut random);
+        let board = true_board(&mut random, size);
+        let bytes = bytes_of(&board.words());
+        let mut words = None;
+        if random.one_in(3) {
+            words = (0..4).find_map(|_| trails(&mut random, &board)).map(|paths| routing_words(&board, &paths));
+            if let Some(list) = &words {
+                self.count("routing from random trails");
+                if self.judge(&bytes, &bytes_of(list)).is_none() {
+                    self.difference("both judges refuse trails", &bytes, &bytes_of(list));
+                }
+            }
+        }
+        if words.is_none() {
+            words = self.route_and_judge(&mut random, &bytes, 8196).map(|list| words_of(&list).unwrap());
+        }
+        let words = words.unwrap_or_else(|| {
+            // No routing: straight runs that need not be on the board.
+            let paths: Vec<Vec<usize>> = board.nets.iter().map(toward).collect();
+            routing_words(&board, &paths)
+        });
+        for _ in 0..3 {
+            let kind = random.below(LIST_KINDS.len());
+            let other = [0x40100001, 0x54000001, 0x40200001, 0x58000001, 0xE0000002];
+            let list = list_bytes(&mut random, kind, &words, &other);
+            self.count(LIST_KINDS[kind]);
+            self.judge(&bytes, &list);
+        }
+        if random.one_in(30) {
+            // A damaged board with a list: the board is read first.
+            let kind = random.below(BOARD_KINDS.len());
+            let damaged = board_bytes(&mut random, kind);
+            let mut list = bytes_of(&words);
+            list.truncate(list.len() - random.below(3));
+            self.count("list for a damaged board");
+            self.judge(&damaged, &list);
+        }
+    }
+
+    /// One board with its nets: routing is accepted exactly when the exhaustive router finds paths.
+    /// `found` counts boards with paths, without, not decided within the steps, and odd.
+    fn small(&mut self, random: &mut Random, board: &Board, steps: u64, found: &mut [u64; 4]) {
+        let bytes = bytes_of(&board.words());
+        let routed = self.route_and_judge(random, &bytes, 8196).is_some();
+        if board.first_odd().is_some() {
+            found[3] += 1;
+            return;
+        }
+        match exhaustive::route(board, steps) {
+            Answer::Undecided => found[2] += 1,
+            Answer::None => {
+                found[1] += 1;
+                if routed {
+                    self.difference("routed, but the exhaustive router finds no paths", &bytes, &[]);
+                }
+            }
+            Answer::Paths(paths) => {
+                found[0] += 1;
+                let list = bytes_of(&routing_words(board, &paths));
+                if !routed {
+                    self.difference("refused, but the exhaustive router finds paths", &bytes, &list);
+                }
+                if self.judge(&bytes, &list).is_none() {
+                    self.difference("both judges refuse the exhaustive router's paths", &bytes, &list);
+                }
+            }
+        }
+    }
+}
+
+/// Bytes lent for reading, at any alignment, with a copy to see that they stay as they are.
+struct Lent {
+    memory: Vec<u8>,
+    copy: Vec<u8>,
+    shift: usize,
+}
+
+impl Lent {
+    fn new(bytes: &[u8], shift: usize) -> Lent {
+        let mut memory = vec![0; shift];
+        memory.extend(bytes);
+        Lent { copy: memory.clone(), memory, shift }
+    }
+
+    fn start(&self) -> *const u8 {
+        self.memory[self.shift..].as_ptr()
+    }
+
+    fn unchanged(&self) -> bool {
+        self.memory == self.copy
+    }
+}
+
+const UNTOUCHED: u64 = 0xA5C3_960F_1E2D_4B78;
+
+/// The numbers that a call writes to, each with eight bytes before and after that must stay as they are.
+struct Numbers([u64; 7]);
+
+impl Numbers {
+    fn new() -> Numbers {
+        Numbers([UNTOUCHED; 7])
+    }
+
+    fn lend(&mut self, i: usize) -> *mut u64 {
+        unsafe { self.0.as_mut_ptr().add(2 * i + 1) }
+    }
+
+    /// Read as memory, since the calls write through pointers.
+    fn now(&self) -> [u64; 7] {
+        unsafe { std::ptr::read_volatile(&self.0) }
+    }
+
+    fn taken(&self) -> [u64; 3] {
+        let n = self.now();
+        [n[1], n[3], n[5]]
+    }
+
+    fn guarded(&self) -> bool {
+        let n = self.now();
+        [n[0], n[2], n[4], n[6]] == [UNTOUCHED; 4]
+    }
+}
+
+fn hex(bytes: &[u8]) -> String {
+    bytes.iter().map(|b| format!("{b:02x}")).collect()
+}
+
+fn pattern(start: u64, length: usize) -> Vec<u8> {
+    (0..length).map(|i| (start as usize).wrapping_add(i.wrapping_mul(151)).wrapping_add(i >> 8) as u8).collect()
+}
+
+/// Steps from a net's first terminal to its second, first along the line.
+fn toward(net: &Net) -> Vec<usize> {
+    let ((a, b), (c, d)) = (net.first, net.second);
+    let mut steps = vec![if d > b { RIGHT } else { LEFT }; d.abs_diff(b)];
+    steps.extend(vec![if c > a { DOWN } else { UP }; c.abs_diff(a)]);
+    steps
+}
+
+// ---------------------------------------------------------------- every assignment of nets
+
+/// Calls `each` with every set of nets on the pins, as pairs of vertices; where `even`, only with those that leave no vertex odd.
+fn assignments(bare: &Board, even: bool, each: &mut dyn FnMut(&[(Vertex, Vertex)])) {
+    let vertices = bare.vertices();
+    let pins: Vec<usize> = vertices.iter().map(|&v| bare.pins(v)).collect();
+    let odd: Vec<usize> = vertices.iter().map(|&v| bare.degree(v) % 2).collect();
+    let taken = vec![0; vertices.len()];
+    pair_up(&Pins { vertices, pins, odd, even }, 0, 0, taken, &mut Vec::new(), each);
+}
+
+struct Pins {
+    vertices: Vec<Vertex>,
+    pins: Vec<usize>,
+    odd: Vec<usize>,
+    even: bool,
+}
+
+/// Vertex `u` takes further partners from `from` on, none before it, then the next vertex.
+fn pair_up(p: &Pins, u: usize, from: usize, taken: Vec<usize>, pairs: &mut Vec<(Vertex, Vertex)>, each: &mut dyn FnMut(&[(Vertex, Vertex)])) {
+    if u == p.vertices.len() {
+        return each(pairs);
+    }
+    if !p.even || (p.odd[u] + taken[u]) % 2 == 0 {
+        pair_up(p, u + 1, u + 2, taken.clone(), pairs, each);
+    }
+    if taken[u] < p.pins[u] {
+        for v in from.max(u + 1)..p.vertices.len() {
+            if taken[v] < p.pins[v] {
+                let mut more = taken.clone();
+                more[u] += 1;
+                more[v] += 1;
+                pairs.push((p.vertices[u], p.vertices[v]));
+                pair_up(p, u, v, more, pairs, each);
+                pairs.pop();
+            }
+        }
+    }
+}
+
+/// Every convex board of up to that many rows and columns of cells.
+fn boards_within(rows: usize, columns: usize) -> Vec<Board> {
+    let spans: Vec<(usize, usize)> = (0..columns).flat_map(|l| (l + 1..=columns).map(move |r| (l, r))).collect();
+    let mut boards = Vec::new();
+    for count in 1..=rows {
+        for code in 0..spans.len().pow(count as u32) {
+            let picked: Vec<_> = (0..count).map(|i| spans[code / spans.len().pow(i as u32) % spans.len()]).collect();
+            boards.push(Board::bare(&picked));
+        }
+    }
+    boards.retain(|b| b.convex());
+    boards
+}
+
+fn part_c(run: &mut Run) {
+    run.part = 'c';
+    let mut random = Random::of_case(run.seed, 'c', 0);
+    // Every assignment.
+    let mut every = boards_within(2, 2);
+    every.extend([Board::bare(&[(0, 3)]), Board::bare(&[(0, 1), (0, 1), (0, 1)])]);
+    let mut only_even: Vec<Board> = boards_within(3, 3);
+    only_even.retain(|b| !every.contains(b) && b.vertices().iter().map(|&v| b.pins(v)).sum::<usize>() <= 14);
+    for (boards, even, what) in [(&every, false, "every assignment"), (&only_even, true, "every even assignment")] {
+        let (mut found, start) = ([0u64; 4], Instant::now());
+        for bare in boards {
+            assignments(bare, even, &mut |pairs| {
+                run.case += 1;
+                let nets = numbered(&mut random, pairs.to_vec());
+                run.small(&mut random, &Board { rows: bare.rows.clone(), nets }, u64::MAX, &mut found);
+            });
+        }
+        print_small(&format!("{what} on {} boards", boards.len()), found, start);
+    }
+    // Random boards.
+    let (mut found, start) = ([0u64; 4], Instant::now());
+    for case in 0..RANDOM_SMALL {
+        run.case = case;
+        let mut random = Random::of_case(run.seed, 'r', case);
+        let size = random.pick(&[3, 3, 4, 5]);
+        let rows = convex_rows(&mut random, size, size);
+        let mend = random.one_in(2);
+        let nets = even_nets(&mut random, &rows, mend);
+        run.small(&mut random, &Board { rows, nets }, 200_000, &mut found);
+    }
+    print_small("random even boards up to 5 by 5", found, start);
+}
+
+fn print_small(what: &str, found: [u64; 4], start: Instant) {
+    let [paths, none, undecided, odd] = found;
+    let time = start.elapsed().as_secs_f64();
+    println!("exhaustive, {what}: {paths} with paths, {none} without, {undecided} not decided, {odd} odd; {time:.1} s");
+}
+
+// ---------------------------------------------------------------- the whole run
+
+fn main() {
+    let args: Vec<String> = std::env::args().skip(1).collect();
+    let seed = args.first().map_or(1985, |s| s.parse().expect("a seed is a number"));
+    let (kinds, refusals) = (BTreeMap::new(), BTreeMap::new());
+    let mut run = Run { seed, part: ' ', case: 0, kinds, refusals, routed: 0, judged: 0, most_words: 0, most_nets: 0, full_cuts: 0, knock_knees: 0 };
+    println!("seed {seed}");
+    if args.len() == 3 {
+        let case = args[2].parse().expect("a case is a number");
+        match args[1].as_str() {
+            "a" => run.part_a(case),
+            "b" => run.part_b(case),
+            _ => panic!("part a or b"),
+        }
+        return println!("no difference in this case");
+    }
+    let start = Instant::now();
+    (0..CASES_A).for_each(|case| run.part_a(case));
+    println!("part a: {CASES_A} boards, {} routings handed back; {:.1} s", run.routed, start.elapsed().as_secs_f64());
+    let start = Instant::now();
+    (0..CASES_B).for_each(|case| run.part_b(case));
+    println!("part b: {CASES_B} boards, each with 3 lists or more; {:.1} s", start.elapsed().as_secs_f64());
+    part_c(&mut run);
+    for (kind, count) in &run.kinds {
+        println!("{count:8} {kind}");
+    }
+    println!("{} routings handed back, at most {} nets and {} words, {} with a full cut", run.routed, run.most_nets, run.most_words, run.full_cuts);
+    println!("{} lists judged, {} knock-knees in those that passed", run.judged, run.knock_knees);
+    let times = |number: &u32| run.refusals.get(number).copied().unwrap_or(0);
+    REFUSALS.iter().for_each(|number| println!("refusal {number}: {}", times(number)));
+    println!("refusal 22: {} (13 comes before it)", times(&22));
+    if let Some(number) = REFUSALS.iter().find(|number| times(number) < 50) {
+        println!("FAILED: refusal {number} came fewer than 50 times");
+        std::process::exit(1);
+    }
+    println!("no difference");
+}

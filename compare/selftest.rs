@@ -1,0 +1,170 @@
+//! The independent side tried on its own: the ring and the boards a to i of the requirements, the three readings of convexity
+//! against each other, and the exhaustive router on boards whose answer is known.
+
+mod exhaustive;
+mod independent;
+
+use exhaustive::{route, Answer};
+use independent::*;
+
+const RING: [u32; 6] = [0x10000001, 0x20100001, 0x20200421, 0x20308420, 0x20408000, 0xF0000104];
+const RING_ROUTED: [u32; 9] =
+    [0x40100001, 0x54000001, 0x40200001, 0x58000001, 0x40300001, 0x5C000001, 0x40400001, 0x50000001, 0xE0000004];
+
+fn with_nets(rows: &[(usize, usize)], nets: &[(u32, Vertex, Vertex)]) -> Board {
+    let mut board = Board::bare(rows);
+    for &(number, first, second) in nets {
+        let net = Net { number, first, second };
+        assert_eq!(board.add_refused(&net), None);
+        board.nets.push(net);
+    }
+    board
+}
+
+fn refused(number: u32, place: u32) -> Refusal {
+    Refusal { number, place: [place, 0] }
+}
+
+fn routes(board: &Board) -> bool {
+    match route(board, u64::MAX) {
+        Answer::Paths(paths) => {
+            assert!(judge(board, &bytes_of(&routing_words(board, &paths))).is_ok());
+            true
+        }
+        answer => {
+            assert_eq!(answer, Answer::None);
+            false
+        }
+    }
+}
+
+fn ring_and_boards() {
+    // a
+    let a = read(&bytes_of(&RING)).unwrap();
+    assert_eq!(a.words(), RING);
+    assert_eq!(judge(&a, &bytes_of(&RING_ROUTED)), Ok(Report { edges: 4, turns: 0, knock_knees: 0 }));
+    assert_eq!(route_refused(&a, 8196), None);
+    assert_eq!(route_refused(&a, 8195), Some(refused(31, 0)));
+    let steps = [vec![RIGHT], vec![DOWN], vec![LEFT], vec![UP]];
+    assert_eq!(routing_words(&a, &steps), RING_ROUTED);
+    // b
+    let b = with_nets(&[(0, 1)], &[(1, (0, 0), (1, 1)), (2, (0, 0), (1, 1))]);
+    assert_eq!((b.margin(Cut::Row(0)), b.margin(Cut::Column(0))), (0, 0));
+    assert!(b.first_odd().is_none() && routes(&b));
+    // c
+    let mut c = b.clone();
+    c.nets.push(Net { number: 3, first: (0, 1), second: (1, 0) });
+    c.nets.push(Net { number: 4, first: (0, 1), second: (1, 0) });
+    assert_eq!(c.margin(Cut::Row(0)), -2);
+    assert_eq!(route_refused(&c, 8196), Some(Refusal { number: 33, place: [0, 0] }));
+    assert!(!routes(&c));
+    // d
+    let d = with_nets(&[(0, 2)], &[(1, (0, 1), (1, 1))]);
+    assert_eq!(d.margin(Cut::Row(0)), 2);
+    assert!(d.first_odd().is_none() && routes(&d));
+    // e
+    let e = Board::bare(&[(0, 2)]);
+    assert_eq!(e.first_odd(), Some((0, 1)));
+    assert_eq!(route_refused(&e, 8196), Some(Refusal { number: 32, place: [0, 1] }));
+    // f, g, h
+    assert!(!Board::bare(&[(0, 1), (1, 2)]).convex());
+    assert!(!Board::bare(&[(0, 2), (0, 1), (0, 2)]).convex());
+    let h = Board::bare(&[(1, 2), (0, 3), (1, 2)]);
+    assert!(h.convex());
+    assert_eq!((h.degree((1, 1)), h.pins((1, 1))), (4, 0));
+    assert_eq!(h.add_refused(&Net { number: 1, first: (1, 1), second: (0, 1) }), Some(25));
+    // i
+    let i = with_nets(&[(0, 2), (0, 2)], &[(1, (0, 1), (1, 0)), (2, (1, 2), (2, 1))]);
+    let crossing = routing_words(&i, &[vec![DOWN, LEFT], vec![LEFT, DOWN]]);
+    assert_eq!(judge(&i, &bytes_of(&crossing)), Ok(Report { edges: 4, turns: 2, knock_knees: 1 }));
+}
+
+/// Lists one word away from the ring's, with the refusal that the table gives.
+fn refusals() {
+    let board = |change: &dyn Fn(&mut Vec<u32>)| {
+        let mut words = RING.to_vec();
+        change(&mut words);
+        read(&bytes_of(&words)).err()
+    };
+    assert_eq!(read(&[0; 5]), Err(refused(10, 0)));
+    assert_eq!(read(&[]), Err(refused(11, 0)));
+    assert_eq!(read(&[0xFF; 4 * 97]), Err(refused(11, 0)));
+    assert_eq!(board(&|w| w[0] |= 1 << 10), Some(refused(12, 0)));
+    assert_eq!(board(&|w| w[5] |= 1 << 16), Some(refused(12, 5)));
+    assert_eq!(board(&|w| w[3] = 0x30308420), Some(refused(12, 3)));
+    assert_eq!(board(&|w| w.push(0)), Some(refused(12, 6)));
+    assert_eq!(board(&|w| w.push(0xF0000104)), Some(refused(13, 6)));
+    assert_eq!(board(&|w| w.truncate(5)), Some(refused(13, 5)));
+    assert_eq!(board(&|w| w.swap(0, 1)), Some(refused(13, 0)));
+    assert_eq!(board(&|w| w.swap(1, 2)), Some(refused(13, 2)));
+    assert_eq!(board(&|w| w[2] = 0x20000421), Some(refused(13, 2)));
+    assert_eq!(board(&|w| w[0] = 0x10000021), Some(refused(14, 0)));
+    assert_eq!(board(&|w| w[5] = 0xF0000103), Some(refused(15, 5)));
+    assert_eq!(board(&|w| w[5] = 0xF0000204), Some(refused(15, 5)));
+    assert_eq!(board(&|w| w[1] = 0x20000001), Some(refused(21, 1)));
+    assert_eq!(board(&|w| w[4] = 0x24108000), Some(refused(21, 4)));
+    assert_eq!(board(&|w| w[4] = 0x24008000), None);
+    assert_eq!(board(&|w| w[2] = 0x20200422), Some(refused(23, 2)));
+    assert_eq!(board(&|w| w[2] = 0x20200401), Some(refused(24, 2)));
+    assert_eq!(board(&|w| w[4] = 0x20408001), Some(refused(25, 4)));
+    let mut rows = vec![0x10000001; 32];
+    rows.push(0xF0002000);
+    assert_eq!(read(&bytes_of(&rows)).err(), Some(refused(14, 31)));
+    rows.remove(0);
+    rows[31] = 0xF0001F00;
+    assert_eq!(read(&bytes_of(&rows)).unwrap().rows.len(), 31);
+    assert_eq!(read(&bytes_of(&[0x10000001, 0x10000022, 0xF0000200])).err(), Some(refused(16, 0)));
+
+    let a = read(&bytes_of(&RING)).unwrap();
+    let list = |change: &dyn Fn(&mut Vec<u32>)| {
+        let mut words = RING_ROUTED.to_vec();
+        change(&mut words);
+        judge(&a, &bytes_of(&words)).err()
+    };
+    assert_eq!(judge(&a, &[0; 3]), Err(refused(10, 0)));
+    assert_eq!(judge(&a, &[]), Err(refused(41, 0)));
+    assert_eq!(judge(&a, &[0; 4 * 2050]), Err(refused(41, 0)));
+    assert_eq!(judge(&a, &[0; 4 * 2049]), Err(refused(42, 0)));
+    assert_eq!(list(&|w| w[1] = 0x54000000), Some(refused(42, 1)));
+    assert_eq!(list(&|w| w[1] = 0x54000021), Some(refused(42, 1)));
+    assert_eq!(list(&|w| w[0] |= 1 << 11), Some(refused(42, 0)));
+    assert_eq!(list(&|w| w[8] |= 1 << 8), Some(refused(42, 8)));
+    assert_eq!(list(&|w| w[1] = 0x40200001), Some(refused(42, 1)));
+    assert_eq!(list(&|w| { w[0] = 0x40100002; w.insert(1, 0x54000001) }), Some(refused(42, 2)));
+    assert_eq!(list(&|w| w[2] = 0x40300001), Some(refused(43, 2)));
+    assert_eq!(list(&|w| w[2] = 0xE0000004), Some(refused(43, 2)));
+    assert_eq!(list(&|w| w[8] = 0x40500001), Some(refused(43, 8)));
+    assert_eq!(list(&|w| w[8] = 0xE0000003), Some(refused(43, 8)));
+    assert_eq!(list(&|w| w.truncate(8)), Some(refused(43, 8)));
+    assert_eq!(list(&|w| w.push(0)), Some(refused(43, 9)));
+    assert_eq!(list(&|w| w[1] = 0x54000002), Some(refused(44, 1)));
+    assert_eq!(list(&|w| w[1] = 0x50000001), Some(refused(44, 1)));
+    assert_eq!(list(&|w| { w[0] = 0x40100003; w.splice(2..2, [0x5C000001, 0x54000001]); }), Some(refused(45, 2)));
+    assert_eq!(list(&|w| w[1] = 0x58000001), Some(refused(46, 0)));
+}
+
+/// The three readings of convexity agree on every board of up to three rows within five columns, and of four within four.
+fn convexity() -> usize {
+    let mut tried = 0;
+    for (most_rows, columns) in [(3, 6), (4, 5)] {
+        let spans: Vec<(usize, usize)> = (0..columns).flat_map(|l| (l + 1..columns).map(move |r| (l, r))).collect();
+        for rows in 1..=most_rows {
+            for code in 0..spans.len().pow(rows as u32) {
+                let picked: Vec<_> = (0..rows).map(|i| spans[code / spans.len().pow(i as u32) % spans.len()]).collect();
+                let board = Board::bare(&picked);
+                let answer = board.convex_by_definition();
+                assert_eq!(board.convex(), answer, "{picked:?}");
+                assert_eq!(board.convex_by_lemma(), answer, "{picked:?}");
+                tried += 1;
+            }
+        }
+    }
+    tried
+}
+
+fn main() {
+    ring_and_boards();
+    refusals();
+    let boards = convexity();
+    println!("self test: the ring, boards a to i, the refusals; convexity on {boards} boards three ways: passed");
+}
