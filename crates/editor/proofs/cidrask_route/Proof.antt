@@ -19,7 +19,10 @@ same-length c = search needs
 
 -- src/lib.rt:117:1
 returns : tie.Need-returns
-returns c = let R = c .before .before .routed .ensures in record { result = R .result; routes = R .routes; told = two-numbers (c .before .before .routed .result) (R .result) (R .told) }
+returns c =
+    let at-routed = c .before .before in let routed = at-routed .routed in
+    let R = routed .ensures in
+    record { result = R .result; routes = R .routes; told = two-numbers (routed .result) (R .result) (R .told) }
 
 pub cidrask-route-spec : {M : Type 1} → statement M
 cidrask-route-spec = tie.close (tie.spec routed-requires same-length returns)

@@ -37,11 +37,20 @@ judge-told-requires c κs = search needs
 
 -- src/lib.rt:104:1
 returns : tie.Need-returns
-returns c = rw (c .refused .ensures) (judged-unread (c .before .before .before .before .before .before .before .args .board .now) (c .before .before .before .before .before .before .before .args .list .now) _ _ (c .before .before .before .before .read-bytes .ensures) (c .before .before .answer .given .1))
+returns c =
+    let at-answer = c .before .before in let answer = at-answer .answer in
+    let at-read-bytes = at-answer .before .before in let read-bytes = at-read-bytes .read-bytes in
+    let at-args = at-read-bytes .before .before .before in let args = at-args .args in
+    rw (c .refused .ensures) (judged-unread (args .board .now) (args .list .now) _ _ (read-bytes .ensures) (answer .given .1))
 
 -- src/lib.rt:104:1
 returns-2 : tie.Need-returns-2
-returns-2 c = judged-read (c .before .before .before .before .before .before .before .args .board .now) (c .before .before .before .before .before .before .before .args .list .now) (c .before .before .before .before .read-bytes .ensures) (c .before .before .enum-told .given .1) (rw (← c .before .judge-bytes .ensures) (c .judge-told .ensures))
+returns-2 c =
+    let at-judge-bytes = c .before in let judge-bytes = at-judge-bytes .judge-bytes in
+    let at-enum-told = at-judge-bytes .before in let the-enum-told = at-enum-told .enum-told in
+    let at-read-bytes = at-enum-told .before .before in let read-bytes = at-read-bytes .read-bytes in
+    let at-args = at-read-bytes .before .before .before in let args = at-args .args in
+    judged-read (args .board .now) (args .list .now) (read-bytes .ensures) (the-enum-told .given .1) (rw (← judge-bytes .ensures) (c .judge-told .ensures))
 
 pub judged-spec : {M : Type 1} → statement M
 judged-spec =

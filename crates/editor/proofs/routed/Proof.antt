@@ -37,7 +37,10 @@ route-told-requires c κs = search needs
 
 -- src/lib.rt:93:1
 returns : tie.Need-returns
-returns c = rw (c .refused .ensures) (routed-unread _ _ (c .before .before .before .before .read-bytes .ensures) (c .before .before .answer .given .1))
+returns c =
+    let at-answer = c .before .before in let answer = at-answer .answer in
+    let at-read-bytes = at-answer .before .before in let read-bytes = at-read-bytes .read-bytes in
+    rw (c .refused .ensures) (routed-unread _ _ (read-bytes .ensures) (answer .given .1))
 
 -- src/lib.rt:93:1
 same-length : tie.Need-same-length
@@ -45,7 +48,11 @@ same-length c = search needs
 
 -- src/lib.rt:93:1
 returns-2 : tie.Need-returns-2
-returns-2 c = routed-read (c .before .before .before .before .before .before .before .read-bytes .ensures) (c .before .before .before .before .before .enum-told .given .1) (c .before .before .before .route-bytes .ensures) (c .route-told .ensures)
+returns-2 c =
+    let at-route-bytes = c .before .before .before in let route-bytes = at-route-bytes .route-bytes in
+    let at-enum-told = at-route-bytes .before .before in let the-enum-told = at-enum-told .enum-told in
+    let at-read-bytes = at-enum-told .before .before in let read-bytes = at-read-bytes .read-bytes in
+    routed-read (read-bytes .ensures) (the-enum-told .given .1) (route-bytes .ensures) (c .route-told .ensures)
 
 pub routed-spec : {M : Type 1} → statement M
 routed-spec =

@@ -27,7 +27,9 @@ add-out c = search needs
 
 -- src/lib.rt:45:5
 slice-write-out-2 : tie.Need-slice-write-out-2
-slice-write-out-2 c = let h : c .args .at + 1 < length (c .args .out .now) = omega arith in subst (λ (k : ℕ). c .args .at + 1 < k) (sym (length-set (c .args .out .now) (c .args .at) (c .args .w % 256))) h
+slice-write-out-2 c =
+    let h : c .args .at + 1 < length (c .args .out .now) = omega arith in
+    subst (λ (k : ℕ). c .args .at + 1 < k) (sym (length-set (c .args .out .now) (c .args .at) (c .args .w % 256))) h
 
 -- src/lib.rt:46:19
 cast-out-3 : tie.Need-cast-out-3
@@ -39,7 +41,9 @@ add-out-2 c = search needs
 
 -- src/lib.rt:46:5
 slice-write-out-3 : tie.Need-slice-write-out-3
-slice-write-out-3 c = let h : c .args .at + 2 < length (c .args .out .now) = omega arith in subst (λ (k : ℕ). c .args .at + 2 < k) (sym (length-set (set (c .args .out .now) (c .args .at) (c .args .w % 256)) (c .args .at + 1) (c .args .w / 256 % 256) ∙ length-set (c .args .out .now) (c .args .at) (c .args .w % 256))) h
+slice-write-out-3 c =
+    let h : c .args .at + 2 < length (c .args .out .now) = omega arith in
+    subst (λ (k : ℕ). c .args .at + 2 < k) (sym (length-set (set (c .args .out .now) (c .args .at) (c .args .w % 256)) (c .args .at + 1) (c .args .w / 256 % 256) ∙ length-set (c .args .out .now) (c .args .at) (c .args .w % 256))) h
 
 -- src/lib.rt:47:19
 cast-out-4 : tie.Need-cast-out-4

@@ -31,7 +31,10 @@ shared-slice-read-put-word c = search needs
 
 -- src/lib.rt:58:9
 put-word-requires : tie.Need-put-word-requires Inv-loop μ-loop
-put-word-requires c κs = omega (arith, ap length (c .before .before .before .loop .inv .2), put-length (c .before .before .before .before .before .before .args .words .now) (c .before .before .before .before .before .before .args .out .now) (c .before .before .before .loop .i) (omega arith) (omega arith))
+put-word-requires c κs =
+    let at-loop = c .before .before .before in let loop = at-loop .loop in
+    let at-args = at-loop .before .before .before in let args = at-args .args in
+    omega (arith, ap length (loop .inv .2), put-length (args .words .now) (args .out .now) (loop .i) (omega arith) (omega arith))
 
 -- src/lib.rt:59:9
 add-at : tie.Need-add-at Inv-loop μ-loop
@@ -47,11 +50,18 @@ loop-less c = search needs
 
 -- src/lib.rt:57:5
 loop-again : tie.Need-loop-again Inv-loop μ-loop
-loop-again c = (omega arith, omega arith, let e = put-next (c .before .before .before .before .before .before .before .before .before .args .words .now) _ (c .before .before .before .before .before .before .before .before .before .args .out .now) (c .before .before .before .before .before .before .loop .i) (c .before .before .before .before .before .before .loop .at) (omega arith) (c .before .before .before .before .before .before .loop .inv .1) (omega arith) (c .before .before .before .before .before .before .loop .inv .2) in c .before .before .put-word .ensures ∙ e)
+loop-again c =
+    let at-put-word = c .before .before in let put-word = at-put-word .put-word in
+    let at-loop = at-put-word .before .before .before .before in let loop = at-loop .loop in
+    let at-args = at-loop .before .before .before in let args = at-args .args in
+    (omega arith, omega arith, let e = put-next (args .words .now) _ (args .out .now) (loop .i) (loop .at) (omega arith) (loop .inv .1) (omega arith) (loop .inv .2) in put-word .ensures ∙ e)
 
 -- src/lib.rt:51:1
 same-length : tie.Need-same-length Inv-loop μ-loop
-same-length c = ap length (c .before .loop .inv .2) ∙ put-length (c .before .before .before .before .args .words .now) (c .before .before .before .before .args .out .now) (c .before .loop .i) (omega arith) (omega arith)
+same-length c =
+    let at-loop = c .before in let loop = at-loop .loop in
+    let at-args = at-loop .before .before .before in let args = at-args .args in
+    ap length (loop .inv .2) ∙ put-length (args .words .now) (args .out .now) (loop .i) (omega arith) (omega arith)
 
 -- src/lib.rt:51:1
 returns : tie.Need-returns Inv-loop μ-loop

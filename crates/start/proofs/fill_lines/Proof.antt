@@ -87,11 +87,24 @@ loop-less c = search needs
 
 -- src/lib.rt:54:5
 loop-again : tie.Need-loop-again Inv-loop μ-loop
-loop-again c = (omega arith, lined-more (boardIs (c .before .before .before .before .before .before .before .before .before .before .args .b .rows) (c .before .before .before .before .before .before .before .before .wide .result)) (omega arith) _ _ _ _ _ (c .before .before .before .before .before .before .before .loop .inv .1) (omega arith) (omega arith) (rw (← c .before .before .before .before .before .before2 .ensures, ← c .before .before .before .least .ensures) (c .before .smaller .ensures)) (rw (← c .before .before .before .before .before .before2 .ensures, ← c .before .before .before .least .ensures) (c .larger .ensures)))
+loop-again c =
+    let at-smaller = c .before in let smaller = at-smaller .smaller in
+    let at-least = at-smaller .before .before in let least = at-least .least in
+    let at-before2 = at-least .before .before in let before2 = at-before2 .before2 in
+    let at-loop = at-before2 .before .before in let loop = at-loop .loop in
+    let at-wide = at-loop .before in let wide = at-wide .wide in
+    let at-args = at-wide .before .before in let args = at-args .args in
+    (omega arith, lined-more (boardIs (args .b .rows) (wide .result)) (omega arith) _ _ _ _ _ (loop .inv .1) (omega arith) (omega arith) (rw (← before2 .ensures, ← least .ensures) (smaller .ensures)) (rw (← before2 .ensures, ← least .ensures) (c .larger .ensures)))
 
 -- src/lib.rt:47:1
 returns : tie.Need-returns Inv-loop μ-loop
-returns c = let e : c .before .loop .l ≡ c .before .before .wide .result + 1 = omega arith in let f : c .before .before .wide .result ≡ c .before .before .before .before .args .b .count = c .before .before .wide .ensures in rw (e, f) at (c .before .loop .inv .1)
+returns c =
+    let at-loop = c .before in let loop = at-loop .loop in
+    let at-wide = at-loop .before in let wide = at-wide .wide in
+    let at-args = at-wide .before .before in let args = at-args .args in
+    let e : loop .l ≡ wide .result + 1 = omega arith in
+    let f : wide .result ≡ args .b .count = wide .ensures in
+    rw (e, f) at (loop .inv .1)
 
 pub fill-lines-spec : {M : Type 1} → statement M
 fill-lines-spec =

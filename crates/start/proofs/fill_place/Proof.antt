@@ -30,7 +30,9 @@ returns c = rw (c .enum-told .given .1) (takes-none _ _ _ _ _ _)
 
 -- src/lib.rt:99:1
 returns-2 : tie.Need-returns-2
-returns-2 c = rw (c .before .before .before .before .before .before .before .held .given .1) (takes-pair _ _ _ _ _ _ _ _ _ _ _ _ (c .fill-row .ensures))
+returns-2 c =
+    let at-held = c .before .before .before .before .before .before .before in let held = at-held .held in
+    rw (held .given .1) (takes-pair _ _ _ _ _ _ _ _ _ _ _ _ (c .fill-row .ensures))
 
 pub fill-place-spec : {M : Type 1} → statement M
 fill-place-spec =

@@ -45,11 +45,20 @@ loop-less c = search needs
 
 -- src/lib.rt:135:5
 loop-again : tie.Need-loop-again Inv-loop μ-loop
-loop-again c = let T = c .fill-place .ensures (pairsOf (take (c .before .before .before .before .before .before .before .before .loop .i) (c .before .before .before .before .before .before .before .before .before .args .t1))) (omega arith) (c .before .before .before .before .before .before .before .before .loop .inv .3) in let e = pairs-more (c .before .before .before .before .before .before .before .before .before .args .t1) (c .before .before .before .before .before .before .before .before .loop .i) (omega (arith, c .before .before .before .before .before .before .before .before .loop .inv .1)) in (omega arith, c .before .before .before .before .before .before .before .before .loop .inv .1, omega (arith, T .count, pairs-few (c .before .before .before .before .before .before .before .before .before .args .t1) (c .before .before .before .before .before .before .before .before .loop .i + 1), ap length e), rw e T)
+loop-again c =
+    let at-loop = c .before .before .before .before .before .before .before .before in let loop = at-loop .loop in
+    let at-args = at-loop .before in let args = at-args .args in
+    let T = c .fill-place .ensures (pairsOf (take (loop .i) (args .t1))) (omega arith) (loop .inv .3) in
+    let e = pairs-more (args .t1) (loop .i) (omega (arith, loop .inv .1)) in
+    (omega arith, loop .inv .1, omega (arith, T .count, pairs-few (args .t1) (loop .i + 1), ap length e), rw e T)
 
 -- src/lib.rt:122:1
 returns : tie.Need-returns Inv-loop μ-loop
-returns c = let e : take (c .before .loop .i) (c .before .before .args .t1) ≡ c .before .before .args .t1 = take-all (c .before .loop .i) (c .before .before .args .t1) (omega (arith, c .before .loop .inv .1)) in (rw e at (c .before .loop .inv .3), omega arith)
+returns c =
+    let at-loop = c .before in let loop = at-loop .loop in
+    let at-args = at-loop .before in let args = at-args .args in
+    let e : take (loop .i) (args .t1) ≡ args .t1 = take-all (loop .i) (args .t1) (omega (arith, loop .inv .1)) in
+    (rw e at (loop .inv .3), omega arith)
 
 pub fill-table-spec : {M : Type 1} → statement M
 fill-table-spec =

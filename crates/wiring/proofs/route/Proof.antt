@@ -20,11 +20,18 @@ sound-requires c κs = search needs
 
 -- src/lib.rt:88:9
 returns : tie.Need-returns
-returns c = route-unsound (sessionOf (c .before .before .before .args .s)) _ (sym (c .before .sound .ensures .same) ∙ not-true (c .before .sound .result) (c .if1 .taken))
+returns c =
+    let at-sound = c .before in let sound = at-sound .sound in
+    let at-args = at-sound .before .before in let args = at-args .args in
+    route-unsound (sessionOf (args .s)) _ (sym (sound .ensures .same) ∙ not-true (sound .result) (c .if1 .taken))
 
 -- src/lib.rt:91:9
 returns-2 : tie.Need-returns-2
-returns-2 c = route-short (sessionOf (c .before .before .before .before .args .s)) _ (sym (c .before .before .sound .ensures .same) ∙ not-false (c .before .before .sound .result) (c .before .if1 .left)) (c .if2 .taken)
+returns-2 c =
+    let at-if1 = c .before in let if1 = at-if1 .if1 in
+    let at-sound = at-if1 .before in let sound = at-sound .sound in
+    let at-args = at-sound .before .before in let args = at-args .args in
+    route-short (sessionOf (args .s)) _ (sym (sound .ensures .same) ∙ not-false (sound .result) (if1 .left)) (c .if2 .taken)
 
 -- src/lib.rt:95:9
 first-odd-requires : tie.Need-first-odd-requires
@@ -40,11 +47,25 @@ enum-told c = search needs
 
 -- src/lib.rt:98:33
 route-even-requires : tie.Need-route-even-requires
-route-even-requires c κs = let s = c .before .before .before .before .before .before .before .before .before .before .args .s in (record { sound = sym (c .before .before .before .before .before .before .before .before .sound .ensures .same) ∙ not-false (c .before .before .before .before .before .before .before .before .sound .result) (c .before .before .before .before .before .before .before .if1 .left); even = none-odd (sessionOf s) _ (pairs-of (s .nets)) (sym (c .before .enum-told .given .1) ∙ c .before .before .before .first-odd .ensures) }, omega arith)
+route-even-requires c κs =
+    let at-enum-told = c .before in let the-enum-told = at-enum-told .enum-told in
+    let at-first-odd = at-enum-told .before .before in let first-odd = at-first-odd .first-odd in
+    let at-if1 = at-first-odd .before .before .before .before in let if1 = at-if1 .if1 in
+    let at-sound = at-if1 .before in let the-sound = at-sound .sound in
+    let at-args = at-sound .before .before in let args = at-args .args in
+    let s = args .s in
+    (record { sound = sym (the-sound .ensures .same) ∙ not-false (the-sound .result) (if1 .left); even = none-odd (sessionOf s) _ (pairs-of (s .nets)) (sym (the-enum-told .given .1) ∙ first-odd .ensures) }, omega arith)
 
 -- src/lib.rt:84:1
 returns-3 : tie.Need-returns-3
-returns-3 c = let s = c .before .before .before .before .before .before .before .before .before .before .args .s in route-odd (sessionOf s) _ (sym (c .before .before .before .before .before .before .before .before .sound .ensures .same) ∙ not-false (c .before .before .before .before .before .before .before .before .sound .result) (c .before .before .before .before .before .before .before .if1 .left)) (omega arith) _ (odd-at (sessionOf s) _ (pairs-of (s .nets)) _ (sym (c .before .odd .given .1) ∙ c .before .before .before .first-odd .ensures))
+returns-3 c =
+    let at-odd = c .before in let odd = at-odd .odd in
+    let at-first-odd = at-odd .before .before in let first-odd = at-first-odd .first-odd in
+    let at-if1 = at-first-odd .before .before .before .before in let if1 = at-if1 .if1 in
+    let at-sound = at-if1 .before in let sound = at-sound .sound in
+    let at-args = at-sound .before .before in let args = at-args .args in
+    let s = args .s in
+    route-odd (sessionOf s) _ (sym (sound .ensures .same) ∙ not-false (sound .result) (if1 .left)) (omega arith) _ (odd-at (sessionOf s) _ (pairs-of (s .nets)) _ (sym (odd .given .1) ∙ first-odd .ensures))
 
 -- src/lib.rt:84:1
 same-length : tie.Need-same-length

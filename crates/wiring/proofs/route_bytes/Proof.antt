@@ -28,7 +28,9 @@ array-borrow-prefix-words c = search needs
 
 -- src/lib.rt:141:27
 slice-aggregate-route : tie.Need-slice-aggregate-route
-slice-aggregate-route c = sym (length-take-le (c .before .least .result) (replicate {A = ℕ} 2049 0) (omega (arith, c .before .least .ensures, length-replicate {A = ℕ} 2049 0)))
+slice-aggregate-route c =
+    let at-least = c .before in let least = at-least .least in
+    sym (length-take-le (least .result) (replicate {A = ℕ} 2049 0) (omega (arith, least .ensures, length-replicate {A = ℕ} 2049 0)))
 
 -- src/lib.rt:141:9
 route-requires : tie.Need-route-requires
@@ -36,7 +38,13 @@ route-requires c κs = search needs
 
 -- src/lib.rt:142:23
 slice-aggregate-put-words : tie.Need-slice-aggregate-put-words
-slice-aggregate-put-words c = let l : length (take (c .before .before .before .before .least .result) (replicate {A = ℕ} 2049 0)) ≡ c .before .before .before .before .least .result = length-take-le (c .before .before .before .before .least .result) (replicate {A = ℕ} 2049 0) (omega (arith, c .before .before .before .before .least .ensures, length-replicate {A = ℕ} 2049 0)) in let k : length (c .before .before .route .last .1 .0) ≡ length (take (c .before .before .before .before .least .result) (replicate {A = ℕ} 2049 0)) = c .before .before .route .kept .1 .0 in let g : 2049 ≡ length (c .before .before .route .last .1 .0 ++ drop (c .before .before .before .before .least .result) (replicate {A = ℕ} 2049 0)) = omega (arith, k, l, c .before .before .before .before .least .ensures, length-append (c .before .before .route .last .1 .0) (drop (c .before .before .before .before .least .result) (replicate {A = ℕ} 2049 0)), length-drop (c .before .before .before .before .least .result) (replicate {A = ℕ} 2049 0), length-replicate {A = ℕ} 2049 0) in g
+slice-aggregate-put-words c =
+    let at-route = c .before .before in let route = at-route .route in
+    let at-least = at-route .before .before in let least = at-least .least in
+    let l : length (take (least .result) (replicate {A = ℕ} 2049 0)) ≡ least .result = length-take-le (least .result) (replicate {A = ℕ} 2049 0) (omega (arith, least .ensures, length-replicate {A = ℕ} 2049 0)) in
+    let k : length (route .last .1 .0) ≡ length (take (least .result) (replicate {A = ℕ} 2049 0)) = route .kept .1 .0 in
+    let g : 2049 ≡ length (route .last .1 .0 ++ drop (least .result) (replicate {A = ℕ} 2049 0)) = omega (arith, k, l, least .ensures, length-append (route .last .1 .0) (drop (least .result) (replicate {A = ℕ} 2049 0)), length-drop (least .result) (replicate {A = ℕ} 2049 0), length-replicate {A = ℕ} 2049 0) in
+    g
 
 -- src/lib.rt:142:31
 written-requires : tie.Need-written-requires
@@ -44,7 +52,18 @@ written-requires c κs = search needs
 
 -- src/lib.rt:142:5
 put-words-requires : tie.Need-put-words-requires
-put-words-requires c κs = let l : length (take (c .before .before .before .before .before .before .least .result) (replicate {A = ℕ} 2049 0)) ≡ c .before .before .before .before .before .before .least .result = length-take-le (c .before .before .before .before .before .before .least .result) (replicate {A = ℕ} 2049 0) (omega (arith, c .before .before .before .before .before .before .least .ensures, length-replicate {A = ℕ} 2049 0)) in let k : length (c .before .before .before .before .route .last .1 .0) ≡ length (take (c .before .before .before .before .before .before .least .result) (replicate {A = ℕ} 2049 0)) = c .before .before .before .before .route .kept .1 .0 in let w = count-fits (sessionOf (c .before .before .before .before .before .before .before .before .args .s)) (c .before .before .before .before .route .ensures) k in let e = c .before .written .ensures ∙ written-is (c .before .before .before .before .route .result) in let g : c .before .written .result ≤ length (c .before .before .before .before .route .last .1 .0 ++ drop (c .before .before .before .before .before .before .least .result) (replicate {A = ℕ} 2049 0)) = omega (arith, w, e, k, length-append (c .before .before .before .before .route .last .1 .0) (drop (c .before .before .before .before .before .before .least .result) (replicate {A = ℕ} 2049 0))) in let h : 4 * c .before .written .result ≤ length (c .before .before .before .before .before .before .before .before .args .out .now) = omega (arith, w, e, l, c .before .before .before .before .before .before .least .ensures) in (g, h)
+put-words-requires c κs =
+    let at-written = c .before in let written = at-written .written in
+    let at-route = at-written .before .before .before in let route = at-route .route in
+    let at-least = at-route .before .before in let least = at-least .least in
+    let at-args = at-least .before .before in let args = at-args .args in
+    let l : length (take (least .result) (replicate {A = ℕ} 2049 0)) ≡ least .result = length-take-le (least .result) (replicate {A = ℕ} 2049 0) (omega (arith, least .ensures, length-replicate {A = ℕ} 2049 0)) in
+    let k : length (route .last .1 .0) ≡ length (take (least .result) (replicate {A = ℕ} 2049 0)) = route .kept .1 .0 in
+    let w = count-fits (sessionOf (args .s)) (route .ensures) k in
+    let e = written .ensures ∙ written-is (route .result) in
+    let g : written .result ≤ length (route .last .1 .0 ++ drop (least .result) (replicate {A = ℕ} 2049 0)) = omega (arith, w, e, k, length-append (route .last .1 .0) (drop (least .result) (replicate {A = ℕ} 2049 0))) in
+    let h : 4 * written .result ≤ length (args .out .now) = omega (arith, w, e, l, least .ensures) in
+    (g, h)
 
 -- src/lib.rt:136:1
 same-length : tie.Need-same-length
@@ -52,7 +71,16 @@ same-length c = search needs
 
 -- src/lib.rt:136:1
 returns : tie.Need-returns
-returns c = let l : length (take (c .before .before .before .before .before .before .before .before .before .least .result) (replicate {A = ℕ} 2049 0)) ≡ c .before .before .before .before .before .before .before .before .before .least .result = length-take-le (c .before .before .before .before .before .before .before .before .before .least .result) (replicate {A = ℕ} 2049 0) (omega (arith, c .before .before .before .before .before .before .before .before .before .least .ensures, length-replicate {A = ℕ} 2049 0)) in let e = c .before .before .before .before .written .ensures ∙ written-is (c .before .before .before .before .before .before .before .route .result) in let f = into-bytes (sessionOf (c .before .before .before .before .before .before .before .before .before .before .before .args .s)) (drop (c .before .before .before .before .before .before .before .before .before .least .result) (replicate {A = ℕ} 2049 0)) (c .before .before .before .before .before .before .before .route .ensures) (l ∙ c .before .before .before .before .before .before .before .before .before .least .ensures) in rw (c .before .before .put-words .ensures, e) f
+returns c =
+    let at-put-words = c .before .before in let put-words = at-put-words .put-words in
+    let at-written = at-put-words .before .before in let written = at-written .written in
+    let at-route = at-written .before .before .before in let route = at-route .route in
+    let at-least = at-route .before .before in let least = at-least .least in
+    let at-args = at-least .before .before in let args = at-args .args in
+    let l : length (take (least .result) (replicate {A = ℕ} 2049 0)) ≡ least .result = length-take-le (least .result) (replicate {A = ℕ} 2049 0) (omega (arith, least .ensures, length-replicate {A = ℕ} 2049 0)) in
+    let e = written .ensures ∙ written-is (route .result) in
+    let f = into-bytes (sessionOf (args .s)) (drop (least .result) (replicate {A = ℕ} 2049 0)) (route .ensures) (l ∙ least .ensures) in
+    rw (put-words .ensures, e) f
 
 pub route-bytes-spec : {M : Type 1} → statement M
 route-bytes-spec =

@@ -26,11 +26,21 @@ enum-told c = search needs
 
 -- src/lib.rt:77:17
 wire-requires : tie.Need-wire-requires
-wire-requires c κs = let s = c .before .before .before .before .before .before .before .args .s in ((c .before .before .before .before .before .before .before .pre .0, none-overfull (sessionOf s) _ (pairs-of (s .nets)) (sym (c .before .enum-told .given .1) ∙ c .before .before .before .first-overfull .ensures)), c .before .before .before .before .before .before .before .pre .1)
+wire-requires c κs =
+    let at-enum-told = c .before in let the-enum-told = at-enum-told .enum-told in
+    let at-first-overfull = at-enum-told .before .before in let first-overfull = at-first-overfull .first-overfull in
+    let at-args = at-first-overfull .before .before .before .before in let args = at-args .args in let pre = at-args .pre in
+    let s = args .s in
+    ((pre .0, none-overfull (sessionOf s) _ (pairs-of (s .nets)) (sym (the-enum-told .given .1) ∙ first-overfull .ensures)), pre .1)
 
 -- src/lib.rt:66:1
 returns : tie.Need-returns
-returns c = let s = c .before .before .before .before .before .before .before .args .s in route-overfull (sessionOf s) _ (c .before .before .before .before .before .before .before .pre .0) (c .before .before .before .before .before .before .before .pre .1) _ (overfull-at (sessionOf s) _ (pairs-of (s .nets)) _ (sym (c .before .found .given .1) ∙ c .before .before .before .first-overfull .ensures))
+returns c =
+    let at-found = c .before in let found = at-found .found in
+    let at-first-overfull = at-found .before .before in let first-overfull = at-first-overfull .first-overfull in
+    let at-args = at-first-overfull .before .before .before .before in let args = at-args .args in let pre = at-args .pre in
+    let s = args .s in
+    route-overfull (sessionOf s) _ (pre .0) (pre .1) _ (overfull-at (sessionOf s) _ (pairs-of (s .nets)) _ (sym (found .given .1) ∙ first-overfull .ensures))
 
 -- src/lib.rt:66:1
 same-length : tie.Need-same-length
@@ -38,7 +48,13 @@ same-length c = search needs
 
 -- src/lib.rt:66:1
 returns-2 : tie.Need-returns-2
-returns-2 c = let s = c .before .before .before .before .before .before .before .before .before .before .args .s in route-given (sessionOf s) _ (c .before .before .before .before .before .before .before .before .before .before .pre .0) (none-overfull (sessionOf s) _ (pairs-of (s .nets)) (sym (c .before .before .before .before .enum-told .given .1) ∙ c .before .before .before .before .before .before .first-overfull .ensures)) (c .before .before .before .before .before .before .before .before .before .before .pre .1) (c .before .before .wire .ensures)
+returns-2 c =
+    let at-wire = c .before .before in let wire = at-wire .wire in
+    let at-enum-told = at-wire .before .before in let the-enum-told = at-enum-told .enum-told in
+    let at-first-overfull = at-enum-told .before .before in let first-overfull = at-first-overfull .first-overfull in
+    let at-args = at-first-overfull .before .before .before .before in let args = at-args .args in let pre = at-args .pre in
+    let s = args .s in
+    route-given (sessionOf s) _ (pre .0) (none-overfull (sessionOf s) _ (pairs-of (s .nets)) (sym (the-enum-told .given .1) ∙ first-overfull .ensures)) (pre .1) (wire .ensures)
 
 pub route-even-spec : {M : Type 1} → statement M
 route-even-spec =

@@ -25,7 +25,11 @@ use Rattle.writer.proofs.write_paths.Reads as write-paths-reads
 
 -- src/lib.rt:41:5
 fill-lines-requires : tie.Need-fill-lines-requires
-fill-lines-requires c κs = let a = c .before .before .before .before .before .args in let W = even-sound (sessionOf (a .s)) (c .before .before .before .before .before .pre .0 .0) .within in ((omega (arith, height-of (a .s .board), W .some), omega (arith, height-of (a .s .board), W .few)), (length-replicate {A = ℕ} 32 0, length-replicate {A = ℕ} 32 0))
+fill-lines-requires c κs =
+    let at-args = c .before .before .before .before .before in let args = at-args .args in let pre = at-args .pre in
+    let a = args in
+    let W = even-sound (sessionOf (a .s)) (pre .0 .0) .within in
+    ((omega (arith, height-of (a .s .board), W .some), omega (arith, height-of (a .s .board), W .few)), (length-replicate {A = ℕ} 32 0, length-replicate {A = ℕ} 32 0))
 
 -- src/lib.rt:47:9
 fill-table-requires : tie.Need-fill-table-requires
@@ -41,7 +45,14 @@ number-of-requires c κs = c .before .fill-table .ensures .1
 
 -- src/lib.rt:61:5
 cut-all-requires : tie.Need-cut-all-requires
-cut-all-requires c κs = let a = c .before .before .before .before .before .before .before .before .before .before .before .before .before .before .before .before .before .before .before .before .before .before .before .before .before .before .args in let W = even-sound (sessionOf (a .s)) (c .before .before .before .before .before .before .before .before .before .before .before .before .before .before .before .before .before .before .before .before .before .before .before .before .before .before .pre .0 .0) .within in (omega arith, omega (arith, c .before .before .before .before .before .before .before .before .before .before .before .before .before .wide .ensures, height-of (a .s .board), W .few), c .before .before .before .before .before .before .before .before .before .before .before .before .before .before .fill-table .ensures .1, omega (arith, c .before .before .before .before .before .before .before .before .before .before .before .before .number-of .ensures, c .before .before .before .before .before .before .before .before .before .before .before .before .before .before .fill-table .ensures .1), c .before .before .before .before .before .before .before .before .before .before .before .before .before .before .fill-table .ensures .0 .clear .low)
+cut-all-requires c κs =
+    let at-number-of = c .before .before .before .before .before .before .before .before .before .before .before .before in let number-of = at-number-of .number-of in
+    let at-wide = at-number-of .before in let wide = at-wide .wide in
+    let at-fill-table = at-wide .before in let fill-table = at-fill-table .fill-table in
+    let at-args = at-fill-table .before .before .before .before .before .before .before .before .before .before .before .before in let args = at-args .args in let pre = at-args .pre in
+    let a = args in
+    let W = even-sound (sessionOf (a .s)) (pre .0 .0) .within in
+    (omega arith, omega (arith, wide .ensures, height-of (a .s .board), W .few), fill-table .ensures .1, omega (arith, number-of .ensures, fill-table .ensures .1), fill-table .ensures .0 .clear .low)
 
 -- src/lib.rt:62:5
 write-paths-requires : tie.Need-write-paths-requires
@@ -53,7 +64,19 @@ same-length c = search needs
 
 -- src/lib.rt:32:1
 returns : tie.Need-returns
-returns c = let a = c .before .before .before .before .before .before .before .before .before .before .before .before .before .before .before .before .before .before .before .before .before .before .before .before .before .before .before .before .before .before .before .before .before .before .before .before .before .before .args in let s = sessionOf (a .s) in let E = c .before .before .before .before .before .before .before .before .before .before .before .before .before .before .before .before .before .before .before .before .before .before .before .before .before .before .before .before .before .before .before .before .before .before .before .before .before .before .pre .0 .0 in let T = table-as (pairs-of (a .s .nets)) (c .before .before .before .before .before .before .before .before .before .before .before .before .before .before .before .before .before .before .before .before .before .before .before .before .before .before .fill-table .ensures .0) in handed-back s (problem-of s (even-sound s E)) (E .even) (c .before .before .before .before .before .before .before .before .before .before .before .before .before .before .before .before .before .before .before .before .before .before .before .before .before .before .before .before .before .before .before .before .before .before .before .before .before .before .pre .0 .1) (c .before .before .before .before .before .before .before .before .before .before .before .before .before .before .before .before .before .before .before .before .before .before .before .before .before .wide .ensures ∙ sym (height-of (a .s .board))) (rw (c .before .before .before .before .before .before .before .before .before .before .before .before .before .before .before .before .before .before .before .before .before .before .before .before .before .wide .ensures) (c .before .before .before .before .before .before .before .before .before .before .before .before .before .before .before .before .before .before .before .before .before .before .before .before .before .before .before .before .before .before .before .before .fill-lines .ensures)) T (c .before .before .before .before .before .before .before .before .before .before .before .before .before .before .before .before .before .before .before .before .before .before .before .before .before .before .fill-table .ensures .1) _ (ap (λ (k : ℕ). record { top = 0; bottom = c .before .before .before .before .before .before .before .before .before .before .before .before .before .before .before .before .before .before .before .before .before .before .before .before .before .wide .result; up = false; n = c .before .before .before .before .before .before .before .before .before .before .before .before .before .before .before .before .before .before .before .before .before .before .before .before .before .before .fill-table .result; next = k; stuck = false }) (c .before .before .before .before .before .before .before .before .before .before .before .before .before .before .before .before .before .before .before .before .before .before .before .before .number-of .ensures)) (c .before .before .before .before .before .before .before .before .before .before .before .cut-all .ensures) (c .before .before .before .before .before .before .before .before .before .before .before .before .before .before .before .before .before .before .before .before .before .before .before .before .before .before .before .before .before .before .before .before .before .before .before .before .before .before .pre .1) (c .before .before .write-paths .ensures)
+returns c =
+    let at-write-paths = c .before .before in let write-paths = at-write-paths .write-paths in
+    let at-cut-all = at-write-paths .before .before .before .before .before .before .before .before .before in let cut-all = at-cut-all .cut-all in
+    let at-number-of = at-cut-all .before .before .before .before .before .before .before .before .before .before .before .before .before in let number-of = at-number-of .number-of in
+    let at-wide = at-number-of .before in let wide = at-wide .wide in
+    let at-fill-table = at-wide .before in let fill-table = at-fill-table .fill-table in
+    let at-fill-lines = at-fill-table .before .before .before .before .before .before in let fill-lines = at-fill-lines .fill-lines in
+    let at-args = at-fill-lines .before .before .before .before .before .before in let args = at-args .args in let pre = at-args .pre in
+    let a = args in
+    let s = sessionOf (a .s) in
+    let E = pre .0 .0 in
+    let T = table-as (pairs-of (a .s .nets)) (fill-table .ensures .0) in
+    handed-back s (problem-of s (even-sound s E)) (E .even) (pre .0 .1) (wide .ensures ∙ sym (height-of (a .s .board))) (rw (wide .ensures) (fill-lines .ensures)) T (fill-table .ensures .1) _ (ap (λ (k : ℕ). record { top = 0; bottom = wide .result; up = false; n = fill-table .result; next = k; stuck = false }) (number-of .ensures)) (cut-all .ensures) (pre .1) (write-paths .ensures)
 
 pub wire-spec : {M : Type 1} → statement M
 wire-spec =
