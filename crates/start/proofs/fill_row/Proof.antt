@@ -69,7 +69,8 @@ returns c =
     let at-word-of2 = c .before in let word-of2 = at-word-of2 .word-of2 in
     let at-word-of = at-word-of2 .before in let word-of = at-word-of .word-of in
     let at-args = at-word-of .before in let args = at-args .args in
-    record { la-is = ap (λ (x : ℕ). set (args .la .now) (args .k) x) (word-of .ensures); lb-is = ap (λ (x : ℕ). set (args .lb .now) (args .k) x) (word-of2 .ensures); ids-is = ap (λ (x : ℕ). set (args .ids .now) (args .k) x) (c .number-of .ensures); s1-is = ap (λ (x : ℕ). set (args .s1 .now) (args .k) x) (word-of .ensures); s2-is = ap (λ (x : ℕ). set (args .s2 .now) (args .k) x) (word-of2 .ensures) }
+    record
+    { la-is = ap (λ (x : ℕ). set (args .la .now) (args .k) x) (word-of .ensures); lb-is = ap (λ (x : ℕ). set (args .lb .now) (args .k) x) (word-of2 .ensures); ids-is = ap (λ (x : ℕ). set (args .ids .now) (args .k) x) (c .number-of .ensures); s1-is = ap (λ (x : ℕ). set (args .s1 .now) (args .k) x) (word-of .ensures); s2-is = ap (λ (x : ℕ). set (args .s2 .now) (args .k) x) (word-of2 .ensures) }
 
 pub fill-row-spec : {M : Type 1} → statement M
 fill-row-spec =

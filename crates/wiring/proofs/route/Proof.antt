@@ -65,7 +65,8 @@ returns-3 c =
     let at-sound = at-if1 .before in let sound = at-sound .sound in
     let at-args = at-sound .before .before in let args = at-args .args in
     let s = args .s in
-    route-odd (sessionOf s) _ (sym (sound .ensures .same) ∙ not-false (sound .result) (if1 .left)) (omega arith) _ (odd-at (sessionOf s) _ (pairs-of (s .nets)) _ (sym (odd .given .1) ∙ first-odd .ensures))
+    route-odd (sessionOf s) _ (sym (sound .ensures .same) ∙ not-false (sound .result) (if1 .left)) (omega arith) _
+    (odd-at (sessionOf s) _ (pairs-of (s .nets)) _ (sym (odd .given .1) ∙ first-odd .ensures))
 
 -- src/lib.rt:84:1
 same-length : tie.Need-same-length

@@ -41,9 +41,12 @@ slice-aggregate-put-words : tie.Need-slice-aggregate-put-words
 slice-aggregate-put-words c =
     let at-route = c .before .before in let route = at-route .route in
     let at-least = at-route .before .before in let least = at-least .least in
-    let l : length (take (least .result) (replicate {A = ℕ} 2049 0)) ≡ least .result = length-take-le (least .result) (replicate {A = ℕ} 2049 0) (omega (arith, least .ensures, length-replicate {A = ℕ} 2049 0)) in
+    let l : length (take (least .result) (replicate {A = ℕ} 2049 0)) ≡ least .result = length-take-le (least .result) (replicate {A = ℕ} 2049 0)
+    (omega (arith, least .ensures, length-replicate {A = ℕ} 2049 0)) in
     let k : length (route .last .1 .0) ≡ length (take (least .result) (replicate {A = ℕ} 2049 0)) = route .kept .1 .0 in
-    let g : 2049 ≡ length (route .last .1 .0 ++ drop (least .result) (replicate {A = ℕ} 2049 0)) = omega (arith, k, l, least .ensures, length-append (route .last .1 .0) (drop (least .result) (replicate {A = ℕ} 2049 0)), length-drop (least .result) (replicate {A = ℕ} 2049 0), length-replicate {A = ℕ} 2049 0) in
+    let g : 2049 ≡ length (route .last .1 .0 ++ drop (least .result) (replicate {A = ℕ} 2049 0)) = omega
+    (arith, k, l, least .ensures, length-append (route .last .1 .0) (drop (least .result) (replicate {A = ℕ} 2049 0)), length-drop (least .result) (replicate {A = ℕ} 2049 0), length-replicate {A = ℕ} 2049 0)
+    in
     g
 
 -- src/lib.rt:142:31
@@ -57,11 +60,13 @@ put-words-requires c κs =
     let at-route = at-written .before .before .before in let route = at-route .route in
     let at-least = at-route .before .before in let least = at-least .least in
     let at-args = at-least .before .before in let args = at-args .args in
-    let l : length (take (least .result) (replicate {A = ℕ} 2049 0)) ≡ least .result = length-take-le (least .result) (replicate {A = ℕ} 2049 0) (omega (arith, least .ensures, length-replicate {A = ℕ} 2049 0)) in
+    let l : length (take (least .result) (replicate {A = ℕ} 2049 0)) ≡ least .result = length-take-le (least .result) (replicate {A = ℕ} 2049 0)
+    (omega (arith, least .ensures, length-replicate {A = ℕ} 2049 0)) in
     let k : length (route .last .1 .0) ≡ length (take (least .result) (replicate {A = ℕ} 2049 0)) = route .kept .1 .0 in
     let w = count-fits (sessionOf (args .s)) (route .ensures) k in
     let e = written .ensures ∙ written-is (route .result) in
-    let g : written .result ≤ length (route .last .1 .0 ++ drop (least .result) (replicate {A = ℕ} 2049 0)) = omega (arith, w, e, k, length-append (route .last .1 .0) (drop (least .result) (replicate {A = ℕ} 2049 0))) in
+    let g : written .result ≤ length (route .last .1 .0 ++ drop (least .result) (replicate {A = ℕ} 2049 0)) = omega
+    (arith, w, e, k, length-append (route .last .1 .0) (drop (least .result) (replicate {A = ℕ} 2049 0))) in
     let h : 4 * written .result ≤ length (args .out .now) = omega (arith, w, e, l, least .ensures) in
     (g, h)
 
@@ -77,7 +82,8 @@ returns c =
     let at-route = at-written .before .before .before in let route = at-route .route in
     let at-least = at-route .before .before in let least = at-least .least in
     let at-args = at-least .before .before in let args = at-args .args in
-    let l : length (take (least .result) (replicate {A = ℕ} 2049 0)) ≡ least .result = length-take-le (least .result) (replicate {A = ℕ} 2049 0) (omega (arith, least .ensures, length-replicate {A = ℕ} 2049 0)) in
+    let l : length (take (least .result) (replicate {A = ℕ} 2049 0)) ≡ least .result = length-take-le (least .result) (replicate {A = ℕ} 2049 0)
+    (omega (arith, least .ensures, length-replicate {A = ℕ} 2049 0)) in
     let e = written .ensures ∙ written-is (route .result) in
     let f = into-bytes (sessionOf (args .s)) (drop (least .result) (replicate {A = ℕ} 2049 0)) (route .ensures) (l ∙ least .ensures) in
     rw (put-words .ensures, e) f

@@ -49,7 +49,8 @@ cut-all-requires c κs =
     let at-number-of = c .before .before .before .before .before .before .before .before .before .before .before .before in let number-of = at-number-of .number-of in
     let at-wide = at-number-of .before in let wide = at-wide .wide in
     let at-fill-table = at-wide .before in let fill-table = at-fill-table .fill-table in
-    let at-args = at-fill-table .before .before .before .before .before .before .before .before .before .before .before .before in let args = at-args .args in let pre = at-args .pre in
+    let at-args = at-fill-table .before .before .before .before .before .before .before .before .before .before .before .before in let args = at-args .args in let pre =
+    at-args .pre in
     let a = args in
     let W = even-sound (sessionOf (a .s)) (pre .0 .0) .within in
     (omega arith, omega (arith, wide .ensures, height-of (a .s .board), W .few), fill-table .ensures .1, omega (arith, number-of .ensures, fill-table .ensures .1), fill-table .ensures .0 .clear .low)
@@ -67,7 +68,8 @@ returns : tie.Need-returns
 returns c =
     let at-write-paths = c .before .before in let write-paths = at-write-paths .write-paths in
     let at-cut-all = at-write-paths .before .before .before .before .before .before .before .before .before in let cut-all = at-cut-all .cut-all in
-    let at-number-of = at-cut-all .before .before .before .before .before .before .before .before .before .before .before .before .before in let number-of = at-number-of .number-of in
+    let at-number-of = at-cut-all .before .before .before .before .before .before .before .before .before .before .before .before .before in let number-of = at-number-of
+    .number-of in
     let at-wide = at-number-of .before in let wide = at-wide .wide in
     let at-fill-table = at-wide .before in let fill-table = at-fill-table .fill-table in
     let at-fill-lines = at-fill-table .before .before .before .before .before .before in let fill-lines = at-fill-lines .fill-lines in
@@ -76,7 +78,10 @@ returns c =
     let s = sessionOf (a .s) in
     let E = pre .0 .0 in
     let T = table-as (pairs-of (a .s .nets)) (fill-table .ensures .0) in
-    handed-back s (problem-of s (even-sound s E)) (E .even) (pre .0 .1) (wide .ensures ∙ sym (height-of (a .s .board))) (rw (wide .ensures) (fill-lines .ensures)) T (fill-table .ensures .1) _ (ap (λ (k : ℕ). record { top = 0; bottom = wide .result; up = false; n = fill-table .result; next = k; stuck = false }) (number-of .ensures)) (cut-all .ensures) (pre .1) (write-paths .ensures)
+    handed-back s (problem-of s (even-sound s E)) (E .even) (pre .0 .1) (wide .ensures ∙ sym (height-of (a .s .board))) (rw (wide .ensures) (fill-lines .ensures)) T
+    (fill-table .ensures .1) _
+    (ap (λ (k : ℕ). record { top = 0; bottom = wide .result; up = false; n = fill-table .result; next = k; stuck = false }) (number-of .ensures)) (cut-all .ensures)
+    (pre .1) (write-paths .ensures)
 
 pub wire-spec : {M : Type 1} → statement M
 wire-spec =
