@@ -6,5 +6,4 @@ pub mod Walk
 pub mod Report
 pub mod Judge
 pub mod Route
-pub mod History
 pub mod Editor

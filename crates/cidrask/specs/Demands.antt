@@ -1,24 +1,17 @@
--- OPEN THIS FILE FIRST: the three demands as statements, in the demands' own words. Laws has their proofs: `demand-1`, `demand-2`, `demand-3`.
+-- OPEN THIS FILE FIRST: the three demands as statements, in the demands' own words. Laws proves them: `demand-1`, `demand-2`, `demand-3`.
 --
--- Each statement speaks of exactly what the code's contracts promise, so that nothing stands between it and the code. The contracts are:
---   add, withdraw, take_back (crate session)      AddPromise, WithdrawPromise, TakeBackPromise
---   fresh, blank, sound (session)                 FreshPromise, BlankPromise, Decides .. Sound
---   read_words, read_bytes (reading)              ReadPromise of readWords, readBytes
---   write_board (writing)                         WritePromise
---   judge_words, judge_bytes, compare_words (judging)   judgementOf r ≡ judgeWords .., judgeBytes ..; likenessOf r ≡ compareWords ..
---   route, route_bytes (wiring)                   Routes, RoutesBytes
---   cidrask_route, cidrask_judge (editor, for C)  RoutePromise, JudgePromise
---   is_convex, within (convex)                    Decides .. (Within × Convex), Decides .. Within
--- That every call ends is part of every contract. Nothing is proved in this file.
+-- Each statement takes a call's promise and says what it means. The promises are those of src/lib.rt beside this file, where every call stands
+-- with its contract, and of crate editor for C; the checker holds the code to them, and to ending on every input.
+-- Nothing is proved in this file.
 use mathlib.Core.Path.{_≡_}
 use mathlib.Core.Bool.{Bool, true}
 use mathlib.Core.List.{List}
 use mathlib.Core.Logic.{_↔_}
 use mathlib.Core.Option.{Option, none, some}
-use Prim.Native.Nat.{ℕ, _≤_}
+use Prim.Native.Nat.{ℕ, _/_, _≤_, _<_}
 use lib.ListN.{length, take}
 use Rattle.count.specs.Truth.{Decides}
-use Rattle.board.specs.Board.{Within}
+use Rattle.board.specs.Board.{Board, Within}
 use Rattle.board.specs.Path.{Convex}
 use Rattle.board.specs.View.{boardOf}
 use Rattle.board.specs.declared.Board as code-board
@@ -27,9 +20,11 @@ use Rattle.convex.specs.Test.{isConvex}
 use Rattle.net.specs.declared.Net.{Net}
 use Rattle.routing.specs.Routing.{Routing}
 use Rattle.machine.specs.Refusal.{Refusal}
+use Rattle.machine.specs.Machine as calls
 use Rattle.machine.specs.Machine.{accepted}
+use Rattle.machine.specs.Session as machine
 use Rattle.machine.specs.Session.{pairs}
-use Rattle.machine.specs.Sound.{Sound, blank}
+use Rattle.machine.specs.Sound.{Sound, Fresh, bare, blank, call}
 use Rattle.session.specs.declared.Session.{Session}
 use Rattle.session.specs.declared.AfterAdd.{AfterAdd}
 use Rattle.session.specs.declared.AfterWithdraw.{AfterWithdraw}
@@ -40,35 +35,53 @@ use Rattle.session.specs.Answers.{withdrawAnswer, takeBackAnswer}
 use Rattle.session.specs.Promise.{AddPromise, WithdrawPromise, TakeBackPromise, FreshPromise}
 use Rattle.words.specs.RoutingWord.{routingWords}
 use Rattle.calls.specs.Result.{Result, no, yes}
-use Rattle.calls.specs.Reading.{readWords}
-use Rattle.calls.specs.Writing.{writtenInto}
+use Rattle.calls.specs.Reading.{readWords, handedBack}
+use Rattle.calls.specs.Writing.{writeBoard, countOf, bufferAfter, writtenInto}
 use Rattle.calls.specs.Report.{Report}
 use Rattle.calls.specs.Judge.{judgeWords}
-use Rattle.calls.specs.Route.{Routes, RoutesBytes}
+use Rattle.calls.specs.Route.{routeRefused, HandsBack, HandsBackBytes, Routes, RoutesBytes}
 use Rattle.reading.specs.declared.AfterRead.{AfterRead}
-use Rattle.reading.specs.Promise.{readAnswer, ReadPromise}
+use Rattle.reading.specs.Promise.{readAnswer, refusalIn, ReadPromise}
 use Rattle.writing.specs.declared.WriteAnswer.{WriteAnswer}
 use Rattle.writing.specs.Promise.{writeAnswer, WritePromise}
 use Rattle.judging.specs.declared.Judgement.{Judgement}
 use Rattle.judging.specs.Answers.{judgementOf}
+use Rattle.wiring.specs.declared.RouteAnswer.{RouteAnswer}
+use Rattle.wiring.specs.Answers.{routeAnswer}
+use Rattle.editor.specs.Told.{RoutePromise}
 use Rattle.history.specs.Made.{Made, Chain}
 use Rattle.history.specs.Routing as history
 
 -- ── 1 ──
--- "Every accepted call .. gives exactly what document 01 lays down for its input, or, for a routing, one of those allowed there": the promises
--- above, which are equations with definitions. Refused calls:
+-- "Every accepted call .. gives exactly what document 01 lays down for its input, or, for a routing, one of those allowed there. Every refused
+-- call gives its number and place from the table, with the session and each lent buffer the same as before."
+-- In each field: the answer is the definition's, number and place included; what is handed back is the definition's; a refusal changes nothing.
 pub record Demand1 : Type 0 where
-  -- "Every refused call gives its number and place from the table, with the session .. the same as before;
-  pub add : (s : Session) (n : Net) (r : AfterAdd) → AddPromise s n r → (addAnswer (r .answer) ≡ accepted → ⊥) → r .session ≡ s
-  pub withdraw : (s : Session) (k : ℕ) (r : AfterWithdraw) → WithdrawPromise s k r → (withdrawAnswer (r .answer) ≡ accepted → ⊥) → r .session ≡ s
-  pub take-back : (s : Session) (r : AfterTakeBack) → TakeBackPromise s r → (takeBackAnswer (r .answer) ≡ accepted → ⊥) → r .session ≡ s
-  -- and each lent buffer the same as before;
-  pub write : (s : Session) (before : List ℕ) (r : WriteAnswer) (after : List ℕ) (x : Refusal) → WritePromise (sessionOf s) before r after
-      → writeAnswer r ≡ no x → after ≡ before
-  pub route : (s : Session) (before after : List ℕ) (x : Refusal) → Routes (sessionOf s) before (no x) after → after ≡ before
-  pub route-bytes : (s : Session) (before after : List ℕ) (x : Refusal) → RoutesBytes (sessionOf s) before (no x) after → after ≡ before
-  -- a refused reading, which is given no session, hands back the blank one."
-  pub read : (ws : List ℕ) (r : AfterRead) (x : Refusal) → ReadPromise (readWords ws) r → readAnswer (r .answer) ≡ some x → sessionOf (r .session) ≡ blank
+  pub add : (s : Session) (n : Net) (r : AfterAdd) → AddPromise s n r
+      → (addAnswer (r .answer) ≡ call (sessionOf s) (calls.add n) .answer) × (sessionOf (r .session) ≡ call (sessionOf s) (calls.add n) .next)
+      × ((addAnswer (r .answer) ≡ accepted → ⊥) → r .session ≡ s)
+  pub withdraw : (s : Session) (k : ℕ) (r : AfterWithdraw) → WithdrawPromise s k r
+      → (withdrawAnswer (r .answer) ≡ call (sessionOf s) (calls.withdraw k) .answer) × (sessionOf (r .session) ≡ call (sessionOf s) (calls.withdraw k) .next)
+      × ((withdrawAnswer (r .answer) ≡ accepted → ⊥) → r .session ≡ s)
+  pub take-back : (s : Session) (r : AfterTakeBack) → TakeBackPromise s r
+      → (takeBackAnswer (r .answer) ≡ call (sessionOf s) calls.takeBack .answer) × (sessionOf (r .session) ≡ call (sessionOf s) calls.takeBack .next)
+      × ((takeBackAnswer (r .answer) ≡ accepted → ⊥) → r .session ≡ s)
+  -- "a refused reading, which is given no session, hands back the blank one": x is readWords or readBytes of the input
+  pub read : (x : Result machine.Session) (r : AfterRead) → ReadPromise x r
+      → (readAnswer (r .answer) ≡ refusalIn x) × (sessionOf (r .session) ≡ handedBack x) × ((q : Refusal) → x ≡ no q → sessionOf (r .session) ≡ blank)
+  pub write : (s : Session) (before : List ℕ) (r : WriteAnswer) (after : List ℕ) → WritePromise (sessionOf s) before r after
+      → (writeAnswer r ≡ countOf (writeBoard (sessionOf s) (length before))) × (after ≡ bufferAfter before (writeBoard (sessionOf s) (length before)))
+      × ((q : Refusal) → writeAnswer r ≡ no q → after ≡ before)
+  -- judging and comparing are lent nothing to write to: their promises are the equations judgementOf r ≡ judgeWords .. and so on, of src/lib.rt
+  pub route : (s : Session) (before : List ℕ) (r : RouteAnswer) (after : List ℕ) → Routes (sessionOf s) before (routeAnswer r) after
+      → ((q : Refusal) → routeRefused (sessionOf s) (length before) ≡ some q → (routeAnswer r ≡ no q) × (after ≡ before))
+      × (routeRefused (sessionOf s) (length before) ≡ none → (n : ℕ) × (routeAnswer r ≡ yes n) × HandsBack (sessionOf s) before after n)
+  pub route-bytes : (s : Session) (before : List ℕ) (r : RouteAnswer) (after : List ℕ) → RoutesBytes (sessionOf s) before (routeAnswer r) after
+      → ((q : Refusal) → routeRefused (sessionOf s) (length before / 4) ≡ some q → (routeAnswer r ≡ no q) × (after ≡ before))
+      × (routeRefused (sessionOf s) (length before / 4) ≡ none → (n : ℕ) × (routeAnswer r ≡ yes n) × HandsBackBytes (sessionOf s) before after n)
+  -- for C: a result above 0 leaves the buffer as it was
+  pub c-route : (board before : List ℕ) (number first second : ℕ) (after : List ℕ) → RoutePromise board before number first second after
+      → 0 < number → after ≡ before
 
 -- ── 2 ──
 -- the words are those of a routing of the session's nets, which has the paths dss
@@ -78,15 +91,18 @@ pub record IsRouting (s : Session) (ws : List ℕ) (dss : List (List Direction))
 
 pub record Demand2 : Type 0 where
   -- "A board is taken as convex exactly when any two of its vertices are joined inside it by a path with at most one bend."
+  -- (reading refuses with 16, and a session is unsound, by the same test isConvex)
   pub convex : (b : code-board.Board) (r : Bool) → Decides r (isConvex (boardOf b)) (Within (boardOf b) × Convex (boardOf b)) → Within (boardOf b)
       → (r ≡ true) ↔ Convex (boardOf b)
+  pub taken : (b : Board) → Within b → (isConvex b ≡ true) ↔ Convex b
   -- "A word list passes exactly when it has the shape of 01's routing words and its paths are a routing of the board's nets as 01 defines it."
   pub passes : (s : Session) (ws : List ℕ) (r : Judgement) → Sound (sessionOf s) → judgementOf r ≡ judgeWords (sessionOf s) ws
       → ((x : Report) × (judgementOf r ≡ yes x)) ↔ ((dss : List (List Direction)) × IsRouting s ws dss)
   -- "A session written as words reads back with the same board and nets,
-  pub reads-back : (s : Session) (before : List ℕ) (w : WriteAnswer) (after : List ℕ) (n : ℕ) (r : AfterRead) → WritePromise (sessionOf s) before w after
-      → writeAnswer w ≡ yes n → ReadPromise (readWords (take n after)) r
-      → (readAnswer (r .answer) ≡ none) × (sessionOf (r .session) .board ≡ sessionOf s .board) × (sessionOf (r .session) .nets ≡ sessionOf s .nets)
+  pub reads-back : (s : Session) (before : List ℕ) (w : WriteAnswer) (after : List ℕ) → Sound (sessionOf s) → 96 ≤ length before
+      → WritePromise (sessionOf s) before w after
+      → (n : ℕ) × (writeAnswer w ≡ yes n) × ((r : AfterRead) → ReadPromise (readWords (take n after)) r
+      → (readAnswer (r .answer) ≡ none) × (sessionOf (r .session) .board ≡ sessionOf s .board) × (sessionOf (r .session) .nets ≡ sessionOf s .nets))
   -- and accepted words write back as the same words."
   pub writes-back : (ws : List ℕ) (r : AfterRead) (before : List ℕ) (w : WriteAnswer) (after : List ℕ) → ReadPromise (readWords ws) r
       → readAnswer (r .answer) ≡ none → 96 ≤ length before → WritePromise (sessionOf (r .session)) before w after
@@ -94,7 +110,8 @@ pub record Demand2 : Type 0 where
 
 -- ── 3 ──
 -- "For every list of adds, withdrawals, take-backs and routing calls, refused ones included, from a fresh session on any convex board": what then
--- holds is `Demand3` of crate history, file Routing, in the demand's own words.
-abbrev pub Demand3 : Type 0
-Demand3 = (b : code-board.Board) (s : Session) (calls : List Made) → Within (boardOf b) → Convex (boardOf b) → FreshPromise b s → Chain s calls
-    → history.Demand3 b s calls
+-- holds is `Demand3` of crate history, file Routing, in the demand's own words. A session that `fresh` hands back on a convex board is fresh.
+pub record Demand3 : Type 0 where
+  pub whole : (s : Session) (calls : List Made) → Fresh (sessionOf s) → Chain s calls → history.Demand3 s calls
+  pub start : (b : code-board.Board) (s : Session) → Within (boardOf b) → Convex (boardOf b) → FreshPromise b s
+      → Fresh (sessionOf s) × (sessionOf s ≡ bare (boardOf b))

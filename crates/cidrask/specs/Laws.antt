@@ -4,16 +4,17 @@ use mathlib.Core.Path.{_≡_, refl, ap, sym, _∙_, subst}
 use mathlib.Core.Bool.{true}
 use mathlib.Core.List.{List, [], _∷_}
 use mathlib.Core.Option.{Option, none, some}
-use Prim.Native.Nat.{ℕ, _<_, _≤_}
+use Prim.Native.Nat.{ℕ, _/_, _<_, _≤_}
 use native.Mathlib.Omega.{arith}
 use lib.ListN.{length, take}
+use borrow.Author.Tests.{le-ltb}
 use Rattle.board.specs.Board.{Board}
 use Rattle.board.specs.declared.Direction.{Direction}
 use Rattle.net.specs.declared.Net.{Net}
 use Rattle.machine.specs.Refusal.{Refusal}
 use Rattle.machine.specs.Session as machine
 use Rattle.machine.specs.Session.{pairs}
-use Rattle.machine.specs.Sound.{Sound, blank}
+use Rattle.machine.specs.Sound.{Sound}
 use Rattle.soundness.specs.Exact.{sound-exact}
 use Rattle.soundness.specs.Fine.{AllGood}
 use Rattle.soundness.specs.Stays.{sound-fine}
@@ -23,7 +24,12 @@ use Rattle.calls.specs.Reading.{readWords, handedBack}
 use Rattle.calls.specs.Writing.{boardWords, writeBoard, countOf, bufferAfter, writtenInto}
 use Rattle.calls.specs.Report.{Report, reportOf}
 use Rattle.calls.specs.Judge.{judged, judgeWords}
-use Rattle.calls.specs.Route.{Routes, RoutesBytes, refused, given}
+use Rattle.calls.specs.Route.{routeRefused, HandsBack, HandsBackBytes, Routes, RoutesBytes, refused, given}
+use Rattle.calls.specs.Editor.{EditorRoutes, unread, read}
+use Rattle.wiring.specs.Answers.{routeAnswer}
+use Rattle.editor.specs.Told.{routeTold}
+use Rattle.editor.specs.declared.Told.{Told}
+use Rattle.convex.specs.Exact.{is-convex}
 use Rattle.reading.specs.Promise.{readAnswer, refusalIn, ReadPromise}
 use Rattle.reading.specs.declared.AfterRead.{AfterRead}
 use Rattle.writing.specs.Promise.{writeAnswer, WritePromise}
@@ -40,27 +46,55 @@ buffer-kept : (before : List ℕ) (x : Result (List ℕ)) (r : Refusal) → coun
 buffer-kept before (no q) r e = refl
 buffer-kept before (yes ws) r e = absurd (let z : _≡_ {A = ℕ} 0 1 = cc in omega arith)
 
-route-kept : (s : machine.Session) (before after : List ℕ) (a : Result ℕ) (x : Refusal) → a ≡ no x → Routes s before a after → after ≡ before
-route-kept s before after a x e (refused f) = refl
-route-kept s before after a x e (given f H) = absurd (let z : _≡_ {A = ℕ} 0 1 = cc in omega arith)
+-- a routing call, by what the definition refuses
+by-refusal : (s : machine.Session) (before after : List ℕ) (a : Result ℕ) → Routes s before a after
+    → ((q : Refusal) → routeRefused s (length before) ≡ some q → (a ≡ no q) × (after ≡ before))
+    × (routeRefused s (length before) ≡ none → (n : ℕ) × (a ≡ yes n) × HandsBack s before after n)
+by-refusal s before after a (refused {r} e) = (
+  λ q f. (ap no (let g : some r ≡ some q = sym e ∙ f in cc), refl),
+  λ f. absurd (let g : some r ≡ none = sym e ∙ f in let z : _≡_ {A = ℕ} 0 1 = cc in omega arith),
+)
+by-refusal s before after a (given {count = n} e H) = (
+  λ q f. absurd (let g : none ≡ some q = sym e ∙ f in let z : _≡_ {A = ℕ} 0 1 = cc in omega arith),
+  λ f. (n, refl, H),
+)
 
-bytes-kept : (s : machine.Session) (before after : List ℕ) (a : Result ℕ) (x : Refusal) → a ≡ no x → RoutesBytes s before a after → after ≡ before
-bytes-kept s before after a x e (refused f) = refl
-bytes-kept s before after a x e (given f H) = absurd (let z : _≡_ {A = ℕ} 0 1 = cc in omega arith)
+by-refusal-bytes : (s : machine.Session) (before after : List ℕ) (a : Result ℕ) → RoutesBytes s before a after
+    → ((q : Refusal) → routeRefused s (length before / 4) ≡ some q → (a ≡ no q) × (after ≡ before))
+    × (routeRefused s (length before / 4) ≡ none → (n : ℕ) × (a ≡ yes n) × HandsBackBytes s before after n)
+by-refusal-bytes s before after a (refused {r} e) = (
+  λ q f. (ap no (let g : some r ≡ some q = sym e ∙ f in cc), refl),
+  λ f. absurd (let g : some r ≡ none = sym e ∙ f in let z : _≡_ {A = ℕ} 0 1 = cc in omega arith),
+)
+by-refusal-bytes s before after a (given {count = n} e H) = (
+  λ q f. absurd (let g : none ≡ some q = sym e ∙ f in let z : _≡_ {A = ℕ} 0 1 = cc in omega arith),
+  λ f. (n, refl, H),
+)
 
-read-blank : (y : Result machine.Session) (x : Refusal) → refusalIn y ≡ some x → handedBack y ≡ blank
-read-blank (no r) x e = refl
-read-blank (yes s) x e = absurd (let z : _≡_ {A = ℕ} 0 1 = cc in omega arith)
+-- C is told 0 where a routing is handed back
+bytes-kept : (s : machine.Session) (before after : List ℕ) (a : Result ℕ) → 0 < routeTold a .number → RoutesBytes s before a after → after ≡ before
+bytes-kept s before after a h (refused f) = refl
+bytes-kept s before after a h (given f H) = absurd (omega arith)
+
+c-kept : (board before after : List ℕ) (a : Result ℕ) → 0 < routeTold a .number → EditorRoutes board before a after → after ≡ before
+c-kept board before after a h (unread e) = refl
+c-kept board before after a h (read {s = s} e R) = bytes-kept s before after a h R
 
 pub demand-1 : Demand1
 demand-1 = record {
-  add = λ s n r P h. P .kept h;
-  withdraw = λ s k r P h. P .kept h;
-  take-back = λ s r P h. P .kept h;
-  write = λ s before r after x P e. P .buffer ∙ buffer-kept before (writeBoard (sessionOf s) (length before)) x (sym (P .answers) ∙ e);
-  route = λ s before after x R. route-kept (sessionOf s) before after (no x) x refl R;
-  route-bytes = λ s before after x R. bytes-kept (sessionOf s) before after (no x) x refl R;
-  read = λ ws r x P e. P .session ∙ read-blank (readWords ws) x (sym (P .answers) ∙ e);
+  add = λ s n r P. (P .answers, P .next, P .kept);
+  withdraw = λ s k r P. (P .answers, P .next, P .kept);
+  take-back = λ s r P. (P .answers, P .next, P .kept);
+  read = λ x r P. (P .answers, P .session, λ q e. P .session ∙ ap handedBack e);
+  write = λ s before r after P. (
+    P .answers,
+    P .buffer,
+    λ q e. P .buffer ∙ buffer-kept before (writeBoard (sessionOf s) (length before)) q (sym (P .answers) ∙ e),
+  );
+  route = λ s before r after R. by-refusal (sessionOf s) before after (routeAnswer r) R;
+  route-bytes = λ s before r after R. by-refusal-bytes (sessionOf s) before after (routeAnswer r) R;
+  c-route = λ board before number first second after P h.
+      c-kept board before after (P .result) (subst (λ (t : Told). 0 < t .number) (P .told) h) (P .routes);
 }
 
 -- ── 2 ──
@@ -86,8 +120,13 @@ accepted-as (yes s) r P e = ap yes (sym (P .session))
 read-as : (y : Result machine.Session) (s : machine.Session) (r : AfterRead) → y ≡ yes s → ReadPromise y r → (readAnswer (r .answer) ≡ none) × (sessionOf (r .session) ≡ s)
 read-as y s r e P = (P .answers ∙ ap refusalIn e, P .session ∙ ap handedBack e)
 
+written-yes : (m : machine.Session) (room : ℕ) → Sound m → 96 ≤ room → writeBoard m room ≡ yes (boardWords m)
+unfolding writeBoard
+written-yes m room S l = rw (sound-exact m .1 S, le-ltb room 96 l) refl
+
 pub demand-2 : Demand2
 demand-2 = record {
+  taken = λ b W. let X = is-convex b in (λ e. X .0 e .1, λ C. X .1 (W, C));
   convex = λ b r D W. (λ e. D .exact .0 e .1, λ C. D .exact .1 (W, C));
   passes = λ s ws r S e.
       let m = sessionOf s in let F = sound-fine m S in
@@ -97,11 +136,17 @@ demand-2 = record {
         λ k. let q = X (k .0) .1 (record { routing = k .1 .routing; words = k .1 .words }) in
             (reportOf (pairs (m .nets)) (k .0), j ∙ ap (λ (y : Result (List (List Direction))). andThen y (λ dss. yes (reportOf (pairs (m .nets)) dss))) q),
       );
-  reads-back = λ s before w after n r W e P.
+  reads-back = λ s before w after S l W.
       let m = sessionOf s in
-      let f = buffer-reads m before n (sym (W .answers) ∙ e) in
-      let k = read-as (readWords (take n after)) (unpiled m) r (ap (λ (l : List ℕ). readWords (take n l)) (W .buffer) ∙ f) P in
-      (k .0, ap (λ (t : machine.Session). t .board) (k .1), ap (λ (t : machine.Session). t .nets) (k .1));
+      let y : writeBoard m (length before) ≡ yes (boardWords m) = written-yes m (length before) S l in
+      let c : countOf (writeBoard m (length before)) ≡ yes (length (boardWords m)) = ap countOf y in (
+        length (boardWords m),
+        W .answers ∙ c,
+        λ r P.
+            let f = buffer-reads m before (length (boardWords m)) c in
+            let k = read-as (readWords (take (length (boardWords m)) after)) (unpiled m) r (ap (λ (t : List ℕ). readWords (take (length (boardWords m)) t)) (W .buffer) ∙ f) P in
+            (k .0, ap (λ (t : machine.Session). t .board) (k .1), ap (λ (t : machine.Session). t .nets) (k .1)),
+      );
   writes-back = λ ws r before w after P e l W.
       let m = sessionOf (r .session) in
       let f = read-written ws m (length before) l (accepted-as (readWords ws) r P e) in
@@ -110,4 +155,7 @@ demand-2 = record {
 
 -- ── 3 ──
 pub demand-3 : Demand3
-demand-3 b s calls w c p k = history.demand-3 b s calls w c p k
+demand-3 = record {
+  whole = λ s calls F k. history.demand-3 s calls F k;
+  start = λ b s W C P. (P .fresh W C, P .bare);
+}

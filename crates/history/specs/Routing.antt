@@ -11,10 +11,7 @@ use native.Mathlib.Omega.{arith}
 use lib.ListN.{length}
 use borrow.Author.Tests.{le-ltb}
 use Rattle.count.specs.Lists.{head-none}
-use Rattle.board.specs.Board.{Within, IsVertex}
-use Rattle.board.specs.Path.{Convex}
-use Rattle.board.specs.View.{boardOf}
-use Rattle.board.specs.declared.Board as code-board
+use Rattle.board.specs.Board.{IsVertex}
 use Rattle.board.specs.declared.Vertex.{Vertex}
 use Rattle.cut.specs.Cut.{overfullCuts}
 use Rattle.cut.specs.Odd.{oddVertices}
@@ -30,13 +27,12 @@ use Rattle.machine.specs.Sound.{Sound, sound?, Fresh, bare}
 use Rattle.soundness.specs.Exact.{sound-exact}
 use Rattle.session.specs.declared.Session as code
 use Rattle.session.specs.View.{sessionOf}
-use Rattle.session.specs.Promise.{FreshPromise}
 use Rattle.calls.specs.Result.{Result, no, yes}
 use Rattle.calls.specs.Route.{overfullRefusal, overfullRefused, routeRefused, HandsBack, HandsBackBytes, Routes, RoutesBytes, refused, given}
 use Rattle.wiring.specs.Answers.{routeAnswer}
 use Rattle.wiring.specs.Sessions.{problem-of}
 use Rattle.history.specs.Made.{Made, added, withdrew, tookBack, routed, routedBytes, Meets, Chain, last, callsOf, answersOf, Everywhere}
-use Rattle.history.specs.History.{history, everywhere}
+use Rattle.history.specs.History.{as-the-machine, everywhere}
 
 -- ── DEFINITIONS ──
 -- "while every vertex's degree plus its terminals is even"
@@ -58,13 +54,13 @@ RoutedRightly m (added n r) = Unit {0}
 RoutedRightly m (withdrew k r) = Unit {0}
 RoutedRightly m (tookBack r) = Unit {0}
 
--- the whole of demand 3, for the calls ms from a fresh session s on the board b
-pub record Demand3 (b : code-board.Board) (s : code.Session) (ms : List Made) : Type 0 where
+-- the whole of demand 3, for the calls ms from the fresh session s: the machine starts with its board, no nets and an empty pile
+pub record Demand3 (s : code.Session) (ms : List Made) : Type 0 where
   -- "after it the board, nets and pile are those of 01's list machine,
-  pub session : sessionOf (last s ms) ≡ after (bare (boardOf b)) (callsOf ms)
+  pub session : sessionOf (last s ms) ≡ after (bare (sessionOf s .board)) (callsOf ms)
   -- and each add, withdrawal and take-back was answered as the machine answers."
-  pub answered : answersOf ms ≡ answers (bare (boardOf b)) (callsOf ms)
-  pub routings : Everywhere RoutedRightly (bare (boardOf b)) ms
+  pub answered : answersOf ms ≡ answers (bare (sessionOf s .board)) (callsOf ms)
+  pub routings : Everywhere RoutedRightly (bare (sessionOf s .board)) ms
 
 -- ── one routing call ──
 module _ (m : Session) (S : Sound m) (E : AllEven m) {room : ℕ} (long : 2049 ≤ room) where
@@ -118,10 +114,14 @@ each s (withdrew j r) S k = tt
 each s (tookBack r) S k = tt
 
 -- ── demand 3 ──
-pub demand-3 : (b : code-board.Board) (s : code.Session) (ms : List Made) → Within (boardOf b) → Convex (boardOf b) → FreshPromise b s → Chain s ms → Demand3 b s ms
-demand-3 b s ms w c p k =
-    let h = history b s ms w c p k in record {
-      session = h .1;
-      answered = h .2;
-      routings = rw (← p .bare) (everywhere RoutedRightly each s ms (p .fresh w c .sound) k);
+-- a fresh session is the machine's start
+fresh-bare : (m : Session) → Fresh m → m ≡ bare (m .board)
+fresh-bare m F = λ i. record { board = m .board; nets = F .no-nets i; pile = F .no-pile i }
+
+pub demand-3 : (s : code.Session) (ms : List Made) → Fresh (sessionOf s) → Chain s ms → Demand3 s ms
+demand-3 s ms F k =
+    let e = fresh-bare (sessionOf s) F in let h = as-the-machine s ms F k in record {
+      session = rw (← e) (h .session);
+      answered = rw (← e) (h .answer);
+      routings = rw (← e) (everywhere RoutedRightly each s ms (F .sound) k);
     }
