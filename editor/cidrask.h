@@ -4,8 +4,9 @@
  * Both functions are proved: they end on every input, read and write nothing but what they are lent, and keep no state between calls.
  *
  * The caller sees to this:
- *   - each pointer goes with a length and may be read (or written) for that many bytes, also where the length is 0;
- *     it is not NULL, and no length is above PTRDIFF_MAX;
+ *   - a pointer to bytes goes with a length, and may be read (or written) for that many bytes; it is not NULL, also where the length is 0,
+ *     and no length is above PTRDIFF_MAX;
+ *   - first, second and third each point to a uint64_t that may be written;
  *   - what a call writes to (the buffer and the numbers) overlaps nothing else that the call is lent;
  *   - no other thread writes to what is lent while the call runs.
  *

@@ -11,7 +11,7 @@
 
 #include "cidrask.h"
 
-enum { LINES = 32, WORDS = 2049, BOARD_BYTES = 4 * 97 };
+enum { LINES = 32, WORDS = 2049, LONGEST = 4 * 97 };
 
 static const char signs[] = "?123456789ABCDEFGHIJKLMNOPQRSTUVWXYZabcdefghijklmnopqrstuvwxyz#@&";
 
@@ -114,8 +114,17 @@ static int refused(uint32_t number, uint64_t first, uint64_t second) {
     return 1;
 }
 
+/* Reads the file's bytes. A file of more than 97 words is refused whatever it holds: of its bytes 97 words are kept, and as many more as tell whether
+ * their count is a multiple of 4. */
+static size_t read_board(FILE *f, uint8_t board[LONGEST + 3]) {
+    size_t length = fread(board, 1, LONGEST, f), more = 0;
+    while (length == LONGEST && fgetc(f) != EOF) more++;
+    for (size_t i = 0; i < more % 4; i++) board[length++] = 0;
+    return length;
+}
+
 int main(int argc, char **argv) {
-    static uint8_t board[BOARD_BYTES + 1], routing[4 * WORDS];
+    static uint8_t board[LONGEST + 3], routing[4 * WORDS];
     static struct picture p;
     uint64_t count, second, edges, turns, knocks;
     FILE *f = argc == 2 ? fopen(argv[1], "rb") : NULL;
@@ -123,7 +132,11 @@ int main(int argc, char **argv) {
         fprintf(stderr, "usage: layout FILE\n");
         return 2;
     }
-    size_t length = fread(board, 1, sizeof board, f);
+    size_t length = read_board(f, board);
+    if (ferror(f)) {
+        fprintf(stderr, "layout: %s cannot be read\n", argv[1]);
+        return 2;
+    }
     fclose(f);
     uint32_t r = cidrask_route(board, length, routing, sizeof routing, &count, &second);
     if (r != 0) return refused(r, count, second);

@@ -81,6 +81,24 @@ fn with_place(t: Tally, x: Cut, place: Place) -> Tally
     }
 }
 
+// Counts one place into the lent tally: its count of nets is raised when a net held there crosses.
+fn count_place(t: &mut Tally, x: Cut, place: Place)
+    requires { ⌜ now t .nets ≤ 63 ⌝ }
+    ensures { λ _. ⌜ now (t .exit) ≡ withHeld (now (t .entry)) x (place .held) ⌝ }
+{
+    *t = with_place(*t, x, place);
+}
+
+// The tally with one place more: it is lent to be counted into, and handed back.
+fn counted(t: Tally, x: Cut, place: Place) -> Tally
+    requires { ⌜ t .nets ≤ 63 ⌝ }
+    ensures { λ r. ⌜ r ≡ withHeld t x (place .held) ⌝ }
+{
+    let mut lent = t;
+    count_place(&mut lent, x, place);
+    lent
+}
+
 // Is the edge of the cut at column k of a row, or at line k of a column, one of the board's?
 fn is_cut_edge(b: Board, x: Cut, k: u8) -> bool
     ensures { λ r. ⌜ r ≡ cutEdge (boardOf b) x k ⌝ }
@@ -112,7 +130,7 @@ pub fn tally_of(b: Board, nets: [Place; 64], x: Cut) -> Tally
         nets: 0,
     };
     for i in 0..64 {
-        t = with_place(t, x, nets[i]);
+        t = counted(t, x, nets[i]);
     }
     t
 }

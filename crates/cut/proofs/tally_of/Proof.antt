@@ -14,7 +14,7 @@ use Rattle.cut.proofs.tally_of.Tie as tie
 use Rattle.cut.proofs.tally_of.Reads as reads
 use Rattle.cut.proofs.tally_of.Lts as lts
 use Rattle.cut.proofs.edges_of.Reads as edges-of-reads
-use Rattle.cut.proofs.with_place.Reads as with-place-reads
+use Rattle.cut.proofs.counted.Reads as counted-reads
 
 abbrev Inv-loop : tie.InvT-loop
 Inv-loop x nets t₀ i₀ t i =
@@ -29,14 +29,14 @@ edges-of-requires c κs = search needs
 loop-holds : tie.Need-loop-holds Inv-loop μ-loop
 loop-holds c = (omega arith, refl, omega arith, rw (crossing-tally (c .before .args .x) (pairsOf (c .before .args .t2))) (omega arith))
 
-mul-with-place : tie.Need-mul-with-place Inv-loop μ-loop
-mul-with-place c = search needs
+mul-counted : tie.Need-mul-counted Inv-loop μ-loop
+mul-counted c = search needs
 
-array-copy-out-with-place : tie.Need-array-copy-out-with-place Inv-loop μ-loop
-array-copy-out-with-place c = search needs
+array-copy-out-counted : tie.Need-array-copy-out-counted Inv-loop μ-loop
+array-copy-out-counted c = search needs
 
-with-place-requires : tie.Need-with-place-requires Inv-loop μ-loop
-with-place-requires c κs = omega arith
+counted-requires : tie.Need-counted-requires Inv-loop μ-loop
+counted-requires c κs = omega arith
 
 add-i : tie.Need-add-i Inv-loop μ-loop
 add-i c = search needs
@@ -48,8 +48,8 @@ loop-again : tie.Need-loop-again Inv-loop μ-loop
 loop-again c =
     let at = c .before .before .before .loop in let nets = c .before .before .before .before .before .args .t2 in let x = c .before .before .before .before .before .args .x in
     let w = with-held (at .t) x (getD nets (at .i) nothing .held) in
-    let e = c .with-place .ensures in
-    let n : c .with-place .result .nets ≡ at .t .nets + heldCrosses x (getD nets (at .i) nothing .held) = ap (λ (t : Tally). t .nets) e ∙ w .1 in
+    let e = c .counted .ensures in
+    let n : c .counted .result .nets ≡ at .t .nets + heldCrosses x (getD nets (at .i) nothing .held) = ap (λ (t : Tally). t .nets) e ∙ w .1 in
     let k = held-crosses-le x (getD nets (at .i) nothing .held) in
     let m = tally-more (λ p. one (crosses x p)) nets (at .i) (omega arith) in
     (omega arith, ap (λ (t : Tally). t .edges) e ∙ (w .0 ∙ at .inv .1), omega arith, omega arith)
@@ -68,9 +68,9 @@ tally-of-spec =
     μ-loop
     edges-of-requires
     loop-holds
-    mul-with-place
-    array-copy-out-with-place
-    with-place-requires
+    mul-counted
+    array-copy-out-counted
+    counted-requires
     add-i
     loop-less
     loop-again
