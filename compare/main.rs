@@ -77,7 +77,8 @@ impl Run {
         let lent = Lent::new(board, random.below(8));
         let mut numbers = Numbers::new();
         let buffer = memory[start..end].as_mut_ptr();
-        let result = unsafe { cidrask_route(lent.start(), board.len(), buffer, buffer_length, numbers.lend(0), numbers.lend(1)) };
+        let [first, second, _] = numbers.lend();
+        let result = unsafe { cidrask_route(lent.start(), board.len(), buffer, buffer_length, first, second) };
         let [first, second, third] = numbers.taken();
         if !lent.unchanged() || !numbers.guarded() || third != UNTOUCHED {
             self.difference("routing wrote to what it is not lent for writing", board, &[]);
@@ -117,7 +118,7 @@ impl Run {
         let shift = self.case as usize + list.len() / 4;
         let (lent_board, lent_list) = (Lent::new(board, shift % 8), Lent::new(list, shift / 8 % 8));
         let mut lent = Numbers::new();
-        let (first, second, third) = (lent.lend(0), lent.lend(1), lent.lend(2));
+        let [first, second, third] = lent.lend();
         let result = unsafe { cidrask_judge(lent_board.start(), board.len(), lent_list.start(), list.len(), first, second, third) };
         let n = lent.taken();
         if !lent_board.unchanged() || !lent_list.unchanged() || !lent.guarded() {
@@ -271,8 +272,10 @@ impl Numbers {
         Numbers([UNTOUCHED; 7])
     }
 
-    fn lend(&mut self, i: usize) -> *mut u64 {
-        unsafe { self.0.as_mut_ptr().add(2 * i + 1) }
+    /// Pointers to the three numbers, all made from one.
+    fn lend(&mut self) -> [*mut u64; 3] {
+        let all = self.0.as_mut_ptr();
+        unsafe { [all.add(1), all.add(3), all.add(5)] }
     }
 
     /// Read as memory, since the calls write through pointers.
@@ -396,6 +399,10 @@ fn part_c(run: &mut Run) {
 
 fn print_small(what: &str, found: [u64; 4], start: Instant) {
     let [paths, none, undecided, odd] = found;
+    if paths < 100 || none < 100 || undecided * 20 > paths + none {
+        println!("exhaustive, {what}: too little was decided: {paths} with paths, {none} without, {undecided} not decided");
+        std::process::exit(1);
+    }
     let time = start.elapsed().as_secs_f64();
     println!("exhaustive, {what}: {paths} with paths, {none} without, {undecided} not decided, {odd} odd; {time:.1} s");
 }

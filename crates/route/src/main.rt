@@ -1,6 +1,6 @@
 // Routes a board.
 //
-// Standard input is the board's words as a file has them, four bytes a word, lowest first; its first 65,536 bytes are read.
+// Standard input is the board's words as a file has them, four bytes a word, lowest first.
 // Prints each routing word on a line, or "refused", the number and the place numbers.
 use reading::ReadAnswer;
 use session::Session;
@@ -11,9 +11,36 @@ fn print_route(s: Session) {
     show::print_answer(answer, &words);
 }
 
+// Reads on to the end; how many bytes the last buffer took. (A million buffers are read at most.)
+fn read_on() -> usize {
+    let mut bytes = io::large_buffer();
+    let mut left: usize = 1000000;
+    while 0 < left {
+        let n = io::read_full(0, &mut bytes);
+        if n < 65536 {
+            return n;
+        }
+        left -= 1;
+    }
+    0
+}
+
+// A list that is longer than a buffer: only its count plays a part, and n is what is left of it.
+fn print_long(n: usize) {
+    if n % 4 == 0 {
+        show::print_refusal(11, 0)
+    } else {
+        show::print_refusal(10, 0)
+    }
+}
+
 fn main() {
     let mut bytes = io::large_buffer();
     let n = io::read_full(0, &mut bytes);
+    if n == 65536 {
+        print_long(read_on());
+        return;
+    }
     let after = reading::read_bytes(&bytes[..n]);
     let answer = after.answer;
     match answer {
