@@ -20,10 +20,12 @@ impl Random {
 
 /// Line and column.
 type Vertex = (usize, usize);
+/// A first and a second terminal.
+type Net = (Vertex, Vertex);
 
 pub struct Board {
     pub rows: Vec<(usize, usize)>,
-    pub nets: Vec<(Vertex, Vertex)>,
+    pub nets: Vec<Net>,
 }
 
 impl Board {
@@ -109,15 +111,23 @@ impl Margins {
         Margins(margins)
     }
 
-    /// The net counts `by` times less, or more, in each cut that it crosses.
-    fn count(&mut self, net: (Vertex, Vertex), by: i32) {
+    /// Every cut that the net crosses loses `by`.
+    fn count(&mut self, net: Net, by: i32) {
         let ((a, b), (c, d)) = net;
         self.0[a.min(c)..a.max(c)].iter_mut().for_each(|m| *m -= by);
         self.0[31 + b.min(d)..31 + b.max(d)].iter_mut().for_each(|m| *m -= by);
     }
 
+    /// Two nets take the place of two others.
+    fn exchange(&mut self, old: (Net, Net), new: (Net, Net)) {
+        self.count(old.0, -1);
+        self.count(old.1, -1);
+        self.count(new.0, 1);
+        self.count(new.1, 1);
+    }
+
     /// By how much cuts are overfull, and 1,000 for each of the nets whose terminals are one vertex.
-    fn fault(&self, nets: &[(Vertex, Vertex)]) -> i32 {
+    fn fault(&self, nets: &[Net]) -> i32 {
         let overfull: i32 = self.0.iter().map(|&m| (-m).max(0)).sum();
         overfull + 1000 * nets.iter().filter(|n| n.0 == n.1).count() as i32
     }
@@ -126,7 +136,7 @@ impl Margins {
 /// Gives the board nets between random terminals: paired at random, then two nets at a time exchange ends, until no cut is overfull.
 fn pair_up(board: &mut Board, random: &mut Random) -> bool {
     let terminals = board.terminals(random);
-    let mut nets: Vec<(Vertex, Vertex)> = terminals.chunks_exact(2).map(|t| (t[0], t[1])).collect();
+    let mut nets: Vec<Net> = terminals.chunks_exact(2).map(|t| (t[0], t[1])).collect();
     let mut margins = Margins::new(board);
     nets.iter().for_each(|&net| margins.count(net, 1));
     let mut fault = margins.fault(&nets);
@@ -140,20 +150,16 @@ fn pair_up(board: &mut Board, random: &mut Random) -> bool {
             continue;
         }
         let old = (nets[i], nets[j]);
-        let new = if random.below(2) == 0 { ((old.0 .0, old.1 .1), (old.1 .0, old.0 .1)) } else { ((old.0 .0, old.1 .0), (old.0 .1, old.1 .1)) };
-        let change = |margins: &mut Margins, nets: &mut [(Vertex, Vertex)], from: ((Vertex, Vertex), (Vertex, Vertex)), to: ((Vertex, Vertex), (Vertex, Vertex))| {
-            margins.count(from.0, -1);
-            margins.count(from.1, -1);
-            margins.count(to.0, 1);
-            margins.count(to.1, 1);
-            (nets[i], nets[j]) = to;
-        };
-        change(&mut margins, &mut nets, old, new);
+        let ((a, b), (c, d)) = old;
+        let new = if random.below(2) == 0 { ((a, d), (c, b)) } else { ((a, c), (b, d)) };
+        margins.exchange(old, new);
+        (nets[i], nets[j]) = new;
         let now = margins.fault(&nets);
         if now <= fault {
             fault = now;
         } else {
-            change(&mut margins, &mut nets, new, old);
+            margins.exchange(new, old);
+            (nets[i], nets[j]) = old;
         }
     }
     false
