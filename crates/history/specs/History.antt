@@ -1,7 +1,7 @@
 -- Demand 3 for adds, withdrawals and take-backs: over every list of calls from a fresh session, refused ones included, the session handed
 -- back last is the list machine's, and each answer is the machine's.
 -- Assumes of each call only its promise.
-use mathlib.Core.Path.{_≡_, refl, ap}
+use mathlib.Core.Path.{_≡_, refl, ap, subst}
 use mathlib.Core.List.{List, [], _∷_, _++_}
 use Rattle.board.specs.Board.{Within}
 use Rattle.board.specs.Path.{Convex}
@@ -78,4 +78,4 @@ pub everywhere : (P : machine.Session → Made → Type 0) → ((s : Session) (m
 everywhere P each s [] h k = tt
 everywhere P each s (m ∷ ms) h k =
     let x = made-as s m h (k .0) in
-    (each s m h (k .0), rw (← x .session) (everywhere P each (handed s m) ms (x .sound) (k .1)))
+    (each s m h (k .0), subst (λ (t : machine.Session). Everywhere P t ms) (x .session) (everywhere P each (handed s m) ms (x .sound) (k .1)))
