@@ -51,7 +51,11 @@ loop-less c = omega arith
 
 -- src/lib.rt:14:5
 loop-again : tie.Need-loop-again Inv-loop μ-loop
-loop-again c = (omega arith, omega arith, tidy-drop (c .before .before .before .before .before .before .before .before .before .args .la .now) (c .before .before .before .before .before .before .before .before .before .args .lb .now) (c .before .before .before .before .before .before .before .before .before .args .ids .now) (c .before .before .before .before .before .before .before .before .before .args .n) (c .before .before .before .before .before .before .before .before .loop .la) (c .before .before .before .before .before .before .before .before .loop .lb) (c .before .before .before .before .before .before .before .before .loop .ids) (c .before .before .before .before .before .before .before .before .loop .m) (c .before .before .before .before .before .before .before .before .loop .i) _ _ _ (c .before .before .before .before .before .before .before .before .loop .inv .2) (omega arith) (omega arith) (c .before .before .before .before .if1 .taken) (c .drop-row .ensures))
+loop-again c =
+    let at-if1 = c .before .before .before .before in let if1 = at-if1 .if1 in
+    let at-loop = at-if1 .before .before .before .before in let loop = at-loop .loop in
+    let at-args = at-loop .before in let args = at-args .args in
+    (omega arith, omega arith, tidy-drop (args .la .now) (args .lb .now) (args .ids .now) (args .n) (loop .la) (loop .lb) (loop .ids) (loop .m) (loop .i) _ _ _ (loop .inv .2) (omega arith) (omega arith) (if1 .taken) (c .drop-row .ensures))
 
 -- src/lib.rt:19:13
 add-i : tie.Need-add-i Inv-loop μ-loop
@@ -63,7 +67,10 @@ loop-less-2 c = omega arith
 
 -- src/lib.rt:14:5
 loop-again-2 : tie.Need-loop-again-2 Inv-loop μ-loop
-loop-again-2 c = (omega arith, omega arith, tidy-next (c .before .before .before .before .before .args .la .now) (c .before .before .before .before .before .args .lb .now) (c .before .before .before .before .before .args .ids .now) (c .before .before .before .before .before .args .n) (c .before .before .before .before .loop .la) (c .before .before .before .before .loop .lb) (c .before .before .before .before .loop .ids) (c .before .before .before .before .loop .m) (c .before .before .before .before .loop .i) (c .before .before .before .before .loop .inv .2) (c .if1 .left))
+loop-again-2 c =
+    let at-loop = c .before .before .before .before in let loop = at-loop .loop in
+    let at-args = at-loop .before in let args = at-args .args in
+    (omega arith, omega arith, tidy-next (args .la .now) (args .lb .now) (args .ids .now) (args .n) (loop .la) (loop .lb) (loop .ids) (loop .m) (loop .i) (loop .inv .2) (c .if1 .left))
 
 -- src/lib.rt:7:1
 returns : tie.Need-returns Inv-loop μ-loop

@@ -20,13 +20,25 @@ enum-told : tie.Need-enum-told
 enum-told c = search needs
 
 walk-paths-requires : tie.Need-walk-paths-requires
-walk-paths-requires c κs = shape-fits (netsOf (c .before .before .before .before .before .args .nets)) (c .before .before .before .before .before .args .words .now) (shape-lets (netsOf (c .before .before .before .before .before .args .nets)) (c .before .before .before .before .before .args .words .now) (c .before .before .before .check-shape .ensures) (c .before .enum-told .given .1))
+walk-paths-requires c κs =
+    let at-enum-told = c .before in let the-enum-told = at-enum-told .enum-told in
+    let at-check-shape = at-enum-told .before .before in let check-shape = at-check-shape .check-shape in
+    let at-args = at-check-shape .before .before in let args = at-args .args in
+    shape-fits (netsOf (args .nets)) (args .words .now) (shape-lets (netsOf (args .nets)) (args .words .now) (check-shape .ensures) (the-enum-told .given .1))
 
 returns : tie.Need-returns
-returns c = (λ w. shape-stops (boardOf (c .before .before .before .before .before .args .b)) (netsOf (c .before .before .before .before .before .args .nets)) (c .before .before .before .before .before .args .words .now) (c .before .before .before .check-shape .ensures) (c .before .r .given .1), λ e. absurd (let z : _≡_ {A = ℕ} 0 1 = cc in omega arith))
+returns c =
+    let at-r = c .before in let r = at-r .r in
+    let at-check-shape = at-r .before .before in let check-shape = at-check-shape .check-shape in
+    let at-args = at-check-shape .before .before in let args = at-args .args in
+    (λ w. shape-stops (boardOf (args .b)) (netsOf (args .nets)) (args .words .now) (check-shape .ensures) (r .given .1), λ e. absurd (let z : _≡_ {A = ℕ} 0 1 = cc in omega arith))
 
 returns-2 : tie.Need-returns-2
-returns-2 c = (λ w. walk-decides (shape-lets (netsOf (c .before .before .before .before .before .before .args .nets)) (c .before .before .before .before .before .before .args .words .now) (c .before .before .before .before .check-shape .ensures) (c .before .before .enum-told .given .1)) (c .walk-paths .ensures w), λ e. shape-fits (netsOf (c .before .before .before .before .before .before .args .nets)) (c .before .before .before .before .before .before .args .words .now) (shape-lets (netsOf (c .before .before .before .before .before .before .args .nets)) (c .before .before .before .before .before .before .args .words .now) (c .before .before .before .before .check-shape .ensures) (c .before .before .enum-told .given .1)))
+returns-2 c =
+    let at-enum-told = c .before .before in let the-enum-told = at-enum-told .enum-told in
+    let at-check-shape = at-enum-told .before .before in let check-shape = at-check-shape .check-shape in
+    let at-args = at-check-shape .before .before in let args = at-args .args in
+    (λ w. walk-decides (shape-lets (netsOf (args .nets)) (args .words .now) (check-shape .ensures) (the-enum-told .given .1)) (c .walk-paths .ensures w), λ e. shape-fits (netsOf (args .nets)) (args .words .now) (shape-lets (netsOf (args .nets)) (args .words .now) (check-shape .ensures) (the-enum-told .given .1)))
 
 pub check-spec : {M : Type 1} → statement M
 check-spec =

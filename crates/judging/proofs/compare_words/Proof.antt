@@ -16,7 +16,10 @@ sound-requires : tie.Need-sound-requires
 sound-requires c κs = search needs
 
 returns : tie.Need-returns
-returns c = sym (compare-unsound (sessionOf (c .before .before .before .before .args .s)) (c .before .before .before .before .args .first .now) (c .before .before .before .before .args .second .now) (sym (c .before .sound .ensures .same) ∙ not-true (c .before .sound .result) (c .if1 .taken)))
+returns c =
+    let at-sound = c .before in let sound = at-sound .sound in
+    let at-args = at-sound .before .before .before in let args = at-args .args in
+    sym (compare-unsound (sessionOf (args .s)) (args .first .now) (args .second .now) (sym (sound .ensures .same) ∙ not-true (sound .result) (c .if1 .taken)))
 
 compare-requires : tie.Need-compare-requires
 compare-requires c κs = search needs
@@ -29,13 +32,23 @@ enum-known-list c = search needs
 
 returns-2 : tie.Need-returns-2
 returns-2 c =
-    let e = c .before .before .before .compare .ensures (c .before .before .before .before .before .before .before .sound .ensures .exact .0 (not-false (c .before .before .before .before .before .before .before .sound .result) (c .before .before .before .before .before .before .if1 .left)) .within) in
-    (sym (ap comparisonOf (c .before .alike .given .1)) ∙ e) ∙ sym (compare-sound (sessionOf (c .before .before .before .before .before .before .before .before .before .before .args .s)) (c .before .before .before .before .before .before .before .before .before .before .args .first .now) (c .before .before .before .before .before .before .before .before .before .before .args .second .now) (sym (c .before .before .before .before .before .before .before .sound .ensures .same) ∙ not-false (c .before .before .before .before .before .before .before .sound .result) (c .before .before .before .before .before .before .if1 .left)))
+    let at-alike = c .before in let alike = at-alike .alike in
+    let at-compare = at-alike .before .before in let compare = at-compare .compare in
+    let at-if1 = at-compare .before .before .before in let if1 = at-if1 .if1 in
+    let at-sound = at-if1 .before in let sound = at-sound .sound in
+    let at-args = at-sound .before .before .before in let args = at-args .args in
+    let e = compare .ensures (sound .ensures .exact .0 (not-false (sound .result) (if1 .left)) .within) in
+    (sym (ap comparisonOf (alike .given .1)) ∙ e) ∙ sym (compare-sound (sessionOf (args .s)) (args .first .now) (args .second .now) (sym (sound .ensures .same) ∙ not-false (sound .result) (if1 .left)))
 
 returns-3 : tie.Need-returns-3
 returns-3 c =
-    let e = c .before .before .before .compare .ensures (c .before .before .before .before .before .before .before .sound .ensures .exact .0 (not-false (c .before .before .before .before .before .before .before .sound .result) (c .before .before .before .before .before .before .if1 .left)) .within) in
-    (sym (ap comparisonOf (c .before .list .given .1)) ∙ e) ∙ sym (compare-sound (sessionOf (c .before .before .before .before .before .before .before .before .before .before .args .s)) (c .before .before .before .before .before .before .before .before .before .before .args .first .now) (c .before .before .before .before .before .before .before .before .before .before .args .second .now) (sym (c .before .before .before .before .before .before .before .sound .ensures .same) ∙ not-false (c .before .before .before .before .before .before .before .sound .result) (c .before .before .before .before .before .before .if1 .left)))
+    let at-list = c .before in let list = at-list .list in
+    let at-compare = at-list .before .before in let compare = at-compare .compare in
+    let at-if1 = at-compare .before .before .before in let if1 = at-if1 .if1 in
+    let at-sound = at-if1 .before in let sound = at-sound .sound in
+    let at-args = at-sound .before .before .before in let args = at-args .args in
+    let e = compare .ensures (sound .ensures .exact .0 (not-false (sound .result) (if1 .left)) .within) in
+    (sym (ap comparisonOf (list .given .1)) ∙ e) ∙ sym (compare-sound (sessionOf (args .s)) (args .first .now) (args .second .now) (sym (sound .ensures .same) ∙ not-false (sound .result) (if1 .left)))
 
 pub compare-words-spec : {M : Type 1} → statement M
 compare-words-spec =

@@ -20,13 +20,25 @@ sound-requires : tie.Need-sound-requires
 sound-requires c κs = search needs
 
 returns : tie.Need-returns
-returns c = sym (bytes-unsound (sessionOf (c .before .before .before .args .s)) (c .before .before .before .args .bytes .now) (sym (c .before .sound .ensures .same) ∙ not-true (c .before .sound .result) (c .if1 .taken)))
+returns c =
+    let at-sound = c .before in let sound = at-sound .sound in
+    let at-args = at-sound .before .before in let args = at-args .args in
+    sym (bytes-unsound (sessionOf (args .s)) (args .bytes .now) (sym (sound .ensures .same) ∙ not-true (sound .result) (c .if1 .taken)))
 
 returns-2 : tie.Need-returns-2
-returns-2 c = sym (bytes-uneven (sessionOf (c .before .before .before .before .args .s)) (c .before .before .before .before .args .bytes .now) (sym (c .before .before .sound .ensures .same) ∙ not-false (c .before .before .sound .result) (c .before .if1 .left)) (c .if2 .taken))
+returns-2 c =
+    let at-if1 = c .before in let if1 = at-if1 .if1 in
+    let at-sound = at-if1 .before in let sound = at-sound .sound in
+    let at-args = at-sound .before .before in let args = at-args .args in
+    sym (bytes-uneven (sessionOf (args .s)) (args .bytes .now) (sym (sound .ensures .same) ∙ not-false (sound .result) (if1 .left)) (c .if2 .taken))
 
 returns-3 : tie.Need-returns-3
-returns-3 c = sym (bytes-long (sessionOf (c .before .before .before .before .before .args .s)) (c .before .before .before .before .before .args .bytes .now) (sym (c .before .before .before .sound .ensures .same) ∙ not-false (c .before .before .before .sound .result) (c .before .before .if1 .left)) (c .before .if2 .left) (c .if3 .taken))
+returns-3 c =
+    let at-if2 = c .before in let if2 = at-if2 .if2 in
+    let at-if1 = at-if2 .before in let if1 = at-if1 .if1 in
+    let at-sound = at-if1 .before in let sound = at-sound .sound in
+    let at-args = at-sound .before .before in let args = at-args .args in
+    sym (bytes-long (sessionOf (args .s)) (args .bytes .now) (sym (sound .ensures .same) ∙ not-false (sound .result) (if1 .left)) (if2 .left) (c .if3 .taken))
 
 slice-aggregate-fill-words : tie.Need-slice-aggregate-fill-words
 slice-aggregate-fill-words c = search needs
@@ -47,8 +59,13 @@ judge-words-requires c κs = search needs
 
 returns-4 : tie.Need-returns-4
 returns-4 c =
-    let bs = c .before .before .before .before .before .before .before .before .before .before .args .bytes .now in
-    rw (bytes-words (sessionOf (c .before .before .before .before .before .before .before .before .before .before .args .s)) bs _ (c .before .before .before .fill-words .last .1 .1 .0) (length bs / 4) (sym (c .before .before .before .before .before .before .before .before .sound .ensures .same) ∙ not-false (c .before .before .before .before .before .before .before .before .sound .result) (c .before .before .before .before .before .before .before .if1 .left)) (c .before .before .before .before .before .before .if2 .left) refl (c .before .before .before .fill-words .ensures)) (c .judge-words .ensures)
+    let at-fill-words = c .before .before .before in let fill-words = at-fill-words .fill-words in
+    let at-if2 = at-fill-words .before .before .before in let if2 = at-if2 .if2 in
+    let at-if1 = at-if2 .before in let if1 = at-if1 .if1 in
+    let at-sound = at-if1 .before in let sound = at-sound .sound in
+    let at-args = at-sound .before .before in let args = at-args .args in
+    let bs = args .bytes .now in
+    rw (bytes-words (sessionOf (args .s)) bs _ (fill-words .last .1 .1 .0) (length bs / 4) (sym (sound .ensures .same) ∙ not-false (sound .result) (if1 .left)) (if2 .left) refl (fill-words .ensures)) (c .judge-words .ensures)
 
 pub judge-bytes-spec : {M : Type 1} → statement M
 judge-bytes-spec =

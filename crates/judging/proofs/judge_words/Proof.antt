@@ -25,17 +25,30 @@ enum-known-refusal : tie.Need-enum-known-refusal
 enum-known-refusal c = search needs
 
 returns : tie.Need-returns
-returns c = sym (judge-unsound (sessionOf (c .before .before .before .args .s)) (c .before .before .before .args .words .now) (sym (c .before .sound .ensures .same) ∙ not-true (c .before .sound .result) (c .if1 .taken)))
+returns c =
+    let at-sound = c .before in let sound = at-sound .sound in
+    let at-args = at-sound .before .before in let args = at-args .args in
+    sym (judge-unsound (sessionOf (args .s)) (args .words .now) (sym (sound .ensures .same) ∙ not-true (sound .result) (c .if1 .taken)))
 
 returns-2 : tie.Need-returns-2
 returns-2 c =
-    let e = c .before .before .before .judge .ensures (c .before .before .before .before .before .before .before .sound .ensures .exact .0 (not-false (c .before .before .before .before .before .before .before .sound .result) (c .before .before .before .before .before .before .if1 .left)) .within) in
-    (sym (ap verdictOf (c .before .report .given .1)) ∙ e) ∙ sym (judge-sound (sessionOf (c .before .before .before .before .before .before .before .before .before .args .s)) (c .before .before .before .before .before .before .before .before .before .args .words .now) (sym (c .before .before .before .before .before .before .before .sound .ensures .same) ∙ not-false (c .before .before .before .before .before .before .before .sound .result) (c .before .before .before .before .before .before .if1 .left)))
+    let at-report = c .before in let report = at-report .report in
+    let at-judge = at-report .before .before in let judge = at-judge .judge in
+    let at-if1 = at-judge .before .before .before in let if1 = at-if1 .if1 in
+    let at-sound = at-if1 .before in let sound = at-sound .sound in
+    let at-args = at-sound .before .before in let args = at-args .args in
+    let e = judge .ensures (sound .ensures .exact .0 (not-false (sound .result) (if1 .left)) .within) in
+    (sym (ap verdictOf (report .given .1)) ∙ e) ∙ sym (judge-sound (sessionOf (args .s)) (args .words .now) (sym (sound .ensures .same) ∙ not-false (sound .result) (if1 .left)))
 
 returns-3 : tie.Need-returns-3
 returns-3 c =
-    let e = c .before .before .before .judge .ensures (c .before .before .before .before .before .before .before .sound .ensures .exact .0 (not-false (c .before .before .before .before .before .before .before .sound .result) (c .before .before .before .before .before .before .if1 .left)) .within) in
-    (sym (ap verdictOf (c .before .refusal .given .1)) ∙ e) ∙ sym (judge-sound (sessionOf (c .before .before .before .before .before .before .before .before .before .args .s)) (c .before .before .before .before .before .before .before .before .before .args .words .now) (sym (c .before .before .before .before .before .before .before .sound .ensures .same) ∙ not-false (c .before .before .before .before .before .before .before .sound .result) (c .before .before .before .before .before .before .if1 .left)))
+    let at-refusal = c .before in let refusal = at-refusal .refusal in
+    let at-judge = at-refusal .before .before in let judge = at-judge .judge in
+    let at-if1 = at-judge .before .before .before in let if1 = at-if1 .if1 in
+    let at-sound = at-if1 .before in let sound = at-sound .sound in
+    let at-args = at-sound .before .before in let args = at-args .args in
+    let e = judge .ensures (sound .ensures .exact .0 (not-false (sound .result) (if1 .left)) .within) in
+    (sym (ap verdictOf (refusal .given .1)) ∙ e) ∙ sym (judge-sound (sessionOf (args .s)) (args .words .now) (sym (sound .ensures .same) ∙ not-false (sound .result) (if1 .left)))
 
 pub judge-words-spec : {M : Type 1} → statement M
 judge-words-spec =

@@ -30,7 +30,10 @@ mul-out : tie.Need-mul-out Inv-loop μ-loop
 mul-out c = search needs
 
 slice-write-out : tie.Need-slice-write-out Inv-loop μ-loop
-slice-write-out c = omega (arith, filled-length (c .before .before .before .before .before .args .bytes .now) (c .before .before .loop .out) (c .before .before .before .before .before .args .out .now) (c .before .before .loop .i) (omega arith) (omega arith) (c .before .before .loop .inv .4))
+slice-write-out c =
+    let at-loop = c .before .before in let loop = at-loop .loop in
+    let at-args = at-loop .before .before .before in let args = at-args .args in
+    omega (arith, filled-length (args .bytes .now) (loop .out) (args .out .now) (loop .i) (omega arith) (omega arith) (loop .inv .4))
 
 add-at : tie.Need-add-at Inv-loop μ-loop
 add-at c = search needs
@@ -43,23 +46,30 @@ loop-less c = search needs
 
 loop-again : tie.Need-loop-again Inv-loop μ-loop
 loop-again c =
-    let at = c .before .before .loop in
+    let at-loop = c .before .before in let loop = at-loop .loop in
+    let at-args = at-loop .before .before .before in let args = at-args .args in
+    let at = loop in
     let e : at .at ≡ 4 * at .i = at .inv .1 in (
       omega arith,
       omega arith,
       at .inv .2,
       at .inv .3,
-      rw (c .word-at .ensures, e) (fill-next (c .before .before .before .before .before .args .bytes .now) (at .out) (c .before .before .before .before .before .args .out .now) (at .i) (omega arith) (omega arith) (at .inv .4)),
+      rw (c .word-at .ensures, e) (fill-next (args .bytes .now) (at .out) (args .out .now) (at .i) (omega arith) (omega arith) (at .inv .4)),
     )
 
 same-length : tie.Need-same-length Inv-loop μ-loop
-same-length c = filled-length (c .before .before .before .before .args .bytes .now) (c .before .loop .out) (c .before .before .before .before .args .out .now) (c .before .loop .i) (omega arith) (omega arith) (c .before .loop .inv .4)
+same-length c =
+    let at-loop = c .before in let loop = at-loop .loop in
+    let at-args = at-loop .before .before .before in let args = at-args .args in
+    filled-length (args .bytes .now) (loop .out) (args .out .now) (loop .i) (omega arith) (omega arith) (loop .inv .4)
 
 returns : tie.Need-returns Inv-loop μ-loop
 returns c =
-    let at = c .before .loop in
-    let e : at .i ≡ c .before .before .before .before .args .n = omega arith in
-    record { buffer = rw e at (at .inv .4); size = filled-length (c .before .before .before .before .args .bytes .now) (c .before .loop .out) (c .before .before .before .before .args .out .now) (c .before .loop .i) (omega arith) (omega arith) (c .before .loop .inv .4) }
+    let at-loop = c .before in let loop = at-loop .loop in
+    let at-args = at-loop .before .before .before in let args = at-args .args in
+    let at = loop in
+    let e : at .i ≡ args .n = omega arith in
+    record { buffer = rw e at (at .inv .4); size = filled-length (args .bytes .now) (loop .out) (args .out .now) (loop .i) (omega arith) (omega arith) (loop .inv .4) }
 
 pub fill-words-spec : {M : Type 1} → statement M
 fill-words-spec =

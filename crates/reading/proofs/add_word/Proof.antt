@@ -37,9 +37,14 @@ enum-told-3 c = search needs
 
 returns : tie.Need-returns
 returns c =
-    let b = boardOf (c .before .before .before .before .before .before .before .before .before .args .b) in let ps = c .before .before .before .before .before .before .before .before .before .args .nets in
-    let e = c .before .before .before .before .add-told .ensures ∙ (ap addAnswer (c .before .before .before .before .before .check .ensures) ∙ check-answer b (netsOf ps) _) in
-    rw (c .before .before .before .before .before .before .before .w .given .1, told-added (c .before .before .before .before .add-told .result) b ps _ e (c .before .before .if1 .taken), c .stored .ensures) refl
+    let at-if1 = c .before .before in let if1 = at-if1 .if1 in
+    let at-add-told = at-if1 .before .before in let add-told = at-add-told .add-told in
+    let at-check = at-add-told .before in let check = at-check .check in
+    let at-w = at-check .before .before in let w = at-w .w in
+    let at-args = at-w .before .before in let args = at-args .args in
+    let b = boardOf (args .b) in let ps = args .nets in
+    let e = add-told .ensures ∙ (ap addAnswer (check .ensures) ∙ check-answer b (netsOf ps) _) in
+    rw (w .given .1, told-added (add-told .result) b ps _ e (if1 .taken), c .stored .ensures) refl
 
 returns-2 : tie.Need-returns-2
 returns-2 c =

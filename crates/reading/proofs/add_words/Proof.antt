@@ -41,9 +41,13 @@ add-word-requires c κs = search needs
 
 returns : tie.Need-returns Inv-loop μ-loop
 returns c =
-    let b = boardOf (c .before .before .before .before .before .before .before .before .args .b) in let ws = c .before .before .before .before .before .before .before .before .args .words .now in let at = c .before .before .before .before .before .before .loop in
-    let e : addedWord b (at .nets) (boardWord (getD ws (at .i) 0)) ≡ c .before .before .add-word .result = rw (← c .before .before .before .board-word .ensures) (sym (c .before .before .add-word .ensures)) in
-    let k = nonzero (c .before .before .add-word .result .number) (c .if1 .taken) in
+    let at-add-word = c .before .before in let add-word = at-add-word .add-word in
+    let at-board-word = at-add-word .before in let board-word = at-board-word .board-word in
+    let at-loop = at-board-word .before .before .before in let loop = at-loop .loop in
+    let at-args = at-loop .before .before in let args = at-args .args in
+    let b = boardOf (args .b) in let ws = args .words .now in let at = loop in
+    let e : addedWord b (at .nets) (boardWord (getD ws (at .i) 0)) ≡ add-word .result = rw (← board-word .ensures) (sym (add-word .ensures)) in
+    let k = nonzero (add-word .result .number) (c .if1 .taken) in
     inl (k .0, k .1, adding-refused b ws (at .i) (at .nets) (at .inv .2) (omega arith) (k .0) (ap (λ (a : Added). a .number) e ∙ k .1))
 
 add-i : tie.Need-add-i Inv-loop μ-loop
@@ -54,9 +58,14 @@ loop-less c = search needs
 
 loop-again : tie.Need-loop-again Inv-loop μ-loop
 loop-again c =
-    let b = boardOf (c .before .before .before .before .before .before .before .before .before .args .b) in let ws = c .before .before .before .before .before .before .before .before .before .args .words .now in let at = c .before .before .before .before .before .before .before .loop in
-    let e : addedWord b (at .nets) (boardWord (getD ws (at .i) 0)) ≡ c .before .before .before .add-word .result = rw (← c .before .before .before .before .board-word .ensures) (sym (c .before .before .before .add-word .ensures)) in
-    (omega arith, at .inv .1, rw e at (adding-more b ws (at .i) (at .nets) (at .inv .2) (omega arith) (ap (λ (a : Added). a .number) e ∙ c .before .if1 .left)))
+    let at-if1 = c .before in let if1 = at-if1 .if1 in
+    let at-add-word = at-if1 .before .before in let add-word = at-add-word .add-word in
+    let at-board-word = at-add-word .before in let board-word = at-board-word .board-word in
+    let at-loop = at-board-word .before .before .before in let loop = at-loop .loop in
+    let at-args = at-loop .before .before in let args = at-args .args in
+    let b = boardOf (args .b) in let ws = args .words .now in let at = loop in
+    let e : addedWord b (at .nets) (boardWord (getD ws (at .i) 0)) ≡ add-word .result = rw (← board-word .ensures) (sym (add-word .ensures)) in
+    (omega arith, at .inv .1, rw e at (adding-more b ws (at .i) (at .nets) (at .inv .2) (omega arith) (ap (λ (a : Added). a .number) e ∙ if1 .left)))
 
 returns-2 : tie.Need-returns-2 Inv-loop μ-loop
 returns-2 c =

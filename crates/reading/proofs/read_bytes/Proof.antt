@@ -19,13 +19,20 @@ refused-requires : tie.Need-refused-requires
 refused-requires c κs = search needs
 
 returns : tie.Need-returns
-returns c = refused-read (readBytes (c .before .before .before .args .bytes .now)) 10 0 _ (c .refused .ensures) (bytes-uneven (c .before .before .before .args .bytes .now) (c .before .if1 .taken))
+returns c =
+    let at-if1 = c .before in let if1 = at-if1 .if1 in
+    let at-args = at-if1 .before .before in let args = at-args .args in
+    refused-read (readBytes (args .bytes .now)) 10 0 _ (c .refused .ensures) (bytes-uneven (args .bytes .now) (if1 .taken))
 
 refused-requires-2 : tie.Need-refused-requires-2
 refused-requires-2 c κs = search needs
 
 returns-2 : tie.Need-returns-2
-returns-2 c = refused-read (readBytes (c .before .before .before .before .args .bytes .now)) 11 0 _ (c .refused2 .ensures) (bytes-long (c .before .before .before .before .args .bytes .now) (c .before .before .if1 .left) (c .before .if2 .taken))
+returns-2 c =
+    let at-if2 = c .before in let if2 = at-if2 .if2 in
+    let at-if1 = at-if2 .before in let if1 = at-if1 .if1 in
+    let at-args = at-if1 .before .before in let args = at-args .args in
+    refused-read (readBytes (args .bytes .now)) 11 0 _ (c .refused2 .ensures) (bytes-long (args .bytes .now) (if1 .left) (if2 .taken))
 
 slice-aggregate-fill-words : tie.Need-slice-aggregate-fill-words
 slice-aggregate-fill-words c = search needs
@@ -46,8 +53,11 @@ read-words-requires c κs = search needs
 
 returns-3 : tie.Need-returns-3
 returns-3 c =
-    let bs = c .before .before .before .before .before .before .before .before .args .bytes .now in
-    rw (bytes-words bs _ (c .before .before .before .fill-words .last .1 .1 .0) (length bs / 4) (c .before .before .before .before .before .before .if1 .left) refl (c .before .before .before .fill-words .ensures)) (c .read-words .ensures)
+    let at-fill-words = c .before .before .before in let fill-words = at-fill-words .fill-words in
+    let at-if1 = at-fill-words .before .before .before in let if1 = at-if1 .if1 in
+    let at-args = at-if1 .before .before in let args = at-args .args in
+    let bs = args .bytes .now in
+    rw (bytes-words bs _ (fill-words .last .1 .1 .0) (length bs / 4) (if1 .left) refl (fill-words .ensures)) (c .read-words .ensures)
 
 pub read-bytes-spec : {M : Type 1} → statement M
 read-bytes-spec =

@@ -33,9 +33,14 @@ refused-requires-2 c κs = search needs
 
 returns-2 : tie.Need-returns-2
 returns-2 c =
-    let ws = c .before .before .before .before .before .before .before .before .args .words .now in let s = c .before .before .before .before .before .before .scan-words in let x = c .before .before .before .is-convex in
+    let at-if2 = c .before in let if2 = at-if2 .if2 in
+    let at-if1 = at-if2 .before in let if1 = at-if1 .if1 in
+    let at-is-convex = at-if1 .before in let is-convex = at-is-convex .is-convex in
+    let at-scan-words = at-is-convex .before .before .before in let scan-words = at-scan-words .scan-words in
+    let at-args = at-scan-words .before .before in let args = at-args .args in
+    let ws = args .words .now in let s = scan-words in let x = is-convex in
     refused-read (readWords ws) 16 0 _ (c .refused2 .ensures)
-    (bent-refused ws (s .result) (s .ensures) (c .before .before .if1 .left) (sym (x .ensures .same) ∙ not-true (x .result) (c .before .if2 .taken)))
+    (bent-refused ws (s .result) (s .ensures) (if1 .left) (sym (x .ensures .same) ∙ not-true (x .result) (if2 .taken)))
 
 add-words-requires : tie.Need-add-words-requires
 add-words-requires c κs = search needs
@@ -45,18 +50,33 @@ refused-requires-3 c κs = search needs
 
 returns-3 : tie.Need-returns-3
 returns-3 c =
-    let ws = c .before .before .before .before .before .before .before .before .before .before .before .args .words .now in let s = c .before .before .before .before .before .before .before .before .before .scan-words in let x = c .before .before .before .before .before .before .is-convex in let a = c .before .before .before .add-words in
+    let at-if3 = c .before in let if3 = at-if3 .if3 in
+    let at-add-words = at-if3 .before .before in let add-words = at-add-words .add-words in
+    let at-if2 = at-add-words .before in let if2 = at-if2 .if2 in
+    let at-if1 = at-if2 .before in let if1 = at-if1 .if1 in
+    let at-is-convex = at-if1 .before in let is-convex = at-is-convex .is-convex in
+    let at-scan-words = at-is-convex .before .before .before in let scan-words = at-scan-words .scan-words in
+    let at-args = at-scan-words .before .before in let args = at-args .args in
+    let ws = args .words .now in let s = scan-words in let x = is-convex in let a = add-words in
     refused-read (readWords ws) (a .result .number) (a .result .index) _ (c .refused3 .ensures)
-    (net-refused ws (s .result) (s .ensures) (c .before .before .before .before .before .if1 .left) (sym (x .ensures .same) ∙ not-false (x .result) (c .before .before .before .before .if2 .left)) (a .result) (a .ensures) (c .before .if3 .taken))
+    (net-refused ws (s .result) (s .ensures) (if1 .left) (sym (x .ensures .same) ∙ not-false (x .result) (if2 .left)) (a .result) (a .ensures) (if3 .taken))
 
 fresh-requires : tie.Need-fresh-requires
 fresh-requires c κs = search needs
 
 returns-4 : tie.Need-returns-4
 returns-4 c =
-    let ws = c .before .before .before .before .before .before .before .before .before .before .before .before .before .args .words .now in let s = c .before .before .before .before .before .before .before .before .before .before .before .scan-words in let x = c .before .before .before .before .before .before .before .before .is-convex in let a = c .before .before .before .before .before .add-words in
-    session-read ws (s .result) (s .ensures) (c .before .before .before .before .before .before .before .if1 .left) (sym (x .ensures .same) ∙ not-false (x .result) (c .before .before .before .before .before .before .if2 .left)) (a .result) (a .ensures) (c .before .before .before .if3 .left)
-    (c .before .before .fresh .result) (c .before .before .fresh .ensures)
+    let at-fresh = c .before .before in let fresh = at-fresh .fresh in
+    let at-if3 = at-fresh .before in let if3 = at-if3 .if3 in
+    let at-add-words = at-if3 .before .before in let add-words = at-add-words .add-words in
+    let at-if2 = at-add-words .before in let if2 = at-if2 .if2 in
+    let at-if1 = at-if2 .before in let if1 = at-if1 .if1 in
+    let at-is-convex = at-if1 .before in let is-convex = at-is-convex .is-convex in
+    let at-scan-words = at-is-convex .before .before .before in let scan-words = at-scan-words .scan-words in
+    let at-args = at-scan-words .before .before in let args = at-args .args in
+    let ws = args .words .now in let s = scan-words in let x = is-convex in let a = add-words in
+    session-read ws (s .result) (s .ensures) (if1 .left) (sym (x .ensures .same) ∙ not-false (x .result) (if2 .left)) (a .result) (a .ensures) (if3 .left)
+    (fresh .result) (fresh .ensures)
 
 pub read-words-spec : {M : Type 1} → statement M
 read-words-spec =

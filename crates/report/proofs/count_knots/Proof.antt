@@ -37,7 +37,11 @@ loop-less : tie.Need-loop-less Inv-loop μ-loop
 loop-less c = search needs
 
 loop-again : tie.Need-loop-again Inv-loop μ-loop
-loop-again c = (omega arith, omega arith, omega (arith, knots-more (c .before .before .before .before .args .t1) (c .before .before .before .loop .i) (omega arith), c .before .bit .ensures .0, c .wide .ensures .0))
+loop-again c =
+    let at-bit = c .before in let bit = at-bit .bit in
+    let at-loop = at-bit .before .before in let loop = at-loop .loop in
+    let at-args = at-loop .before in let args = at-args .args in
+    (omega arith, omega arith, omega (arith, knots-more (args .t1) (loop .i) (omega arith), bit .ensures .0, c .wide .ensures .0))
 
 returns : tie.Need-returns Inv-loop μ-loop
 returns c = let e = knots-none (c .before .before .args .t1) (c .before .loop .i) (omega arith) in (omega arith, omega arith)

@@ -45,7 +45,11 @@ loop-less : tie.Need-loop-less Inv-loop μ-loop
 loop-less c = search needs
 
 loop-again : tie.Need-loop-again Inv-loop μ-loop
-loop-again c = (omega arith, record { line = omega arith; column = omega arith; edges = omega arith; turns = omega arith }, tracing-on (c .before .before .before .before .before .before .loop .inv .2) (omega arith) (c .before .before .before .run-in .ensures .0) (c .trace-run .ensures .0) (c .before .mark-run .ensures))
+loop-again c =
+    let at-mark-run = c .before in let mark-run = at-mark-run .mark-run in
+    let at-run-in = at-mark-run .before .before in let run-in = at-run-in .run-in in
+    let at-loop = at-run-in .before .before .before in let loop = at-loop .loop in
+    (omega arith, record { line = omega arith; column = omega arith; edges = omega arith; turns = omega arith }, tracing-on (loop .inv .2) (omega arith) (run-in .ensures .0) (c .trace-run .ensures .0) (mark-run .ensures))
 
 returns : tie.Need-returns Inv-loop μ-loop
 returns c = (rw (c .before .before .before .wide .ensures .0, c .before .before .wide2 .ensures .0) at (tracing-done (c .before .loop .inv .2) (omega arith)), omega arith)

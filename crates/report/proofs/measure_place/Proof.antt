@@ -56,13 +56,22 @@ add-t18 : tie.Need-add-t18
 add-t18 c = omega arith
 
 add-t24 : tie.Need-add-t24
-add-t24 c = omega (arith, c .before .before .before .before .before .before .before .before .before .before .before .before .before .before .before .before .pre .1 .1, c .before .before .before .before .measure-path .ensures .1 .1)
+add-t24 c =
+    let at-measure-path = c .before .before .before .before in let measure-path = at-measure-path .measure-path in
+    let at-pre = at-measure-path .before .before .before .before .before .before .before .before .before .before .before .before in let pre = at-pre .pre in
+    omega (arith, pre .1 .1, measure-path .ensures .1 .1)
 
 returns-2 : tie.Need-returns-2
 returns-2 c = rw (c .enum-told .given .1) (place-none, omega arith)
 
 returns-3 : tie.Need-returns-3
-returns-3 c = rw (c .before .before .before .before .before .before .before .before .before .before .before .before .before .held .given .1) (place-on (omega arith) (omega arith) (c .before .before .before .before .before .before .before .before .long .ensures .0 ∙ ap (λ (p : Path). p .runs) (c .before .before .before .before .before .before .before .before .before .path-in .ensures)) (c .before .before .before .before .before .before .before .end-of .ensures .0) (c .before .before .before .before .measure-path .ensures .0) refl, omega arith)
+returns-3 c =
+    let at-measure-path = c .before .before .before .before in let measure-path = at-measure-path .measure-path in
+    let at-end-of = at-measure-path .before .before .before in let end-of = at-end-of .end-of in
+    let at-long = at-end-of .before in let long = at-long .long in
+    let at-path-in = at-long .before in let path-in = at-path-in .path-in in
+    let at-held = at-path-in .before .before .before .before in let held = at-held .held in
+    rw (held .given .1) (place-on (omega arith) (omega arith) (long .ensures .0 ∙ ap (λ (p : Path). p .runs) (path-in .ensures)) (end-of .ensures .0) (measure-path .ensures .0) refl, omega arith)
 
 pub measure-place-spec : {M : Type 1} → statement M
 measure-place-spec =

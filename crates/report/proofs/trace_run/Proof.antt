@@ -29,7 +29,13 @@ add-t11 c = search needs
 
 returns : tie.Need-returns
 unfolding traceRun
-returns c = (rw (c .before .before .before .before .before .line-after .ensures .0, c .before .before .before .before .column-after .ensures .0, c .before .before .before .last-after .ensures, c .before .turn-by .ensures .0, c .before .before .before .before .before .before .wide .ensures .0) refl, record { line = omega arith; column = omega arith; edges = omega arith; turns = omega arith })
+returns c =
+    let at-turn-by = c .before in let turn-by = at-turn-by .turn-by in
+    let at-last-after = at-turn-by .before .before in let last-after = at-last-after .last-after in
+    let at-column-after = at-last-after .before in let column-after = at-column-after .column-after in
+    let at-line-after = at-column-after .before in let line-after = at-line-after .line-after in
+    let at-wide = at-line-after .before in let wide = at-wide .wide in
+    (rw (line-after .ensures .0, column-after .ensures .0, last-after .ensures, turn-by .ensures .0, wide .ensures .0) refl, record { line = omega arith; column = omega arith; edges = omega arith; turns = omega arith })
 
 pub trace-run-spec : {M : Type 1} → statement M
 trace-run-spec =

@@ -15,7 +15,11 @@ returns : tie.Need-returns
 returns c = shape-bad _ _ (c .if1 .taken)
 
 returns-2 : tie.Need-returns-2
-returns-2 c = rw (shape-good (netsOf (c .before .before .before .before .args .nets)) (c .before .before .before .before .args .words .now) (c .before .before .if1 .left), ← c .before .count-nets .ensures) (c .check-words .ensures)
+returns-2 c =
+    let at-count-nets = c .before in let count-nets = at-count-nets .count-nets in
+    let at-if1 = at-count-nets .before in let if1 = at-if1 .if1 in
+    let at-args = at-if1 .before .before in let args = at-args .args in
+    rw (shape-good (netsOf (args .nets)) (args .words .now) (if1 .left), ← count-nets .ensures) (c .check-words .ensures)
 
 pub check-shape-spec : {M : Type 1} → statement M
 check-shape-spec = tie.close (tie.spec count-nets-requires check-words-requires returns returns-2)

@@ -35,7 +35,11 @@ add-result : tie.Need-add-result Inv-loop μ-loop
 add-result c = omega arith
 
 returns : tie.Need-returns Inv-loop μ-loop
-returns c = rw (← c .before .before .before .before .loop .inv) (starts-here (c .before .before .before .before .before .args .t1) (c .before .before .before .before .loop .i) (omega arith) (sym (c .before .held-one .ensures .0) ∙ c .if1 .taken))
+returns c =
+    let at-held-one = c .before in let held-one = at-held-one .held-one in
+    let at-loop = at-held-one .before .before .before in let loop = at-loop .loop in
+    let at-args = at-loop .before in let args = at-args .args in
+    rw (← loop .inv) (starts-here (args .t1) (loop .i) (omega arith) (sym (held-one .ensures .0) ∙ c .if1 .taken))
 
 add-i : tie.Need-add-i Inv-loop μ-loop
 add-i c = search needs
@@ -44,7 +48,11 @@ loop-less : tie.Need-loop-less Inv-loop μ-loop
 loop-less c = search needs
 
 loop-again : tie.Need-loop-again Inv-loop μ-loop
-loop-again c = sym (nets-skip (c .before .before .before .before .before .args .t1) (c .before .before .before .before .loop .i) (omega arith) (λ e. c .if1 .left (c .before .held-one .ensures .0 ∙ e))) ∙ c .before .before .before .before .loop .inv
+loop-again c =
+    let at-held-one = c .before in let held-one = at-held-one .held-one in
+    let at-loop = at-held-one .before .before .before in let loop = at-loop .loop in
+    let at-args = at-loop .before in let args = at-args .args in
+    sym (nets-skip (args .t1) (loop .i) (omega arith) (λ e. c .if1 .left (held-one .ensures .0 ∙ e))) ∙ loop .inv
 
 returns-2 : tie.Need-returns-2 Inv-loop μ-loop
 returns-2 c = rw (← c .before .loop .inv, nets-none (c .before .before .args .t1) (c .before .loop .i) (omega arith)) at-end

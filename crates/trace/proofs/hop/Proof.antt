@@ -39,7 +39,10 @@ hop-at-requires c κs = search needs
 
 returns : tie.Need-returns
 unfolding hopD
-returns c = (rw (lt-ltb _ _ (c .before .before .before .before .before .before .if1 .taken), lt-ltb _ _ (c .before .before .before .before .before .if2 .taken)) (cc), record { four = search needs; line = λ n. search needs; column = λ n. search needs })
+returns c =
+    let at-if2 = c .before .before .before .before .before in let if2 = at-if2 .if2 in
+    let at-if1 = at-if2 .before in let if1 = at-if1 .if1 in
+    (rw (lt-ltb _ _ (if1 .taken), lt-ltb _ _ (if2 .taken)) (cc), record { four = search needs; line = λ n. search needs; column = λ n. search needs })
 
 returns-2 : tie.Need-returns-2
 unfolding hopD

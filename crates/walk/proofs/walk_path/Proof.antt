@@ -40,7 +40,12 @@ enum-known-number : tie.Need-enum-known-number Inv-loop μ-loop
 enum-known-number c = search needs
 
 returns : tie.Need-returns Inv-loop μ-loop
-returns c = λ w. path-refused (c .before .before .before .before .before .before .before .before .loop .inv .2 w) (omega arith) (c .before .before .before .before .before .run-in .ensures .0) (c .before .before .before .walk-run .ensures w) (c .before .number .given .1) (omega arith)
+returns c =
+    let at-number = c .before in let number = at-number .number in
+    let at-walk-run = at-number .before .before in let walk-run = at-walk-run .walk-run in
+    let at-run-in = at-walk-run .before .before in let run-in = at-run-in .run-in in
+    let at-loop = at-run-in .before .before .before in let loop = at-loop .loop in
+    λ w. path-refused (loop .inv .2 w) (omega arith) (run-in .ensures .0) (walk-run .ensures w) (number .given .1) (omega arith)
 
 add-k : tie.Need-add-k Inv-loop μ-loop
 add-k c = search needs
@@ -49,7 +54,12 @@ loop-less : tie.Need-loop-less Inv-loop μ-loop
 loop-less c = search needs
 
 loop-again : tie.Need-loop-again Inv-loop μ-loop
-loop-again c = (omega arith, omega arith, λ w. runs-on (c .before .before .before .before .before .before .before .before .loop .inv .2 w) (omega arith) (c .before .before .before .before .before .run-in .ensures .0) (c .before .before .before .walk-run .ensures w) (c .before .u .given .1))
+loop-again c =
+    let at-u = c .before in let u = at-u .u in
+    let at-walk-run = at-u .before .before in let walk-run = at-walk-run .walk-run in
+    let at-run-in = at-walk-run .before .before in let run-in = at-run-in .run-in in
+    let at-loop = at-run-in .before .before .before in let loop = at-loop .loop in
+    (omega arith, omega arith, λ w. runs-on (loop .inv .2 w) (omega arith) (run-in .ensures .0) (walk-run .ensures w) (u .given .1))
 
 same-vertex-requires : tie.Need-same-vertex-requires Inv-loop μ-loop
 same-vertex-requires c κs = search needs

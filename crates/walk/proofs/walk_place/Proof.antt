@@ -65,10 +65,23 @@ returns-2 : tie.Need-returns-2
 returns-2 c = λ w. rw (c .enum-told .given .1) place-none
 
 returns-3 : tie.Need-returns-3
-returns-3 c = λ w. rw (c .before .before .before .before .before .before .before .before .before .before .before .held .given .1) (place-on (omega arith) (omega arith) (c .before .before .before .before .before .before .wider .ensures .0 ∙ ap (λ (p : Path). p .runs) (c .before .before .before .before .before .before .before .path-in .ensures)) (c .before .before .before .before .before .end-of .ensures .0) (c .before .before .walk-path .ensures w) (c .enum-told2 .given .1))
+returns-3 c =
+    let at-walk-path = c .before .before in let walk-path = at-walk-path .walk-path in
+    let at-end-of = at-walk-path .before .before .before in let end-of = at-end-of .end-of in
+    let at-wider = at-end-of .before in let wider = at-wider .wider in
+    let at-path-in = at-wider .before in let path-in = at-path-in .path-in in
+    let at-held = at-path-in .before .before .before .before in let held = at-held .held in
+    λ w. rw (held .given .1) (place-on (omega arith) (omega arith) (wider .ensures .0 ∙ ap (λ (p : Path). p .runs) (path-in .ensures)) (end-of .ensures .0) (walk-path .ensures w) (c .enum-told2 .given .1))
 
 returns-4 : tie.Need-returns-4
-returns-4 c = λ w. rw (c .before .before .before .before .before .before .before .before .before .before .before .before .held .given .1) (place-refused (omega arith) (omega arith) (c .before .before .before .before .before .before .before .wider .ensures .0 ∙ ap (λ (p : Path). p .runs) (c .before .before .before .before .before .before .before .before .path-in .ensures)) (c .before .before .before .before .before .before .end-of .ensures .0) (c .before .before .before .walk-path .ensures w) (c .before .r .given .1))
+returns-4 c =
+    let at-r = c .before in let r = at-r .r in
+    let at-walk-path = at-r .before .before in let walk-path = at-walk-path .walk-path in
+    let at-end-of = at-walk-path .before .before .before in let end-of = at-end-of .end-of in
+    let at-wider = at-end-of .before in let wider = at-wider .wider in
+    let at-path-in = at-wider .before in let path-in = at-path-in .path-in in
+    let at-held = at-path-in .before .before .before .before in let held = at-held .held in
+    λ w. rw (held .given .1) (place-refused (omega arith) (omega arith) (wider .ensures .0 ∙ ap (λ (p : Path). p .runs) (path-in .ensures)) (end-of .ensures .0) (walk-path .ensures w) (r .given .1))
 
 pub walk-place-spec : {M : Type 1} → statement M
 walk-place-spec =

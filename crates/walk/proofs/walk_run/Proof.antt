@@ -33,10 +33,20 @@ element-copy-out-again : tie.Need-element-copy-out-again Inv-loop μ-loop
 element-copy-out-again c = omega arith
 
 returns : tie.Need-returns Inv-loop μ-loop
-returns c = λ w. along-off (c .before .before .before .before .before .loop .inv w) (c .before .before .before .before .loop-test .taken) (sym (c .before .before .is-edge .ensures .same) ∙ not-true _ (c .if1 .taken))
+returns c =
+    let at-is-edge = c .before .before in let is-edge = at-is-edge .is-edge in
+    let at-loop-test = at-is-edge .before .before in let loop-test = at-loop-test .loop-test in
+    let at-loop = at-loop-test .before in let loop = at-loop .loop in
+    λ w. along-off (loop .inv w) (loop-test .taken) (sym (is-edge .ensures .same) ∙ not-true _ (c .if1 .taken))
 
 returns-2 : tie.Need-returns-2 Inv-loop μ-loop
-returns-2 c = λ w. along-again w (c .before .before .before .before .before .before .loop .inv w) (c .before .before .before .before .before .loop-test .taken) (sym (c .before .before .before .is-edge .ensures .same) ∙ not-false _ (c .before .if1 .left)) (c .before .before .before .before .slot-of .ensures .0) (ltb-true _ _ (c .if2 .taken))
+returns-2 c =
+    let at-if1 = c .before in let if1 = at-if1 .if1 in
+    let at-is-edge = at-if1 .before .before in let is-edge = at-is-edge .is-edge in
+    let at-slot-of = at-is-edge .before in let slot-of = at-slot-of .slot-of in
+    let at-loop-test = at-slot-of .before in let loop-test = at-loop-test .loop-test in
+    let at-loop = at-loop-test .before in let loop = at-loop .loop in
+    λ w. along-again w (loop .inv w) (loop-test .taken) (sym (is-edge .ensures .same) ∙ not-false _ (if1 .left)) (slot-of .ensures .0) (ltb-true _ _ (c .if2 .taken))
 
 element-write-used : tie.Need-element-write-used Inv-loop μ-loop
 element-write-used c = omega arith
@@ -51,10 +61,17 @@ loop-less : tie.Need-loop-less Inv-loop μ-loop
 loop-less c = omega arith
 
 loop-again : tie.Need-loop-again Inv-loop μ-loop
-loop-again c = λ w.
-    let on = (sym (c .before .before .before .before .is-edge .ensures .same) ∙ not-false _ (c .before .before .if1 .left)) in
+loop-again c =
+    let at-if2 = c .before in let if2 = at-if2 .if2 in
+    let at-if1 = at-if2 .before in let if1 = at-if1 .if1 in
+    let at-is-edge = at-if1 .before .before in let is-edge = at-is-edge .is-edge in
+    let at-slot-of = at-is-edge .before in let slot-of = at-slot-of .slot-of in
+    let at-loop-test = at-slot-of .before in let loop-test = at-loop-test .loop-test in
+    let at-loop = at-loop-test .before in let loop = at-loop .loop in
+    λ w.
+    let on = (sym (is-edge .ensures .same) ∙ not-false _ (if1 .left)) in
     let near = vertex-near _ w _ _ on in
-    along-on w (c .before .before .before .before .before .before .before .loop .inv w) (c .before .before .before .before .before .before .loop-test .taken) on (c .before .before .before .before .before .slot-of .ensures .0) (ltb-false _ _ (c .before .if2 .left)) (c .next-of .ensures (near .0) (near .1))
+    along-on w (loop .inv w) (loop-test .taken) on (slot-of .ensures .0) (ltb-false _ _ (if2 .left)) (c .next-of .ensures (near .0) (near .1))
 
 returns-3 : tie.Need-returns-3 Inv-loop μ-loop
 returns-3 c = λ w. along-done (c .before .loop .inv w) (c .loop-test .left)

@@ -30,8 +30,12 @@ as-net-requires c κs = search needs
 returns-2 : tie.Need-returns-2
 unfolding boardWord
 returns-2 c =
-    let w = c .before .before .before .before .args .w in
-    rw (ne-eqb (kind w) 1 (λ e. c .before .before .if1 .left (c .before .before .before .kind-of .ensures ∙ e)), eq-eqb (kind w) 2 (sym (c .before .before .before .kind-of .ensures) ∙ c .before .if2 .taken)) (c .as-net .ensures)
+    let at-if2 = c .before in let if2 = at-if2 .if2 in
+    let at-if1 = at-if2 .before in let if1 = at-if1 .if1 in
+    let at-kind-of = at-if1 .before in let kind-of = at-kind-of .kind-of in
+    let at-args = at-kind-of .before in let args = at-args .args in
+    let w = args .w in
+    rw (ne-eqb (kind w) 1 (λ e. if1 .left (kind-of .ensures ∙ e)), eq-eqb (kind w) 2 (sym (kind-of .ensures) ∙ if2 .taken)) (c .as-net .ensures)
 
 as-end-requires : tie.Need-as-end-requires
 as-end-requires c κs = search needs
@@ -39,14 +43,23 @@ as-end-requires c κs = search needs
 returns-3 : tie.Need-returns-3
 unfolding boardWord
 returns-3 c =
-    let w = c .before .before .before .before .before .args .w in
-    rw (ne-eqb (kind w) 1 (λ e. c .before .before .before .if1 .left (c .before .before .before .before .kind-of .ensures ∙ e)), ne-eqb (kind w) 2 (λ e. c .before .before .if2 .left (c .before .before .before .before .kind-of .ensures ∙ e)), eq-eqb (kind w) 15 (sym (c .before .before .before .before .kind-of .ensures) ∙ c .before .if3 .taken)) (c .as-end .ensures)
+    let at-if3 = c .before in let if3 = at-if3 .if3 in
+    let at-if2 = at-if3 .before in let if2 = at-if2 .if2 in
+    let at-if1 = at-if2 .before in let if1 = at-if1 .if1 in
+    let at-kind-of = at-if1 .before in let kind-of = at-kind-of .kind-of in
+    let at-args = at-kind-of .before in let args = at-args .args in
+    let w = args .w in
+    rw (ne-eqb (kind w) 1 (λ e. if1 .left (kind-of .ensures ∙ e)), ne-eqb (kind w) 2 (λ e. if2 .left (kind-of .ensures ∙ e)), eq-eqb (kind w) 15 (sym (kind-of .ensures) ∙ if3 .taken)) (c .as-end .ensures)
 
 returns-4 : tie.Need-returns-4
 unfolding boardWord
 returns-4 c =
-    let w = c .before .before .before .before .args .w in
-    rw (ne-eqb (kind w) 1 (λ e. c .before .before .if1 .left (c .before .before .before .kind-of .ensures ∙ e)), ne-eqb (kind w) 2 (λ e. c .before .if2 .left (c .before .before .before .kind-of .ensures ∙ e)), ne-eqb (kind w) 15 (λ e. c .if3 .left (c .before .before .before .kind-of .ensures ∙ e))) refl
+    let at-if2 = c .before in let if2 = at-if2 .if2 in
+    let at-if1 = at-if2 .before in let if1 = at-if1 .if1 in
+    let at-kind-of = at-if1 .before in let kind-of = at-kind-of .kind-of in
+    let at-args = at-kind-of .before in let args = at-args .args in
+    let w = args .w in
+    rw (ne-eqb (kind w) 1 (λ e. if1 .left (kind-of .ensures ∙ e)), ne-eqb (kind w) 2 (λ e. if2 .left (kind-of .ensures ∙ e)), ne-eqb (kind w) 15 (λ e. c .if3 .left (kind-of .ensures ∙ e))) refl
 
 pub board-word-spec : {M : Type 1} → statement M
 board-word-spec =

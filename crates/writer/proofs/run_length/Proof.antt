@@ -43,8 +43,12 @@ code-of-requires-2 c κs = search needs
 
 returns : tie.Need-returns Inv-loop μ-loop
 returns c =
-    let a = c .before .before .before .before .before .before .before .before .args in
-    run-turns (a .dirs .now) (a .from) (c .before .before .before .before .loop .n) (c .before .before .before .before .loop .inv .0) (search needs) (λ e. c .if1 .taken (c .before .code-of2 .ensures ∙ (e ∙ sym (c .before .before .before .before .before .code-of .ensures)))) (c .before .before .before .before .loop .inv .2)
+    let at-code-of2 = c .before in let code-of2 = at-code-of2 .code-of2 in
+    let at-loop = at-code-of2 .before .before .before in let loop = at-loop .loop in
+    let at-code-of = at-loop .before in let code-of = at-code-of .code-of in
+    let at-args = at-code-of .before .before .before in let args = at-args .args in
+    let a = args in
+    run-turns (a .dirs .now) (a .from) (loop .n) (loop .inv .0) (search needs) (λ e. c .if1 .taken (code-of2 .ensures ∙ (e ∙ sym (code-of .ensures)))) (loop .inv .2)
 
 add-n : tie.Need-add-n Inv-loop μ-loop
 add-n c = search needs
@@ -54,8 +58,12 @@ loop-less c = search needs
 
 loop-again : tie.Need-loop-again Inv-loop μ-loop
 loop-again c =
-    let a = c .before .before .before .before .before .before .before .before .args in
-    (search needs, search needs, run-on (a .dirs .now) (a .from) (c .before .before .before .before .loop .n) (search needs) (sym (c .before .code-of2 .ensures) ∙ (c .if1 .left ∙ c .before .before .before .before .before .code-of .ensures)) (c .before .before .before .before .loop .inv .2))
+    let at-code-of2 = c .before in let code-of2 = at-code-of2 .code-of2 in
+    let at-loop = at-code-of2 .before .before .before in let loop = at-loop .loop in
+    let at-code-of = at-loop .before in let code-of = at-code-of .code-of in
+    let at-args = at-code-of .before .before .before in let args = at-args .args in
+    let a = args in
+    (search needs, search needs, run-on (a .dirs .now) (a .from) (loop .n) (search needs) (sym (code-of2 .ensures) ∙ (c .if1 .left ∙ code-of .ensures)) (loop .inv .2))
 
 returns-2 : tie.Need-returns-2 Inv-loop μ-loop
 returns-2 c =

@@ -24,18 +24,28 @@ array-share-prefix-dirs : tie.Need-array-share-prefix-dirs
 array-share-prefix-dirs c = omega (arith, c .before .before .assemble .ensures .kept, length-replicate {A = ℕ} 2048 0, c .before .least .ensures .1)
 
 slice-aggregate-write-path : tie.Need-slice-aggregate-write-path
-slice-aggregate-write-path c = sym (length-take-le _ _ (omega (arith, c .before .before .before .assemble .ensures .kept, length-replicate {A = ℕ} 2048 0, c .before .before .least .ensures .1)))
+slice-aggregate-write-path c =
+    let at-least = c .before .before in let least = at-least .least in
+    let at-assemble = at-least .before in let assemble = at-assemble .assemble in
+    sym (length-take-le _ _ (omega (arith, assemble .ensures .kept, length-replicate {A = ℕ} 2048 0, least .ensures .1)))
 
 write-path-requires : tie.Need-write-path-requires
-write-path-requires c κs = omega (arith, c .before .before .least .ensures .1, length-take (c .before .before .least .result) (c .before .before .before .assemble .last .1 .1 .1 .1 .1 .1 .1 .1 .1 .0))
+write-path-requires c κs =
+    let at-least = c .before .before in let least = at-least .least in
+    let at-assemble = at-least .before in let assemble = at-assemble .assemble in
+    omega (arith, least .ensures .1, length-take (least .result) (assemble .last .1 .1 .1 .1 .1 .1 .1 .1 .1 .0))
 
 same-length : tie.Need-same-length
 same-length c = search needs
 
 returns : tie.Need-returns
 returns c =
-    let a = c .before .before .before .before .before .before .before .before .before .args in
-    (net-few (a .net) (c .before .before .before .before .before .before .assemble .ensures) (length-replicate {A = ℕ} 2048 0) (c .before .before .before .before .before .least .ensures .1) (c .before .before .before .before .before .least .ensures .2) (c .before .before .write-path .ensures), net-written (a .net) (c .before .before .before .before .before .before .assemble .ensures) (length-replicate {A = ℕ} 2048 0) (c .before .before .before .before .before .least .ensures .1) (c .before .before .before .before .before .least .ensures .2) (c .before .before .write-path .ensures))
+    let at-write-path = c .before .before in let write-path = at-write-path .write-path in
+    let at-least = at-write-path .before .before .before in let least = at-least .least in
+    let at-assemble = at-least .before in let assemble = at-assemble .assemble in
+    let at-args = at-assemble .before .before .before in let args = at-args .args in
+    let a = args in
+    (net-few (a .net) (assemble .ensures) (length-replicate {A = ℕ} 2048 0) (least .ensures .1) (least .ensures .2) (write-path .ensures), net-written (a .net) (assemble .ensures) (length-replicate {A = ℕ} 2048 0) (least .ensures .1) (least .ensures .2) (write-path .ensures))
 
 pub write-net-spec : {M : Type 1} → statement M
 write-net-spec =

@@ -58,10 +58,20 @@ add-from : tie.Need-add-from Inv-loop μ-loop
 add-from c = omega (arith, c .before .before .before .before .before .before .before .before .run-length .ensures .within)
 
 loop-less : tie.Need-loop-less Inv-loop μ-loop
-loop-less c = omega (arith, c .before .before .before .before .before .before .before .before .run-length .ensures .some, c .before .before .before .before .before .before .before .before .run-length .ensures .within, c .before .before .before .before .before .before .before .before .before .loop-test .taken)
+loop-less c =
+    let at-run-length = c .before .before .before .before .before .before .before .before in let run-length = at-run-length .run-length in
+    let at-loop-test = at-run-length .before in let loop-test = at-loop-test .loop-test in
+    omega (arith, run-length .ensures .some, run-length .ensures .within, loop-test .taken)
 
 loop-again : tie.Need-loop-again Inv-loop μ-loop
-loop-again c = rw (c .before .before .put .ensures) (partly-next (c .before .before .before .before .before .before .before .before .before .before .loop .inv) (c .before .before .before .before .before .before .before .before .run-length .ensures) (c .before .before .before .run-word .ensures ∙ ap (λ (d : Direction). runWord (run d (c .before .before .before .before .before .before .before .before .run-length .result))) (c .before .before .before .before .before .direction-of .ensures ∙ ap direction (c .before .before .before .before .before .before .wide .ensures))))
+loop-again c =
+    let at-put = c .before .before in let put = at-put .put in
+    let at-run-word = at-put .before in let run-word = at-run-word .run-word in
+    let at-direction-of = at-run-word .before .before in let direction-of = at-direction-of .direction-of in
+    let at-wide = at-direction-of .before in let wide = at-wide .wide in
+    let at-run-length = at-wide .before .before in let run-length = at-run-length .run-length in
+    let at-loop = at-run-length .before .before in let loop = at-loop .loop in
+    rw (put .ensures) (partly-next (loop .inv) (run-length .ensures) (run-word .ensures ∙ ap (λ (d : Direction). runWord (run d (run-length .result))) (direction-of .ensures ∙ ap direction (wide .ensures))))
 
 cast-t18 : tie.Need-cast-t18 Inv-loop μ-loop
 cast-t18 c = search needs
@@ -79,7 +89,13 @@ same-length : tie.Need-same-length Inv-loop μ-loop
 same-length c = search needs
 
 returns : tie.Need-returns Inv-loop μ-loop
-returns c = rw (c .before .before .put2 .ensures) (partly-all (c .before .before .before .before .before .before .before .before .before .args .net) (c .before .before .before .before .before .before .loop .inv) (c .before .before .before .before .before .loop-test .left) (c .before .before .before .pack-path .ensures))
+returns c =
+    let at-put2 = c .before .before in let put2 = at-put2 .put2 in
+    let at-pack-path = at-put2 .before in let pack-path = at-pack-path .pack-path in
+    let at-loop-test = at-pack-path .before .before in let loop-test = at-loop-test .loop-test in
+    let at-loop = at-loop-test .before in let loop = at-loop .loop in
+    let at-args = at-loop .before .before .before in let args = at-args .args in
+    rw (put2 .ensures) (partly-all (args .net) (loop .inv) (loop-test .left) (pack-path .ensures))
 
 pub write-path-spec : {M : Type 1} → statement M
 write-path-spec =

@@ -72,11 +72,17 @@ loop-less c = search needs
 
 loop-again : tie.Need-loop-again Inv-loop μ-loop
 loop-again c =
-    let a = c .before .before .before .before .before .before .before .before .before .before .before .args in
-    let at = c .before .before .before .before .before .before .before .before .before .loop in
-    let w = c .before .before .before .write-place in
-    let there : at .i < length (a .t8) = omega (arith, at .inv .1, c .before .before .before .before .before .before .before .before .loop-test .taken) in
-    (search needs, at .inv .1, rw (c .held-count .ensures .0) (through-next (pathD (a .side .now) (a .vert .now) (a .half .now) (a .s1 .now) (a .s2 .now) (a .d1 .now) (a .d2 .now) 2112) (a .t8) (a .out .now) (at .out) (w .last .1 .1 .1 .1 .1 .1 .1 .1 .1 .1 .0) (at .at) (at .k) (at .i) (c .before .before .before .before .before .before .least .result) (w .result) there (at .inv .2) (c .before .before .before .before .before .before .least .ensures .1) (c .before .before .before .before .before .before .least .ensures .2) (w .ensures .0) (w .kept .1 .1 .1 .1 .1 .1 .1 .1 .1 .1 .0) (rw (c .before .before .before .before .before .number-at .ensures) at (w .ensures .1))))
+    let at-write-place = c .before .before .before in let write-place = at-write-place .write-place in
+    let at-number-at = at-write-place .before .before in let number-at = at-number-at .number-at in
+    let at-least = at-number-at .before in let least = at-least .least in
+    let at-loop-test = at-least .before .before in let loop-test = at-loop-test .loop-test in
+    let at-loop = at-loop-test .before in let loop = at-loop .loop in
+    let at-args = at-loop .before .before in let args = at-args .args in
+    let a = args in
+    let at = loop in
+    let w = write-place in
+    let there : at .i < length (a .t8) = omega (arith, at .inv .1, loop-test .taken) in
+    (search needs, at .inv .1, rw (c .held-count .ensures .0) (through-next (pathD (a .side .now) (a .vert .now) (a .half .now) (a .s1 .now) (a .s2 .now) (a .d1 .now) (a .d2 .now) 2112) (a .t8) (a .out .now) (at .out) (w .last .1 .1 .1 .1 .1 .1 .1 .1 .1 .1 .0) (at .at) (at .k) (at .i) (least .result) (w .result) there (at .inv .2) (least .ensures .1) (least .ensures .2) (w .ensures .0) (w .kept .1 .1 .1 .1 .1 .1 .1 .1 .1 .1 .0) (rw (number-at .ensures) at (w .ensures .1))))
 
 cast-pack-routing-end : tie.Need-cast-pack-routing-end Inv-loop μ-loop
 cast-pack-routing-end c = search needs
@@ -95,10 +101,14 @@ same-length c = search needs
 
 returns : tie.Need-returns Inv-loop μ-loop
 returns c =
-    let a = c .before .before .before .before .before .before .before .before .args in
-    let at = c .before .before .before .before .before .before .loop in
+    let at-put = c .before .before in let put = at-put .put in
+    let at-pack-routing-end = at-put .before in let pack-routing-end = at-pack-routing-end .pack-routing-end in
+    let at-loop = at-pack-routing-end .before .before .before in let loop = at-loop .loop in
+    let at-args = at-loop .before .before in let args = at-args .args in
+    let a = args in
+    let at = loop in
     let all : length (a .t8) ≤ at .i = search needs in
-    λ s. rw (c .before .before .put .ensures) (through-all (pathD (a .side .now) (a .vert .now) (a .half .now) (a .s1 .now) (a .s2 .now) (a .d1 .now) (a .d2 .now) 2112) (a .t8) (at .inv .2) all (c .before .before .before .pack-routing-end .ensures) s)
+    λ s. rw (put .ensures) (through-all (pathD (a .side .now) (a .vert .now) (a .half .now) (a .s1 .now) (a .s2 .now) (a .d1 .now) (a .d2 .now) 2112) (a .t8) (at .inv .2) all (pack-routing-end .ensures) s)
 
 pub write-paths-spec : {M : Type 1} → statement M
 write-paths-spec =

@@ -24,7 +24,10 @@ same-length : tie.Need-same-length
 same-length c = search needs
 
 returns-2 : tie.Need-returns-2
-returns-2 c = (c .before .before .write-net .ensures .0, held-net (c .before .before .before .before .before .before .before .before .args .place .held) (c .before .before .before .before .before .before .before .before .args .number) _ _ (c .before .before .before .before .before .before .before .before .args .out .now) (c .before .before .write-net .result) _ (cc) (c .before .before .write-net .ensures .1))
+returns-2 c =
+    let at-write-net = c .before .before in let write-net = at-write-net .write-net in
+    let at-args = at-write-net .before .before .before .before .before .before in let args = at-args .args in
+    (write-net .ensures .0, held-net (args .place .held) (args .number) _ _ (args .out .now) (write-net .result) _ (cc) (write-net .ensures .1))
 
 pub write-place-spec : {M : Type 1} → statement M
 write-place-spec =

@@ -17,19 +17,35 @@ sound-requires : tie.Need-sound-requires
 sound-requires c κs = search needs
 
 returns : tie.Need-returns
-returns c = unsound-write (sessionOf (c .before .before .before .args .s)) (c .before .before .before .args .out .now) (sym (c .before .sound .ensures .same) ∙ not-true (c .before .sound .result) (c .if1 .taken))
+returns c =
+    let at-sound = c .before in let sound = at-sound .sound in
+    let at-args = at-sound .before .before in let args = at-args .args in
+    unsound-write (sessionOf (args .s)) (args .out .now) (sym (sound .ensures .same) ∙ not-true (sound .result) (c .if1 .taken))
 
 returns-2 : tie.Need-returns-2
-returns-2 c = short-write (sessionOf (c .before .before .before .before .args .s)) (c .before .before .before .before .args .out .now) (sym (c .before .before .sound .ensures .same) ∙ not-false (c .before .before .sound .result) (c .before .if1 .left)) (c .if2 .taken)
+returns-2 c =
+    let at-if1 = c .before in let if1 = at-if1 .if1 in
+    let at-sound = at-if1 .before in let sound = at-sound .sound in
+    let at-args = at-sound .before .before in let args = at-args .args in
+    short-write (sessionOf (args .s)) (args .out .now) (sym (sound .ensures .same) ∙ not-false (sound .result) (if1 .left)) (c .if2 .taken)
 
 write-sound-requires : tie.Need-write-sound-requires
-write-sound-requires c κs = (omega (arith, height-of (c .before .before .before .before .before .args .s .board), c .before .before .before .sound .ensures .exact .0 (not-false (c .before .before .before .sound .result) (c .before .before .if1 .left)) .within .few), omega arith)
+write-sound-requires c κs =
+    let at-if1 = c .before .before in let if1 = at-if1 .if1 in
+    let at-sound = at-if1 .before in let sound = at-sound .sound in
+    let at-args = at-sound .before .before in let args = at-args .args in
+    (omega (arith, height-of (args .s .board), sound .ensures .exact .0 (not-false (sound .result) (if1 .left)) .within .few), omega arith)
 
 same-length : tie.Need-same-length
 same-length c = search needs
 
 returns-3 : tie.Need-returns-3
-returns-3 c = whole-write (sessionOf (c .before .before .before .before .before .before .before .before .args .s)) (c .before .before .before .before .before .before .before .before .args .out .now) _ (c .before .before .write-sound .result) (sym (c .before .before .before .before .before .before .sound .ensures .same) ∙ not-false (c .before .before .before .before .before .before .sound .result) (c .before .before .before .before .before .if1 .left)) (omega arith) (c .before .before .write-sound .ensures)
+returns-3 c =
+    let at-write-sound = c .before .before in let write-sound = at-write-sound .write-sound in
+    let at-if1 = at-write-sound .before .before .before in let if1 = at-if1 .if1 in
+    let at-sound = at-if1 .before in let sound = at-sound .sound in
+    let at-args = at-sound .before .before in let args = at-args .args in
+    whole-write (sessionOf (args .s)) (args .out .now) _ (write-sound .result) (sym (sound .ensures .same) ∙ not-false (sound .result) (if1 .left)) (omega arith) (write-sound .ensures)
 
 pub write-board-spec : {M : Type 1} → statement M
 write-board-spec =

@@ -45,9 +45,12 @@ loop-less c = search needs
 
 loop-again : tie.Need-loop-again Inv-loop μ-loop
 loop-again c =
-    let at = c .before .before .before .before .before .before .loop in let ps = c .before .before .before .before .before .before .before .before .args .t1 in
+    let at-write-place = c .before .before in let write-place = at-write-place .write-place in
+    let at-loop = at-write-place .before .before .before .before in let loop = at-loop .loop in
+    let at-args = at-loop .before .before in let args = at-args .args in
+    let at = loop in let ps = args .t1 in
     let e : at .number + 1 ≡ at .i + 1 = omega arith in
-    let k = continues-more (netWords ps (at .i)) (heldWord (at .i + 1) (getD ps (at .i) nothing .held)) (c .before .before .before .before .before .before .before .before .args .out .now) (at .out) _ (c .before .before .before .before .before .before .before .before .args .from) (at .at) _ (at .inv .4) (rw e at (c .before .before .write-place .ensures)) in (
+    let k = continues-more (netWords ps (at .i)) (heldWord (at .i + 1) (getD ps (at .i) nothing .held)) (args .out .now) (at .out) _ (args .from) (at .at) _ (at .inv .4) (rw e at (write-place .ensures)) in (
       omega arith,
       omega arith,
       omega (arith, k .index, net-words-le ps (at .i + 1) (omega arith), ap length (net-words-more ps (at .i) (omega arith))),

@@ -33,7 +33,10 @@ same-length : tie.Need-same-length
 same-length c = search needs
 
 returns-2 : tie.Need-returns-2
-returns-2 c = rw (c .before .before .held .given .1, ← c .pack-net .ensures) (continues-one (c .before .before .before .before .before .args .out .now) (c .before .before .before .before .before .args .at) (c .pack-net .result) (omega arith))
+returns-2 c =
+    let at-held = c .before .before in let held = at-held .held in
+    let at-args = at-held .before .before .before in let args = at-args .args in
+    rw (held .given .1, ← c .pack-net .ensures) (continues-one (args .out .now) (args .at) (c .pack-net .result) (omega arith))
 
 pub write-place-spec : {M : Type 1} → statement M
 write-place-spec =

@@ -40,7 +40,10 @@ mul-out : tie.Need-mul-out Inv-loop μ-loop
 mul-out c = search needs
 
 slice-write-out : tie.Need-slice-write-out Inv-loop μ-loop
-slice-write-out c = omega (arith, stored-length (rowWords (c .before .before .before .before .before .before .before .args .b .rows) (c .before .before .before .loop .i)) (c .before .before .before .loop .out) (c .before .before .before .before .before .before .before .args .out .now) (omega (arith, row-words-length (c .before .before .before .before .before .before .before .args .b .rows) (c .before .before .before .loop .i))) (c .before .before .before .loop .inv .3))
+slice-write-out c =
+    let at-loop = c .before .before .before in let loop = at-loop .loop in
+    let at-args = at-loop .before .before .before .before in let args = at-args .args in
+    omega (arith, stored-length (rowWords (args .b .rows) (loop .i)) (loop .out) (args .out .now) (omega (arith, row-words-length (args .b .rows) (loop .i))) (loop .inv .3))
 
 add-i : tie.Need-add-i Inv-loop μ-loop
 add-i c = search needs
@@ -50,19 +53,28 @@ loop-less c = search needs
 
 loop-again : tie.Need-loop-again Inv-loop μ-loop
 loop-again c =
-    let rs = c .before .before .before .before .before .before .before .args .b .rows in let at = c .before .before .before .loop in (
+    let at-loop = c .before .before .before in let loop = at-loop .loop in
+    let at-args = at-loop .before .before .before .before in let args = at-args .args in
+    let rs = args .b .rows in let at = loop in (
       omega arith,
       omega arith,
       omega arith,
       rw (row-words-more rs (at .i), c .pack-row .ensures)
-          (store-next (rowWords rs (at .i)) (at .out) (c .before .before .before .before .before .before .before .args .out .now) (at .i) _ (row-words-length rs (at .i)) (omega arith) (at .inv .3)),
+          (store-next (rowWords rs (at .i)) (at .out) (args .out .now) (at .i) _ (row-words-length rs (at .i)) (omega arith) (at .inv .3)),
     )
 
 same-length : tie.Need-same-length Inv-loop μ-loop
-same-length c = stored-length (rowWords (c .before .before .before .before .before .args .b .rows) (c .before .loop .i)) (c .before .loop .out) (c .before .before .before .before .before .args .out .now) (omega (arith, row-words-length (c .before .before .before .before .before .args .b .rows) (c .before .loop .i))) (c .before .loop .inv .3)
+same-length c =
+    let at-loop = c .before in let loop = at-loop .loop in
+    let at-args = at-loop .before .before .before .before in let args = at-args .args in
+    stored-length (rowWords (args .b .rows) (loop .i)) (loop .out) (args .out .now) (omega (arith, row-words-length (args .b .rows) (loop .i))) (loop .inv .3)
 
 returns : tie.Need-returns Inv-loop μ-loop
-returns c = let e : c .before .loop .i ≡ c .before .before .before .before .before .args .b .count = omega (arith, c .before .before .before .wide .ensures) in rw e at (c .before .loop .inv .3)
+returns c =
+    let at-loop = c .before in let loop = at-loop .loop in
+    let at-wide = at-loop .before .before in let wide = at-wide .wide in
+    let at-args = at-wide .before .before in let args = at-args .args in
+    let e : loop .i ≡ args .b .count = omega (arith, wide .ensures) in rw e at (loop .inv .3)
 
 pub write-rows-spec : {M : Type 1} → statement M
 write-rows-spec =
