@@ -2,8 +2,8 @@
 use board::Board;
 use board::Vertex;
 use cut::Cut;
-use cut::FoundCut;
-use cut::FoundVertex;
+use search::FoundCut;
+use search::FoundVertex;
 use cut::Tally;
 use net::Place;
 
@@ -61,7 +61,7 @@ pub fn convexity(b: Board) {
 
 // The first odd vertex.
 pub fn first_odd(b: Board, nets: [Place; 64]) {
-    let found = cut::first_odd(b, nets);
+    let found = search::first_odd(b, nets);
     match found {
         FoundVertex::Nothing => {
             io::write_all(1, b"no odd vertex");
@@ -75,7 +75,7 @@ pub fn first_odd(b: Board, nets: [Place; 64]) {
 
 // The first overfull cut, and its margin.
 pub fn first_overfull(b: Board, nets: [Place; 64]) {
-    let found = cut::first_overfull(b, nets);
+    let found = search::first_overfull(b, nets);
     match found {
         FoundCut::Nothing => {
             io::write_all(1, b"no overfull cut");

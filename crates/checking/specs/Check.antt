@@ -12,7 +12,7 @@ use Rattle.machine.specs.Refusal.{Refusal, line, firstRefusal}
 use Rattle.machine.specs.Session.{holds}
 use Rattle.machine.specs.Machine.{Answer, accepted, refused}
 use Rattle.machine.specs.Add.{goodNumber, full, addLines, addRefused, isNone, accepts}
-use Rattle.checking.specs.Answers.{addAnswer, isAccepted}
+use Rattle.answers.specs.Answers.{addAnswer, isAccepted}
 use Rattle.checking.specs.Lines.{firstOf, checkOf}
 
 -- DEFINITION: a refusal, if there is one, as the machine's answer

@@ -1,4 +1,5 @@
 // What adding a net answers: refusals 21 to 25, in the order of the table.
+use answers::AddAnswer;
 use board::Board;
 use board::Vertex;
 use net::Net;
@@ -7,25 +8,7 @@ ghost use mathlib.Core.Path.{_≡_};
 ghost use Rattle.board.specs.View.{boardOf};
 ghost use Rattle.machine.specs.Add.{full, accepts};
 ghost use Rattle.places.specs.Places.{netsOf};
-ghost use Rattle.checking.specs.Answers.{isAccepted, addAnswer, toldOf};
 ghost use Rattle.checking.specs.Lines.{checkOf};
-
-// What add answers. The number is that of the terminal: 0 the first, 1 the second.
-pub enum AddAnswer {
-    Accepted,
-    Unsound,
-    BadNumber,
-    NumberTaken,
-    NoVertex(u8),
-    SameVertex,
-    PinsTaken(u8),
-}
-
-// An answer by its number and place; number 0 where the call is accepted.
-pub struct Told {
-    pub number: u8,
-    pub place: u8,
-}
 
 // Are the pins of v all taken?
 fn is_full(b: Board, nets: [Place; 64], v: Vertex) -> bool
@@ -65,52 +48,9 @@ pub fn check(b: Board, nets: [Place; 64], net: Net) -> AddAnswer
     AddAnswer::Accepted
 }
 
-pub fn is_accepted(answer: AddAnswer) -> bool
-    ensures { λ r. ⌜ r ≡ isAccepted answer ⌝ }
-{
-    match answer {
-        AddAnswer::Accepted => true,
-        AddAnswer::Unsound => false,
-        AddAnswer::BadNumber => false,
-        AddAnswer::NumberTaken => false,
-        AddAnswer::NoVertex(_) => false,
-        AddAnswer::SameVertex => false,
-        AddAnswer::PinsTaken(_) => false,
-    }
-}
-
 // Does add accept the net?
 pub fn is_free(b: Board, nets: [Place; 64], net: Net) -> bool
     ensures { λ r. ⌜ r ≡ accepts (boardOf b) (netsOf nets) net ⌝ }
 {
-    is_accepted(check(b, nets, net))
-}
-
-pub fn add_told(answer: AddAnswer) -> Told
-    ensures { λ r. ⌜ toldOf r ≡ addAnswer answer ⌝ }
-{
-    match answer {
-        AddAnswer::Accepted => Told {
-            number: 0,
-            place: 0,
-        },
-        AddAnswer::Unsound => Told {
-            number: 20,
-            place: 0,
-        },
-        AddAnswer::BadNumber => Told {
-            number: 21,
-            place: 0,
-        },
-        AddAnswer::NumberTaken => Told {
-            number: 22,
-            place: 0,
-        },
-        AddAnswer::NoVertex(place) => Told { number: 23, place },
-        AddAnswer::SameVertex => Told {
-            number: 24,
-            place: 0,
-        },
-        AddAnswer::PinsTaken(place) => Told { number: 25, place },
-    }
+    answers::is_accepted(check(b, nets, net))
 }

@@ -4,13 +4,13 @@ use mathlib.Core.Path.{_≡_, refl, ap, sym}
 use mathlib.Core.Bool.{Bool, true, false, _&&_}
 use mathlib.Core.List.{List, [], map, head?}
 use mathlib.Core.Logic.{_⊎_, inl, inr, _↔_}
-use mathlib.Core.Option.{Option, none, some}
+use mathlib.Core.Option.{some}
 use Prim.Native.Nat.{ℕ, _+_, _%_, _≤_, _<_}
 use native.Mathlib.Omega.{arith}
 use lib.Dec.{eqb}
 use borrow.Author.Tests.{eqb-true, eq-eqb}
 use Rattle.count.specs.Truth.{clash, not-true, and-true, and-yes, le-or-lt, eq-or-ne}
-use Rattle.count.specs.Lists.{upTo, select, head-none, none-append, first-append, none-map, first-map, none-flat, first-flat, Ordered, first-only, head-is}
+use Rattle.count.specs.Lists.{upTo, select, none-append, first-append, none-map, first-map, none-flat, first-flat, Ordered, first-only, head-is}
 use Rattle.board.specs.Board.{Board, Within, height, at, IsVertex}
 use Rattle.board.specs.Degree.{vertex?, degree}
 use Rattle.board.specs.Tests.{vertex-exact}
@@ -21,12 +21,9 @@ use Rattle.net.specs.Terminals.{terminals}
 use Rattle.cut.specs.Cut.{Overfull, overfull?, cuts, overfullCuts}
 use Rattle.cut.specs.Odd.{odd?, oddVertices}
 use Rattle.cut.specs.Order.{IsCut, CutBefore, higher, row-first, further-left, FirstOverfull, VertexBefore, Even, Odd, FirstOdd}
-use Rattle.cut.specs.View.{foundCut, foundVertex}
-use Rattle.cut.specs.Laws.{overfull-exact, found-some, found-none}
+use Rattle.cut.specs.Laws.{overfull-exact}
 use Rattle.cut.specs.declared.Cut.{Cut}
 use Rattle.cut.specs.declared.Cut.the-variants.{Row, Column}
-use Rattle.cut.specs.declared.FoundCut as code-cut
-use Rattle.cut.specs.declared.FoundVertex as code-vertex
 
 -- ── overfull cuts ──
 number-order : (i k : ℕ) → (i < k) ⊎ ((i ≡ k) ⊎ (k < i))
@@ -104,13 +101,6 @@ module _ (b : Board) (ps : List Pair) where
     λ p. head-is (overfullCuts b ps) x (λ e. no-overfull .0 e x (p .cut) (p .overfull)) (λ y e. only-overfull y x (head-overfull y e) p),
   )
 
-  -- the answer of `first_overfull`
-  pub overfull-named : (x : Cut) → code-cut.the-variants.At x ≡ foundCut (head? (overfullCuts b ps)) → FirstOverfull b ps x
-  overfull-named x e = first-overfull x .0 (found-some (head? (overfullCuts b ps)) x e)
-
-  pub overfull-nothing : code-cut.the-variants.Nothing ≡ foundCut (head? (overfullCuts b ps)) → (x : Cut) → IsCut b x → Overfull b ps x → ⊥
-  overfull-nothing e = no-overfull .0 (head-none (overfullCuts b ps) .0 (found-none (head? (overfullCuts b ps)) e))
-
 -- ── odd vertices ──
 pub vertex-order : Ordered VertexBefore
 vertex-order u v = elim (number-order (u .line) (v .line)) [
@@ -122,14 +112,6 @@ vertex-order u v = elim (number-order (u .line) (v .line)) [
     | inr (inl f) ↦ inr (inl (let s : at (u .line) (u .column) ≡ at (v .line) (v .column) = rw (e, f) refl in s))
   ]
 ]
-
-pub vertex-some : (o : Option Vertex) (v : Vertex) → code-vertex.the-variants.At v ≡ foundVertex o → o ≡ some v
-vertex-some none v e = absurd (let z : _≡_ {A = ℕ} 0 1 = cc in omega arith)
-vertex-some (some u) v e = cc
-
-pub vertex-none : (o : Option Vertex) → code-vertex.the-variants.Nothing ≡ foundVertex o → o ≡ none
-vertex-none none e = refl
-vertex-none (some u) e = absurd (let z : _≡_ {A = ℕ} 0 1 = cc in omega arith)
 
 module _ (b : Board) (ps : List Pair) where
   pub odd-exact : (v : Vertex) → (odd? b ps v ≡ true) ↔ (IsVertex b v × Odd b ps v)
@@ -191,10 +173,3 @@ module _ (b : Board) (ps : List Pair) where
       head-odd v,
       λ p. head-is (oddVertices b ps) v (λ e. let k = no-odd .0 e v (p .vertex) in let o = p .odd in omega arith) (λ u e. only-odd u v (head-odd u e) p),
     )
-
-    -- the answer of `first_odd`
-    pub odd-named : (v : Vertex) → code-vertex.the-variants.At v ≡ foundVertex (head? (oddVertices b ps)) → FirstOdd b ps v
-    odd-named v e = first-odd v .0 (vertex-some (head? (oddVertices b ps)) v e)
-
-    pub odd-nothing : code-vertex.the-variants.Nothing ≡ foundVertex (head? (oddVertices b ps)) → (v : Vertex) → IsVertex b v → Even b ps v
-    odd-nothing e = no-odd .0 (head-none (oddVertices b ps) .0 (vertex-none (head? (oddVertices b ps)) e))

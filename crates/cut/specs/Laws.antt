@@ -1,25 +1,27 @@
--- Laws of margins and of the first overfull cut, for callers.
+-- Laws of margins and tallies, for callers.
 -- Assumes nothing.
 use mathlib.Core.Path.{_≡_, refl, ap, sym, _∙_, subst}
 use mathlib.Core.Bool.{Bool, true, false, cond}
-use mathlib.Core.List.{List, [], _∷_, _++_, map, head?}
+use mathlib.Core.List.{List, [], _∷_}
 use mathlib.Core.Logic.{_⊎_, inl, inr, _↔_}
-use mathlib.Core.Option.{Option, none, some}
-use Prim.Native.Nat.{ℕ, zero, suc, _+_, _-_, _<_}
+use Prim.Native.Nat.{ℕ, zero, suc, _+_, _-_, _≤_, _<_}
 use native.Mathlib.Omega.{arith}
 use lib.Dec.{T, ltb}
 use borrow.Author.Tests.{lt-ltb, le-ltb}
 use lib.IntN.{ℤ, pos, negsuc, subℕ, _-ℤ_}
 use lib.Signed.{ltZ, _<ℤ_}
-use Rattle.count.specs.Truth.{bool, clash, le-or-lt}
-use Rattle.count.specs.Lists.{select, select-append}
+use Rattle.count.specs.Truth.{clash, le-or-lt, one, one-le}
+use Rattle.count.specs.Sum.{count}
+use Rattle.count.specs.Lists.{tally}
 use Rattle.board.specs.Board.{Board}
 use Rattle.net.specs.declared.Pair.{Pair}
-use Rattle.cut.specs.Cut.{edges, crossing, margin, Overfull, overfull?, cuts, overfullCuts}
-use Rattle.cut.specs.View.{TallyOf, overfullRows, overfullColumns, foundCut}
-use Rattle.cut.specs.declared.FoundCut.the-variants.{At, Nothing}
+use Rattle.net.specs.declared.Held.{Held}
+use Rattle.net.specs.declared.Held.the-variants.{Nothing, Ends}
+use Rattle.cut.specs.Cut.{edges, crosses, crossing, margin, Overfull, overfull?}
+use Rattle.cut.specs.Tally.{TallyOf, heldCrosses, withHeld, cutEdge}
 use Rattle.cut.specs.declared.Tally.{Tally}
 use Rattle.cut.specs.declared.Cut.{Cut}
+use Rattle.cut.specs.declared.Cut.the-variants.{Row, Column}
 
 -- ── a test of signed numbers ──
 T-true : (b : Bool) → T b ↔ (b ≡ true)
@@ -67,38 +69,32 @@ overfull-more b ps x = (
   λ p. record { lt = subst (λ (z : ℤ). T (ltZ z (pos 0))) (sym (margin-below b ps x (crossing x ps - suc (edges b x)) (omega arith))) tt },
 )
 
--- ── rows first, then columns ──
-pub rows-then-columns : (b : Board) (ps : List Pair) → overfullCuts b ps ≡ overfullRows b ps ++ overfullColumns b ps
-unfolding overfullCuts overfullRows overfullColumns cuts
-rows-then-columns b ps = select-append (overfull? b ps) _ _
+-- ── the tally of a cut ──
+pub with-held : (t : Tally) (x : Cut) (h : Held) → (withHeld t x h .edges ≡ t .edges) × (withHeld t x h .nets ≡ t .nets + heldCrosses x h)
+with-held t x Nothing = (refl, omega arith)
+with-held t x (Ends p) = go (crosses x p)
+  where
+    go : (c : Bool) → (cond c (record { edges = t .edges; nets = t .nets + 1 }) t .edges ≡ t .edges)
+        × (cond c (record { edges = t .edges; nets = t .nets + 1 }) t .nets ≡ t .nets + one c)
+    go true = (refl, refl)
+    go false = (refl, omega arith)
 
-pub head-then : {A : Type 0} (xs ys : List A) (x : A) → head? xs ≡ some x → head? (xs ++ ys) ≡ some x
-head-then [] ys x e = absurd (let z : _≡_ {A = ℕ} 0 1 = cc in omega arith)
-head-then (y ∷ xs) ys x e = e
+pub held-crosses-le : (x : Cut) (h : Held) → heldCrosses x h ≤ 1
+held-crosses-le x Nothing = omega arith
+held-crosses-le x (Ends p) = one-le (crosses x p)
 
-pub head-else : {A : Type 0} (xs ys : List A) → head? xs ≡ none → head? (xs ++ ys) ≡ head? ys
-head-else [] ys e = refl
-head-else (y ∷ xs) ys e = absurd (let z : _≡_ {A = ℕ} 0 1 = cc in omega arith)
+pub edges-count : (b : Board) (x : Cut) → edges b x ≡ count 32 (cutEdge b x)
+unfolding edges
+edges-count b (Row i) = refl
+edges-count b (Column j) = refl
+
+-- crossing nets are a sum over the nets
+pub crossing-tally : (x : Cut) (ps : List Pair) → crossing x ps ≡ tally (λ p. one (crosses x p)) ps
+unfolding crossing tally
+crossing-tally x [] = refl
+crossing-tally x (p ∷ ps) = ap (λ (n : ℕ). one (crosses x p) + n) (crossing-tally x ps)
 
 -- the margin of a tally
 pub margin-tally : (b : Board) (ps : List Pair) (x : Cut) (t : Tally) → TallyOf b ps x t → pos (t .edges) -ℤ pos (t .nets) ≡ margin b ps x
 unfolding margin
 margin-tally b ps x t h = rw (h .edges-are, h .nets-are) refl
-
--- the first overfull cut is the first overfull row, and where there is none the first overfull column
-pub found-some : (o : Option Cut) (x : Cut) → At x ≡ foundCut o → o ≡ some x
-found-some none x e = absurd (let z : _≡_ {A = ℕ} 0 1 = cc in omega arith)
-found-some (some y) x e = cc
-
-pub found-none : (o : Option Cut) → Nothing ≡ foundCut o → o ≡ none
-found-none none e = refl
-found-none (some y) e = absurd (let z : _≡_ {A = ℕ} 0 1 = cc in omega arith)
-
-pub first-is-row : (b : Board) (ps : List Pair) (x : Cut) → At x ≡ foundCut (head? (overfullRows b ps)) → At x ≡ foundCut (head? (overfullCuts b ps))
-first-is-row b ps x e =
-    rw (rows-then-columns b ps, head-then (overfullRows b ps) (overfullColumns b ps) x (found-some (head? (overfullRows b ps)) x e)) refl
-
-pub first-is-column : (b : Board) (ps : List Pair) → Nothing ≡ foundCut (head? (overfullRows b ps))
-    → foundCut (head? (overfullColumns b ps)) ≡ foundCut (head? (overfullCuts b ps))
-first-is-column b ps e =
-    rw (rows-then-columns b ps, head-else (overfullRows b ps) (overfullColumns b ps) (found-none (head? (overfullRows b ps)) e)) refl

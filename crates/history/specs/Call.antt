@@ -19,8 +19,8 @@ use Rattle.soundness.specs.Exact.{sound-exact}
 use Rattle.soundness.specs.Stays.{stays-sound}
 use Rattle.session.specs.declared.Session.{Session}
 use Rattle.session.specs.View.{sessionOf}
-use Rattle.checking.specs.Answers.{addAnswer}
-use Rattle.session.specs.Answers.{withdrawAnswer, takeBackAnswer}
+use Rattle.answers.specs.Answers.{addAnswer}
+use Rattle.answers.specs.Answers.{withdrawAnswer, takeBackAnswer}
 use Rattle.history.specs.Made.{Made, added, withdrew, tookBack, routed, routedBytes, Meets, handed, callOf, answerOf, numberOf, Never}
 
 pub call-step : (s : machine.Session) (c : Call) → Sound s → call s c ≡ step s c

@@ -9,30 +9,21 @@ use net::Held;
 use net::Pair;
 use net::Place;
 
-fn number(n: u64) {
-    io::write_all(1, b" ");
-    io::print_decimal(1, n);
-}
-
-fn end_line() {
-    io::write_all(1, b"\n");
-}
-
 fn show(v: Verdict) {
     match v {
         Verdict::Passed(r) => {
             io::write_all(1, b"passed");
-            number(r.edges as u64);
-            number(r.turns as u64);
-            number(r.knocks as u64);
+            text::print_number(r.edges as usize);
+            text::print_number(r.turns as usize);
+            text::print_number(r.knocks as usize);
         }
         Verdict::Refused(r) => {
             io::write_all(1, b"refused");
-            number(r.number as u64);
-            number(r.place as u64);
+            text::print_number(r.number as usize);
+            text::print_number(r.place as usize);
         }
     }
-    end_line();
+    text::end_line();
 }
 
 fn show_comparison(c: Comparison) {
@@ -46,12 +37,12 @@ fn show_comparison(c: Comparison) {
         }
         Comparison::Refused(list, r) => {
             io::write_all(1, b"refused");
-            number(r.number as u64);
-            number(list as u64);
-            number(r.place as u64);
+            text::print_number(r.number as usize);
+            text::print_number(list as usize);
+            text::print_number(r.place as usize);
         }
     }
-    end_line();
+    text::end_line();
 }
 
 fn row(left: u8, right: u8) -> Row {

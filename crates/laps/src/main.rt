@@ -7,7 +7,7 @@ ghost use Prim.Native.Nat.{_≤_};
 use board::Board;
 use board::Row;
 use board::Vertex;
-use checking::Told;
+use answers::Told;
 use net::Net;
 use net::Pair;
 use session::Session;
@@ -87,7 +87,7 @@ fn changed(start: Session) -> Session {
 fn withdrawn(session: Session) -> Lap {
     let after = session.withdraw(64);
     let answer = after.answer;
-    let told = session::withdraw_told(answer);
+    let told = answers::withdraw_told(answer);
     let next = after.session;
     Lap {
         told,
@@ -98,7 +98,7 @@ fn withdrawn(session: Session) -> Lap {
 fn taken_back(session: Session) -> Lap {
     let after = session.take_back();
     let answer = after.answer;
-    let told = session::take_back_told(answer);
+    let told = answers::take_back_told(answer);
     let next = after.session;
     Lap {
         told,

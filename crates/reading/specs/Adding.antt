@@ -24,9 +24,9 @@ use Rattle.soundness.specs.Accept.{free-of}
 use Rattle.places.specs.Numbered.{replaced}
 use Rattle.places.specs.Places.{holding, netsFrom, netsOf}
 use Rattle.places.specs.Nets.{insert-of}
-use Rattle.checking.specs.Answers.{toldOf}
+use Rattle.answers.specs.Answers.{toldOf}
 use Rattle.checking.specs.Check.{answered}
-use Rattle.checking.specs.declared.Told.{Told}
+use Rattle.answers.specs.declared.Told.{Told}
 use Rattle.words.specs.BoardWord.{boardWord}
 use Rattle.words.specs.declared.BoardWord.{BoardWord}
 use Rattle.words.specs.declared.BoardWord.the-variants as word

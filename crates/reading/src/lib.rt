@@ -41,7 +41,7 @@ fn add_word(b: Board, nets: [Place; 64], w: BoardWord) -> Added
 {
     match w {
         BoardWord::Net(net) => {
-            let told = checking::add_told(checking::check(b, nets, net));
+            let told = answers::add_told(checking::check(b, nets, net));
             if told.number == 0 {
                 let ends = net.ends;
                 Added {

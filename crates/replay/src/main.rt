@@ -14,7 +14,7 @@ ghost use Prim.Native.Nat.{_≤_};
 use board::Board;
 use board::Row;
 use board::Vertex;
-use checking::Told;
+use answers::Told;
 use net::Change;
 use net::Held;
 use net::Net;
@@ -234,7 +234,7 @@ fn row_line(session: Session, s: &[u8], at: usize) -> Session {
 fn add_line(session: Session, s: &[u8], at: usize) -> Session {
     let after = session.add(net(s, at));
     let answer = after.answer;
-    print_told(checking::add_told(answer));
+    print_told(answers::add_told(answer));
     after.session
 }
 
@@ -242,14 +242,14 @@ fn withdraw_line(session: Session, s: &[u8], at: usize) -> Session {
     let n = number(s, at);
     let after = session.withdraw(n.value);
     let answer = after.answer;
-    print_told(session::withdraw_told(answer));
+    print_told(answers::withdraw_told(answer));
     after.session
 }
 
 fn back_line(session: Session) -> Session {
     let after = session.take_back();
     let answer = after.answer;
-    print_told(session::take_back_told(answer));
+    print_told(answers::take_back_told(answer));
     after.session
 }
 

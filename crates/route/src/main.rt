@@ -28,9 +28,9 @@ fn read_on() -> usize {
 // A list that is longer than a buffer: only its count plays a part, and n is what is left of it.
 fn print_long(n: usize) {
     if n % 4 == 0 {
-        show::print_refusal(11, 0)
+        text::print_refusal(11, 0)
     } else {
-        show::print_refusal(10, 0)
+        text::print_refusal(10, 0)
     }
 }
 
@@ -44,7 +44,7 @@ fn main() {
     let after = reading::read_bytes(&bytes[..n]);
     let answer = after.answer;
     match answer {
-        ReadAnswer::Refused(number, place) => show::print_refusal(number as usize, place),
+        ReadAnswer::Refused(number, place) => text::print_refusal(number as usize, place),
         ReadAnswer::Accepted => print_route(after.session),
     }
 }

@@ -18,11 +18,11 @@ use Rattle.session.specs.declared.Session.{Session}
 use Rattle.session.specs.declared.AfterAdd.{AfterAdd}
 use Rattle.session.specs.declared.AfterWithdraw.{AfterWithdraw}
 use Rattle.session.specs.declared.AfterTakeBack.{AfterTakeBack}
-use Rattle.checking.specs.declared.AddAnswer.{AddAnswer}
-use Rattle.checking.specs.declared.AddAnswer.the-variants.{Accepted, Unsound, BadNumber, NumberTaken, NoVertex, SameVertex, PinsTaken}
-use Rattle.checking.specs.Answers.{addAnswer, isAccepted}
+use Rattle.answers.specs.declared.AddAnswer.{AddAnswer}
+use Rattle.answers.specs.declared.AddAnswer.the-variants.{Accepted, Unsound, BadNumber, NumberTaken, NoVertex, SameVertex, PinsTaken}
+use Rattle.answers.specs.Answers.{addAnswer, isAccepted}
 use Rattle.checking.specs.Lines.{checkOf}
-use Rattle.session.specs.Answers.{withdrawAnswer, takeBackAnswer}
+use Rattle.answers.specs.Answers.{withdrawAnswer, takeBackAnswer}
 use Rattle.session.specs.View.{sessionOf}
 use Rattle.session.specs.Value.{addSound, withdrawHeld, withdrawSound, takeBackSound, addOf, withdrawOf, takeBackOf}
 use Rattle.session.specs.Promise.{AddPromise, WithdrawPromise, TakeBackPromise}

@@ -1,9 +1,6 @@
-pub mod Answers
 pub mod View
 pub mod Value
 pub mod Promise
-pub mod Reverse
-pub mod OneByOne
 pub mod Steps
 pub mod Kept
 pub mod Starts

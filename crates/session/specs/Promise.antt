@@ -14,8 +14,8 @@ use Rattle.session.specs.declared.Session.{Session}
 use Rattle.session.specs.declared.AfterAdd.{AfterAdd}
 use Rattle.session.specs.declared.AfterWithdraw.{AfterWithdraw}
 use Rattle.session.specs.declared.AfterTakeBack.{AfterTakeBack}
-use Rattle.checking.specs.Answers.{addAnswer}
-use Rattle.session.specs.Answers.{withdrawAnswer, takeBackAnswer}
+use Rattle.answers.specs.Answers.{addAnswer}
+use Rattle.answers.specs.Answers.{withdrawAnswer, takeBackAnswer}
 use Rattle.session.specs.View.{sessionOf}
 use Rattle.session.specs.Value.{addOf, withdrawOf, takeBackOf, freshOf, blankBoard}
 

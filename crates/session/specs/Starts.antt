@@ -15,7 +15,7 @@ use Rattle.session.specs.declared.Session.{Session}
 use Rattle.session.specs.View.{sessionOf}
 use Rattle.session.specs.Value.{freshOf, blankBoard}
 use Rattle.session.specs.Promise.{FreshPromise, BlankPromise}
-use Rattle.session.specs.OneByOne.{nets-none}
+use Rattle.stands.specs.OneByOne.{nets-none}
 
 fresh-is-bare : (b : code-board.Board) → sessionOf (freshOf b) ≡ bare (boardOf b)
 unfolding freshOf pileOf changesOf

@@ -26,12 +26,12 @@ use Rattle.places.specs.Nets.{heldAs, net-of, remove-of}
 use Rattle.places.specs.Pile.{pileOf, topOf, lifted}
 use Rattle.places.specs.Changes.{laid-pile, pile-top, pile-empty, length-pile}
 use Rattle.session.specs.declared.Session.{Session}
-use Rattle.checking.specs.Answers.{addAnswer}
-use Rattle.session.specs.Answers.{withdrawAnswer, takeBackAnswer}
+use Rattle.answers.specs.Answers.{addAnswer}
+use Rattle.answers.specs.Answers.{withdrawAnswer, takeBackAnswer}
 use Rattle.session.specs.View.{sessionOf}
 use Rattle.session.specs.Value.{changed, addSound, withdrawHeld, withdrawSound, takeBackSound}
 use Rattle.checking.specs.Check.{answered, check-answer, check-accepts}
-use Rattle.session.specs.Reverse.{insert-accepted, reversed-of}
+use Rattle.stands.specs.Reverse.{insert-accepted, reversed-of}
 
 -- DEFINITION: the arrays of the code have 64 places
 pub record Sized (s : Session) : Type 0 where

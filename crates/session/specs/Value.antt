@@ -18,15 +18,15 @@ use Rattle.machine.specs.Sound.{sound?}
 use Rattle.places.specs.Numbered.{replaced}
 use Rattle.places.specs.Places.{net, holding, netsOf, placeAt, reversedIn}
 use Rattle.places.specs.Pile.{noSlot, topOf, lifted, laid}
-use Rattle.checking.specs.Answers.{isAccepted}
+use Rattle.answers.specs.Answers.{isAccepted}
 use Rattle.checking.specs.Lines.{checkOf}
-use Rattle.checking.specs.declared.AddAnswer.the-variants.{Unsound}
+use Rattle.answers.specs.declared.AddAnswer.the-variants.{Unsound}
 use Rattle.session.specs.declared.Session.{Session}
 use Rattle.session.specs.declared.AfterAdd.{AfterAdd}
 use Rattle.session.specs.declared.AfterWithdraw.{AfterWithdraw}
 use Rattle.session.specs.declared.AfterTakeBack.{AfterTakeBack}
-use Rattle.session.specs.declared.WithdrawAnswer.the-variants as withdraw-is
-use Rattle.session.specs.declared.TakeBackAnswer.the-variants as back-is
+use Rattle.answers.specs.declared.WithdrawAnswer.the-variants as withdraw-is
+use Rattle.answers.specs.declared.TakeBackAnswer.the-variants as back-is
 use Rattle.session.specs.View.{sessionOf}
 
 -- the session with other places, and a change laid on the pile

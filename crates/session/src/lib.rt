@@ -1,26 +1,20 @@
 // Sessions: a board, the nets on it, and the pile of changes that can be taken back.
 // Each call takes a session and hands back the next. A refused call hands back the session that it was given.
+use answers::AddAnswer;
+use answers::TakeBackAnswer;
+use answers::WithdrawAnswer;
 use board::Board;
 use board::Row;
-use checking::AddAnswer;
-use checking::Told;
 use net::Change;
 use net::Held;
 use net::Net;
 use net::Place;
 use places::Pile;
 ghost use mathlib.Core.Path.{_≡_};
-ghost use mathlib.Core.List.{[]};
 ghost use Rattle.count.specs.Truth.{Decides};
-ghost use Rattle.board.specs.View.{boardOf};
-ghost use Rattle.machine.specs.Sound.{addable?, liftable?, lifts?, Sound, sound?};
-ghost use Rattle.places.specs.Places.{netsOf};
-ghost use Rattle.places.specs.Pile.{pileOf};
-ghost use Rattle.checking.specs.Answers.{toldOf};
-ghost use Rattle.session.specs.Answers.{withdrawAnswer, takeBackAnswer};
+ghost use Rattle.machine.specs.Sound.{Sound, sound?};
 ghost use Rattle.session.specs.View.{sessionOf};
 ghost use Rattle.session.specs.Value.{changed, addSound, withdrawSound, takeBackSound};
-ghost use Rattle.session.specs.OneByOne.{heldAccepted};
 ghost use Rattle.session.specs.Promise.{AddPromise, WithdrawPromise, TakeBackPromise, FreshPromise, BlankPromise};
 
 // Net n is held at place n - 1.
@@ -28,18 +22,6 @@ pub struct Session {
     pub board: Board,
     pub nets: [Place; 64],
     pub pile: Pile,
-}
-
-pub enum WithdrawAnswer {
-    Accepted,
-    Unsound,
-    NotOnBoard,
-}
-
-pub enum TakeBackAnswer {
-    Accepted,
-    Unsound,
-    PileEmpty,
 }
 
 // What each call hands back: its answer and the next session.
@@ -56,101 +38,6 @@ pub struct AfterWithdraw {
 pub struct AfterTakeBack {
     pub answer: TakeBackAnswer,
     pub session: Session,
-}
-
-// Does add accept what the place holds under this number?
-fn is_held_free(b: Board, nets: [Place; 64], number: u8, place: Place) -> bool
-    ensures { λ r. ⌜ r ≡ heldAccepted (boardOf b) (netsOf nets) number (place .held) ⌝ }
-{
-    let held = place.held;
-    match held {
-        Held::Nothing => true,
-        Held::Ends(ends) => checking::is_free(b, nets, Net { number, ends }),
-    }
-}
-
-// Could the nets all be added to the bare board? They are added one by one, in rising number.
-fn is_addable(b: Board, nets: [Place; 64]) -> bool
-    ensures { λ r. ⌜ r ≡ addable? (boardOf b) [] (netsOf nets) ⌝ }
-{
-    let mut on = [Place {
-        held: Held::Nothing,
-    }; 64];
-    let mut ok = true;
-    let mut number: u8 = 1;
-    while number <= 64 {
-        let place = places::place_of(nets, number);
-        ok = ok & is_held_free(b, on, number, place);
-        let next = places::stored(on, number, place);
-        on = next;
-        number += 1;
-    }
-    ok
-}
-
-// Can the change be reversed? An added net is on the board as recorded, a withdrawn net is one that add accepts.
-fn is_liftable(b: Board, nets: [Place; 64], change: Change) -> bool
-    ensures { λ r. ⌜ r ≡ liftable? (boardOf b) (netsOf nets) change ⌝ }
-{
-    match change {
-        Change::Added(net) => places::is_recorded(nets, net),
-        Change::Withdrawn(net) => checking::is_free(b, nets, net),
-    }
-}
-
-// Can the pile be lifted to the bottom?
-fn lifts(b: Board, nets: [Place; 64], pile: Pile) -> bool
-    ensures { λ r. ⌜ r ≡ lifts? (boardOf b) (netsOf nets) (pileOf pile) ⌝ }
-{
-    let mut on = nets;
-    let mut rest = pile;
-    let mut ok = true;
-    while 0 < rest.depth {
-        let top = rest.top();
-        ok = ok & is_liftable(b, on, top);
-        let next = places::reversed(on, top);
-        on = next;
-        rest = rest.lift();
-    }
-    ok
-}
-
-pub fn withdraw_told(answer: WithdrawAnswer) -> Told
-    ensures { λ r. ⌜ toldOf r ≡ withdrawAnswer answer ⌝ }
-{
-    match answer {
-        WithdrawAnswer::Accepted => Told {
-            number: 0,
-            place: 0,
-        },
-        WithdrawAnswer::Unsound => Told {
-            number: 20,
-            place: 0,
-        },
-        WithdrawAnswer::NotOnBoard => Told {
-            number: 26,
-            place: 0,
-        },
-    }
-}
-
-pub fn take_back_told(answer: TakeBackAnswer) -> Told
-    ensures { λ r. ⌜ toldOf r ≡ takeBackAnswer answer ⌝ }
-{
-    match answer {
-        TakeBackAnswer::Accepted => Told {
-            number: 0,
-            place: 0,
-        },
-        TakeBackAnswer::Unsound => Told {
-            number: 20,
-            place: 0,
-        },
-        TakeBackAnswer::PileEmpty => Told {
-            number: 27,
-            place: 0,
-        },
-    }
 }
 
 // A session on the board, with no nets and an empty pile.
@@ -188,7 +75,7 @@ impl Session {
         let b = self.board;
         let nets = self.nets;
         let pile = self.pile;
-        convex::is_convex(b) & (is_addable(b, nets) & ((pile.depth <= 64) & lifts(b, nets, pile)))
+        convex::is_convex(b) & (stands::is_addable(b, nets) & ((pile.depth <= 64) & stands::lifts(b, nets, pile)))
     }
 
     // The session with other places, and the change laid on the pile.
@@ -209,7 +96,7 @@ impl Session {
     {
         let nets = self.nets;
         let answer = checking::check(self.board, nets, net);
-        if !checking::is_accepted(answer) {
+        if !answers::is_accepted(answer) {
             return AfterAdd {
                 answer,
                 session: self,

@@ -14,12 +14,11 @@ use Rattle.net.specs.View.{pairsOf}
 use Rattle.net.specs.declared.Pair.{Pair}
 use Rattle.cut.specs.Cut.{overfullCuts}
 use Rattle.cut.specs.Odd.{oddVertices}
-use Rattle.cut.specs.View.{foundCut, foundVertex}
-use Rattle.cut.specs.Laws.{found-some, found-none}
-use Rattle.cut.specs.First.{vertex-some, vertex-none}
+use Rattle.search.specs.Found.{foundCut, foundVertex}
+use Rattle.search.specs.Laws.{found-some, found-none, vertex-some, vertex-none}
 use Rattle.cut.specs.declared.Cut.{Cut}
-use Rattle.cut.specs.declared.FoundCut as code-cut
-use Rattle.cut.specs.declared.FoundVertex as code-vertex
+use Rattle.search.specs.declared.FoundCut as code-cut
+use Rattle.search.specs.declared.FoundVertex as code-vertex
 use Rattle.machine.specs.Refusal.{Refusal, refusal}
 use Rattle.machine.specs.Session.{Session, pairs}
 use Rattle.machine.specs.Sound.{Sound, sound?}

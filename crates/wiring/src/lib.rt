@@ -8,8 +8,8 @@ ghost use Rattle.wiring.specs.Answers.{Even, Roomy, routeAnswer, written
 use board::Vertex;
 use corner_ends::Work;
 use cut::Cut;
-use cut::FoundCut;
-use cut::FoundVertex;
+use search::FoundCut;
+use search::FoundVertex;
 use session::Session;
 
 // What routing answers: the count of words written, or a refusal: 20 an unsound session, 31 a buffer under 2,049 words, 32 the first odd
@@ -84,7 +84,7 @@ fn route_even(s: Session, out: &mut [u32]) -> RouteAnswer
 {
     let board = s.board;
     let nets = s.nets;
-    let found = cut::first_overfull(board, nets);
+    let found = search::first_overfull(board, nets);
     match found {
         FoundCut::At(x) => RouteAnswer::Overfull(x),
         FoundCut::Nothing => {
@@ -106,7 +106,7 @@ pub fn route(s: Session, out: &mut [u32]) -> RouteAnswer
     }
     let board = s.board;
     let nets = s.nets;
-    let odd = cut::first_odd(board, nets);
+    let odd = search::first_odd(board, nets);
     match odd {
         FoundVertex::At(v) => RouteAnswer::Odd(v),
         FoundVertex::Nothing => route_even(s, out),

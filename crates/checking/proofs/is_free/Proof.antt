@@ -2,7 +2,7 @@
 use mathlib.Core.Path.{ap, _∙_}
 use Rattle.board.specs.View.{boardOf}
 use Rattle.places.specs.Places.{netsOf}
-use Rattle.checking.specs.Answers.{isAccepted}
+use Rattle.answers.specs.Answers.{isAccepted}
 use Rattle.checking.specs.Check.{check-accepts}
 use borrow.Author.Needs.{needs}
 use Rattle.checking.proofs.is_free.Statement.{statement}

@@ -39,7 +39,7 @@ use denote.Triple.Spec.{Meets, tripleOf}
 use denote.Triple.Table.{entered, cited}
 use denote.Triple.Walked.{says, needs, Stays, stay-none, walkOf, goes-none, Walks, ends-at, walked, walk-meets}
 use denote.Exit.{yes}
-use Rattle.cut.specs.View.{withHeld}
+use Rattle.cut.specs.Tally.{withHeld}
 use Rattle.cut.specs.declared.Tally.{Tally}
 use Rattle.cut.specs.declared.Cut.{Cut}
 use Rattle.net.specs.declared.Place.{Place}

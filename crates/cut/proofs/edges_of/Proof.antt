@@ -1,5 +1,6 @@
 use borrow.Author.Needs.{needs}
-use Rattle.cut.specs.View.{cutEdge, edges-count}
+use Rattle.cut.specs.Tally.{cutEdge}
+use Rattle.cut.specs.Laws.{edges-count}
 use Rattle.board.specs.View.{boardOf}
 use Rattle.count.specs.Sum.{count, count-zero, count-suc, count-le}
 use mathlib.Core.Path.{_≡_, sym, _∙_}

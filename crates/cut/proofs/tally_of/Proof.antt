@@ -1,7 +1,8 @@
 use native.Mathlib.Omega.{arith}
 use borrow.Author.Needs.{needs}
 use Rattle.cut.specs.declared.Tally.{Tally}
-use Rattle.cut.specs.View.{heldCrosses, with-held, held-crosses-le, crossing-tally}
+use Rattle.cut.specs.Tally.{heldCrosses}
+use Rattle.cut.specs.Laws.{with-held, held-crosses-le, crossing-tally}
 use Rattle.cut.specs.Cut.{crosses, crossing}
 use Rattle.net.specs.View.{pairsOf, nothing, tally-more, tally-none}
 use Rattle.count.specs.Lists.{tally}

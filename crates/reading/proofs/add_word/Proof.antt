@@ -1,7 +1,7 @@
 -- `add_word` is `addedWord`.
 use Rattle.reading.specs.Adding.{addedWord, told-added, told-kept}
 use Rattle.checking.specs.Check.{check-answer}
-use Rattle.checking.specs.Answers.{addAnswer}
+use Rattle.answers.specs.Answers.{addAnswer}
 use Rattle.places.specs.Places.{netsOf}
 use Rattle.board.specs.View.{boardOf}
 use mathlib.Core.Path.{refl, ap, sym, _∙_}
@@ -11,7 +11,7 @@ use Rattle.reading.proofs.add_word.Tie as tie
 use Rattle.reading.proofs.add_word.Reads as reads
 use Rattle.reading.proofs.add_word.Lts as lts
 use Rattle.places.proofs.stored.Reads as stored-reads
-use Rattle.checking.proofs.add_told.Reads as add-told-reads
+use Rattle.answers.proofs.add_told.Reads as add-told-reads
 use Rattle.checking.proofs.check.Reads as check-reads
 
 enum-known-w : tie.Need-enum-known-w

@@ -10,7 +10,7 @@ use Rattle.wiring.proofs.route.Statement.{statement}
 use Rattle.wiring.proofs.route.Tie as tie
 use Rattle.wiring.proofs.route.Reads as reads
 use Rattle.wiring.proofs.route.Lts as lts
-use Rattle.cut.proofs.first_odd.Reads as first-odd-reads
+use Rattle.search.proofs.first_odd.Reads as first-odd-reads
 use Rattle.session.proofs.Session.sound.Reads as sound-reads
 use Rattle.wiring.proofs.route_even.Reads as route-even-reads
 

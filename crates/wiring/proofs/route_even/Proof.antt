@@ -9,7 +9,7 @@ use Rattle.wiring.proofs.route_even.Statement.{statement}
 use Rattle.wiring.proofs.route_even.Tie as tie
 use Rattle.wiring.proofs.route_even.Reads as reads
 use Rattle.wiring.proofs.route_even.Lts as lts
-use Rattle.cut.proofs.first_overfull.Reads as first-overfull-reads
+use Rattle.search.proofs.first_overfull.Reads as first-overfull-reads
 use Rattle.wiring.proofs.wire.Reads as wire-reads
 
 -- src/lib.rt:73:9

@@ -8,7 +8,7 @@ use Rattle.places.specs.Pile.{topOf, lifted}
 use Rattle.places.specs.declared.Pile.{Pile}
 use Rattle.session.specs.declared.Session.{Session}
 use Rattle.session.specs.declared.AfterTakeBack.{AfterTakeBack}
-use Rattle.session.specs.declared.TakeBackAnswer.the-variants.{Accepted}
+use Rattle.answers.specs.declared.TakeBackAnswer.the-variants.{Accepted}
 use Rattle.session.specs.Value.{back, takeBackSound}
 use borrow.Author.Needs.{needs}
 use Rattle.session.proofs.Session.take_back_sound.Statement.{statement}
