@@ -2,10 +2,10 @@
 use board::Board;
 use board::Vertex;
 use cut::Cut;
-use search::FoundCut;
-use search::FoundVertex;
 use cut::Tally;
 use net::Place;
+use search::FoundCut;
+use search::FoundVertex;
 
 fn number(n: u8) {
     io::print_decimal(1, n as u64);

@@ -4,10 +4,10 @@
 // Standard input is a number in decimal, at most 6 digits of it. So many calls are made, withdraw and take back by turns, on the session that
 // the call before handed back; then the last answer is printed: "accepted", or "refused" with the number.
 ghost use Prim.Native.Nat.{_≤_};
+use answers::Told;
 use board::Board;
 use board::Row;
 use board::Vertex;
-use answers::Told;
 use net::Net;
 use net::Pair;
 use session::Session;

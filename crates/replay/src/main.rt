@@ -11,10 +11,10 @@
 // Each call prints a line: "accepted", or "refused", the number and the place; routing prints its words, each on a line. Then come the nets in rising number, each a line "net" with
 // what add was given, and the pile from its top, each a line "added" or "withdrawn" with the net.
 ghost use Prim.Native.Nat.{_≤_};
+use answers::Told;
 use board::Board;
 use board::Row;
 use board::Vertex;
-use answers::Told;
 use net::Change;
 use net::Held;
 use net::Net;

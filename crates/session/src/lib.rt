@@ -75,7 +75,8 @@ impl Session {
         let b = self.board;
         let nets = self.nets;
         let pile = self.pile;
-        convex::is_convex(b) & (stands::is_addable(b, nets) & ((pile.depth <= 64) & stands::lifts(b, nets, pile)))
+        convex::is_convex(b)
+            & (stands::is_addable(b, nets) & ((pile.depth <= 64) & stands::lifts(b, nets, pile)))
     }
 
     // The session with other places, and the change laid on the pile.
