@@ -8,7 +8,7 @@ use mathlib.Core.Bool.{Bool, true}
 use mathlib.Core.List.{List}
 use mathlib.Core.Logic.{_↔_}
 use mathlib.Core.Option.{Option, none, some}
-use Prim.Native.Nat.{ℕ, _/_, _≤_, _<_}
+use Prim.Native.Nat.{ℕ, _/_, _≤_}
 use lib.ListN.{length, take}
 use Rattle.count.specs.Truth.{Decides}
 use Rattle.board.specs.Board.{Board, Within}
@@ -19,7 +19,7 @@ use Rattle.board.specs.declared.Direction.{Direction}
 use Rattle.convex.specs.Test.{isConvex}
 use Rattle.net.specs.declared.Net.{Net}
 use Rattle.routing.specs.Routing.{Routing}
-use Rattle.machine.specs.Refusal.{Refusal}
+use Rattle.machine.specs.Refusal.{Refusal, refusal}
 use Rattle.machine.specs.Machine as calls
 use Rattle.machine.specs.Machine.{accepted}
 use Rattle.machine.specs.Session as machine
@@ -30,25 +30,25 @@ use Rattle.session.specs.declared.AfterAdd.{AfterAdd}
 use Rattle.session.specs.declared.AfterWithdraw.{AfterWithdraw}
 use Rattle.session.specs.declared.AfterTakeBack.{AfterTakeBack}
 use Rattle.session.specs.View.{sessionOf}
-use Rattle.answers.specs.Answers.{addAnswer}
-use Rattle.answers.specs.Answers.{withdrawAnswer, takeBackAnswer}
+use Rattle.answers.specs.Answers.{addAnswer, withdrawAnswer, takeBackAnswer}
 use Rattle.session.specs.Promise.{AddPromise, WithdrawPromise, TakeBackPromise, FreshPromise}
 use Rattle.words.specs.RoutingWord.{routingWords}
-use Rattle.calls.specs.Result.{Result, no, yes}
-use Rattle.calls.specs.Reading.{readWords, handedBack}
+use Rattle.calls.specs.Result.{Result, no, yes, andThen}
+use Rattle.calls.specs.Reading.{readWords, readBytes, handedBack}
 use Rattle.calls.specs.Writing.{writeBoard, countOf, bufferAfter, writtenInto}
-use Rattle.calls.specs.Report.{Report}
-use Rattle.calls.specs.Judge.{judgeWords}
+use Rattle.calls.specs.Report.{Report, reportOf, alike}
+use Rattle.calls.specs.Judge.{judged, judgeWords, ofList, compareWords, judgeBytes}
 use Rattle.calls.specs.Route.{routeRefused, HandsBack, HandsBackBytes, Routes, RoutesBytes}
 use Rattle.reading.specs.declared.AfterRead.{AfterRead}
 use Rattle.reading.specs.Promise.{readAnswer, refusalIn, ReadPromise}
 use Rattle.writing.specs.declared.WriteAnswer.{WriteAnswer}
 use Rattle.writing.specs.Promise.{writeAnswer, WritePromise}
 use Rattle.judging.specs.declared.Judgement.{Judgement}
-use Rattle.judging.specs.Answers.{judgementOf}
+use Rattle.judging.specs.declared.Likeness.{Likeness}
+use Rattle.judging.specs.Answers.{judgementOf, likenessOf}
 use Rattle.wiring.specs.declared.RouteAnswer.{RouteAnswer}
 use Rattle.wiring.specs.Answers.{routeAnswer}
-use Rattle.editor.specs.Told.{RoutePromise}
+use Rattle.editor.specs.Told.{tell, refusedTold, judgeTold, RoutePromise, JudgePromise}
 use Rattle.history.specs.Made.{Made, Chain}
 use Rattle.history.specs.Routing as history
 
@@ -72,16 +72,30 @@ pub record Demand1 : Type 0 where
   pub write : (s : Session) (before : List ℕ) (r : WriteAnswer) (after : List ℕ) → WritePromise (sessionOf s) before r after
       → (writeAnswer r ≡ countOf (writeBoard (sessionOf s) (length before))) × (after ≡ bufferAfter before (writeBoard (sessionOf s) (length before)))
       × ((q : Refusal) → writeAnswer r ≡ no q → after ≡ before)
-  -- judging and comparing are lent nothing to write to: their promises are the equations judgementOf r ≡ judgeWords .. and so on, of src/lib.rt
+  -- judging and comparing are lent nothing to write to; `judged` gives the paths of a list that passes, or the refusal, 41 to 46
+  pub judge : (s : Session) (ws : List ℕ) (r : Judgement) → judgementOf r ≡ judgeWords (sessionOf s) ws
+      → ((Sound (sessionOf s) → ⊥) → judgementOf r ≡ no (refusal 20 0))
+      × (Sound (sessionOf s) → ((q : Refusal) → judged (sessionOf s) ws ≡ no q → judgementOf r ≡ no q)
+      × ((dss : List (List Direction)) → judged (sessionOf s) ws ≡ yes dss → judgementOf r ≡ yes (reportOf (pairs (sessionOf s .nets)) dss)))
+  pub compare : (s : Session) (vs ws : List ℕ) (r : Likeness) → likenessOf r ≡ compareWords (sessionOf s) vs ws
+      → ((Sound (sessionOf s) → ⊥) → likenessOf r ≡ no (refusal 20 0))
+      × (Sound (sessionOf s) → likenessOf r
+      ≡ andThen (ofList 0 (judged (sessionOf s) vs)) (λ dss. andThen (ofList 1 (judged (sessionOf s) ws)) (λ ess. yes (alike dss ess))))
   pub route : (s : Session) (before : List ℕ) (r : RouteAnswer) (after : List ℕ) → Routes (sessionOf s) before (routeAnswer r) after
       → ((q : Refusal) → routeRefused (sessionOf s) (length before) ≡ some q → (routeAnswer r ≡ no q) × (after ≡ before))
       × (routeRefused (sessionOf s) (length before) ≡ none → (n : ℕ) × (routeAnswer r ≡ yes n) × HandsBack (sessionOf s) before after n)
   pub route-bytes : (s : Session) (before : List ℕ) (r : RouteAnswer) (after : List ℕ) → RoutesBytes (sessionOf s) before (routeAnswer r) after
       → ((q : Refusal) → routeRefused (sessionOf s) (length before / 4) ≡ some q → (routeAnswer r ≡ no q) × (after ≡ before))
       × (routeRefused (sessionOf s) (length before / 4) ≡ none → (n : ℕ) × (routeAnswer r ≡ yes n) × HandsBackBytes (sessionOf s) before after n)
-  -- for C: a result above 0 leaves the buffer as it was
+  -- for C: the board's bytes are read first; a refusal is told by its number and place, and leaves the buffer as it was
   pub c-route : (board before : List ℕ) (number first second : ℕ) (after : List ℕ) → RoutePromise board before number first second after
-      → 0 < number → after ≡ before
+      → ((q : Refusal) → readBytes board ≡ no q → (tell number first second 0 ≡ refusedTold q) × (after ≡ before))
+      × ((s : machine.Session) → readBytes board ≡ yes s
+      → ((q : Refusal) → routeRefused s (length before / 4) ≡ some q → (tell number first second 0 ≡ refusedTold q) × (after ≡ before))
+      × (routeRefused s (length before / 4) ≡ none → (n : ℕ) × (tell number first second 0 ≡ tell 0 n 0 0) × HandsBackBytes s before after n))
+  pub c-judge : (board list : List ℕ) (number first second third : ℕ) → JudgePromise board list number first second third
+      → ((q : Refusal) → readBytes board ≡ no q → tell number first second third ≡ refusedTold q)
+      × ((s : machine.Session) → readBytes board ≡ yes s → tell number first second third ≡ judgeTold (judgeBytes s list))
 
 -- ── 2 ──
 -- the words are those of a routing of the session's nets, which has the paths dss

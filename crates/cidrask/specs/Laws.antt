@@ -4,30 +4,31 @@ use mathlib.Core.Path.{_≡_, refl, ap, sym, _∙_, subst}
 use mathlib.Core.Bool.{true}
 use mathlib.Core.List.{List, [], _∷_}
 use mathlib.Core.Option.{Option, none, some}
-use Prim.Native.Nat.{ℕ, _/_, _<_, _≤_}
+use Prim.Native.Nat.{ℕ, _/_, _≤_}
 use native.Mathlib.Omega.{arith}
 use lib.ListN.{length, take}
 use borrow.Author.Tests.{le-ltb}
+use Rattle.count.specs.Truth.{not-true}
 use Rattle.board.specs.Board.{Board}
 use Rattle.board.specs.declared.Direction.{Direction}
 use Rattle.net.specs.declared.Net.{Net}
-use Rattle.machine.specs.Refusal.{Refusal}
+use Rattle.machine.specs.Refusal.{Refusal, refusal}
 use Rattle.machine.specs.Session as machine
 use Rattle.machine.specs.Session.{pairs}
-use Rattle.machine.specs.Sound.{Sound}
+use Rattle.machine.specs.Sound.{Sound, sound?}
 use Rattle.soundness.specs.Exact.{sound-exact}
 use Rattle.soundness.specs.Fine.{AllGood}
 use Rattle.soundness.specs.Stays.{sound-fine}
 use Rattle.session.specs.View.{sessionOf}
 use Rattle.calls.specs.Result.{Result, no, yes, andThen}
-use Rattle.calls.specs.Reading.{readWords, handedBack}
+use Rattle.calls.specs.Reading.{readWords, readBytes, handedBack}
 use Rattle.calls.specs.Writing.{boardWords, writeBoard, countOf, bufferAfter, writtenInto}
-use Rattle.calls.specs.Report.{Report, reportOf}
-use Rattle.calls.specs.Judge.{judged, judgeWords}
+use Rattle.calls.specs.Report.{Report, reportOf, alike}
+use Rattle.calls.specs.Judge.{judged, ifSound, judgeWords, ofList, compareWords, judgeBytes}
 use Rattle.calls.specs.Route.{routeRefused, HandsBack, HandsBackBytes, Routes, RoutesBytes, refused, given}
-use Rattle.calls.specs.Editor.{EditorRoutes, unread, read}
+use Rattle.calls.specs.Editor.{EditorRoutes, unread, read, editorJudge}
 use Rattle.wiring.specs.Answers.{routeAnswer}
-use Rattle.editor.specs.Told.{routeTold}
+use Rattle.editor.specs.Told.{tell, refusedTold, routeTold, judgeTold}
 use Rattle.editor.specs.declared.Told.{Told}
 use Rattle.convex.specs.Exact.{is-convex}
 use Rattle.reading.specs.Promise.{readAnswer, refusalIn, ReadPromise}
@@ -71,14 +72,46 @@ by-refusal-bytes s before after a (given {count = n} e H) = (
   λ f. (n, refl, H),
 )
 
--- C is told 0 where a routing is handed back
-bytes-kept : (s : machine.Session) (before after : List ℕ) (a : Result ℕ) → 0 < routeTold a .number → RoutesBytes s before a after → after ≡ before
-bytes-kept s before after a h (refused f) = refl
-bytes-kept s before after a h (given f H) = absurd (omega arith)
+-- C is told what reading refuses, or what the routing call on the session read answers
+c-routed : (board before after : List ℕ) (a : Result ℕ) (t : Told) → t ≡ routeTold a → EditorRoutes board before a after
+    → ((q : Refusal) → readBytes board ≡ no q → (t ≡ refusedTold q) × (after ≡ before))
+    × ((s : machine.Session) → readBytes board ≡ yes s
+    → ((q : Refusal) → routeRefused s (length before / 4) ≡ some q → (t ≡ refusedTold q) × (after ≡ before))
+    × (routeRefused s (length before / 4) ≡ none → (n : ℕ) × (t ≡ tell 0 n 0 0) × HandsBackBytes s before after n))
+c-routed board before after a t f (unread {r} e) = (
+  λ q g. let same : r ≡ q = (let h : _≡_ {A = Result machine.Session} (no r) (no q) = sym e ∙ g in cc) in (f ∙ ap refusedTold same, refl),
+  λ s g. absurd (let h : _≡_ {A = Result machine.Session} (no r) (yes s) = sym e ∙ g in let z : _≡_ {A = ℕ} 0 1 = cc in omega arith),
+)
+c-routed board before after a t f (read {s = m} e R) = (
+  λ q g. absurd (let h : yes m ≡ no q = sym e ∙ g in let z : _≡_ {A = ℕ} 0 1 = cc in omega arith),
+  λ s g.
+      let same : m ≡ s = (let h : yes m ≡ yes s = sym e ∙ g in cc) in
+      let k = by-refusal-bytes s before after a (subst (λ (x : machine.Session). RoutesBytes x before a after) same R) in (
+        λ q h. let p = k .0 q h in (f ∙ ap routeTold (p .0), p .1),
+        λ h. let p = k .1 h in (p .0, f ∙ ap routeTold (p .1), p .2),
+      ),
+)
 
-c-kept : (board before after : List ℕ) (a : Result ℕ) → 0 < routeTold a .number → EditorRoutes board before a after → after ≡ before
-c-kept board before after a h (unread e) = refl
-c-kept board before after a h (read {s = s} e R) = bytes-kept s before after a h R
+-- ── judging ──
+unsound-first : {A : Type 0} (s : machine.Session) (x : Result A) → (Sound s → ⊥) → ifSound s x ≡ no (refusal 20 0)
+unsound-first s x n = rw (not-true (sound? s) (λ e. n (sound-exact s .0 e))) refl
+
+sound-then : {A : Type 0} (s : machine.Session) (x : Result A) → Sound s → ifSound s x ≡ x
+sound-then s x S = rw (sound-exact s .1 S) refl
+
+judge-is : (s : machine.Session) (ws : List ℕ) → judgeWords s ws ≡ ifSound s (andThen (judged s ws) (λ dss. yes (reportOf (pairs (s .nets)) dss)))
+unfolding judgeWords
+judge-is s ws = refl
+
+compare-is : (s : machine.Session) (vs ws : List ℕ)
+    → compareWords s vs ws ≡ ifSound s (andThen (ofList 0 (judged s vs)) (λ dss. andThen (ofList 1 (judged s ws)) (λ ess. yes (alike dss ess))))
+unfolding compareWords
+compare-is s vs ws = refl
+
+c-judged : (board list : List ℕ) → ((q : Refusal) → readBytes board ≡ no q → editorJudge board list ≡ no q)
+    × ((s : machine.Session) → readBytes board ≡ yes s → editorJudge board list ≡ judgeBytes s list)
+unfolding editorJudge
+c-judged board list = (λ q e. rw e refl, λ s e. rw e refl)
 
 pub demand-1 : Demand1
 demand-1 = record {
@@ -93,8 +126,21 @@ demand-1 = record {
   );
   route = λ s before r after R. by-refusal (sessionOf s) before after (routeAnswer r) R;
   route-bytes = λ s before r after R. by-refusal-bytes (sessionOf s) before after (routeAnswer r) R;
-  c-route = λ board before number first second after P h.
-      c-kept board before after (P .result) (subst (λ (t : Told). 0 < t .number) (P .told) h) (P .routes);
+  judge = λ s ws r e.
+      let m = sessionOf s in let f = e ∙ judge-is m ws in (
+        λ n. f ∙ unsound-first m (andThen (judged m ws) (λ dss. yes (reportOf (pairs (m .nets)) dss))) n,
+        λ S.
+            let g = f ∙ sound-then m (andThen (judged m ws) (λ dss. yes (reportOf (pairs (m .nets)) dss))) S in
+            let next : Result (List (List Direction)) → Result Report = λ y. andThen y (λ dss. yes (reportOf (pairs (m .nets)) dss)) in
+            (λ q h. g ∙ ap next h, λ dss h. g ∙ ap next h),
+      );
+  compare = λ s vs ws r e.
+      let m = sessionOf s in let f = e ∙ compare-is m vs ws in
+      let x = andThen (ofList 0 (judged m vs)) (λ dss. andThen (ofList 1 (judged m ws)) (λ ess. yes (alike dss ess))) in
+      (λ n. f ∙ unsound-first m x n, λ S. f ∙ sound-then m x S);
+  c-route = λ board before number first second after P. c-routed board before after (P .result) (tell number first second 0) (P .told) (P .routes);
+  c-judge = λ board list number first second third P.
+      let c = c-judged board list in (λ q e. P ∙ ap judgeTold (c .0 q e), λ s e. P ∙ ap judgeTold (c .1 s e));
 }
 
 -- ── 2 ──
