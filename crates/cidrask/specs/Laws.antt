@@ -150,8 +150,7 @@ numbered b (n ∷ ns) g = (omega (arith, g .0 .high), numbered b ns (g .1))
 
 -- what judging a sound session answers, from its paths
 judged-yes : (s : machine.Session) (ws : List ℕ) → Sound s → judgeWords s ws ≡ andThen (judged s ws) (λ dss. yes (reportOf (pairs (s .nets)) dss))
-unfolding judgeWords
-judged-yes s ws S = rw (sound-exact s .1 S) refl
+judged-yes s ws S = judge-is s ws ∙ sound-then s (andThen (judged s ws) (λ dss. yes (reportOf (pairs (s .nets)) dss))) S
 
 paths-of : (s : machine.Session) (y : Result (List (List Direction))) (x : Report) → andThen y (λ dss. yes (reportOf (pairs (s .nets)) dss)) ≡ yes x
     → (dss : List (List Direction)) × (y ≡ yes dss)

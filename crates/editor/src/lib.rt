@@ -123,10 +123,10 @@ pub extern "C" fn cidrask_route(
 ) -> u32
     ensures { λ r. ⌜ RoutePromise (now (board .entry)) (now (buffer .entry)) r (now (first .exit)) (now (second .exit)) (now (buffer .exit)) ⌝ }
 {
-    let told = routed(board, buffer);
-    *first = told.first;
-    *second = told.second;
-    told.number
+    let answer = routed(board, buffer);
+    *first = answer.first;
+    *second = answer.second;
+    answer.number
 }
 
 // Reads a board and judges a list of routing words against it. Answers 0 or the refusal's number; the other three numbers are the report's, or
