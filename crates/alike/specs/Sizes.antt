@@ -1,17 +1,16 @@
 -- The sizes of two lists' paths, net by net: they are alike when the sizes are equal.
 -- Assumes nothing.
-use mathlib.Core.Path.{_≡_, refl, ap, sym, _∙_}
+use mathlib.Core.Path.{_≡_, refl, ap, _∙_}
 use mathlib.Core.Bool.{Bool, true, false, _&&_}
-use mathlib.Core.List.{List, [], _∷_, _++_}
-use mathlib.Core.Logic.{inl, inr}
-use Prim.Native.Nat.{ℕ, zero, suc, _+_, _-_, _<_, _≤_}
+use mathlib.Core.List.{List, [], _∷_}
+use Prim.Native.Nat.{ℕ, suc, _+_, _-_, _<_, _≤_}
 use native.Mathlib.Numerals.{add-one}
 use native.Mathlib.Omega.{arith}
 use lib.Dec.{eqb}
-use lib.ListN.{length, take, drop, getD, replicate, drop-of-length-le}
+use lib.ListN.{length, take, drop, getD, drop-of-length-le}
 use lib.Seq.{drop-cons}
-use borrow.Author.Tests.{eq-eqb, ne-eqb, eqb-true, eqb-false}
-use Rattle.count.specs.Truth.{bool, eq-or-ne, and-assoc}
+use borrow.Author.Tests.{ne-eqb}
+use Rattle.count.specs.Truth.{and-assoc}
 use Rattle.board.specs.declared.Direction.{Direction}
 use Rattle.net.specs.View.{nothing}
 use Rattle.net.specs.declared.Net.{Net}
@@ -21,6 +20,7 @@ use Rattle.net.specs.declared.Held.the-variants.{Nothing, Ends}
 use Rattle.net.specs.declared.Place.{Place}
 use Rattle.places.specs.Places.{net, heldNet, netsFrom, netsOf}
 use Rattle.words.specs.RoutingWord.{pathIn, runIn}
+use Rattle.count.specs.Bits.{eqb-suc}
 use Rattle.calls.specs.Shape.{pathsFrom}
 use Rattle.calls.specs.Report.{alike}
 use Rattle.calls.specs.Judge.{pathsIn}
@@ -57,12 +57,6 @@ size-path {ws = ws} {i} {runs} {from} {to} ends h l e f p {e = x} g q =
 clash-held : {held : Held} (ends : Pair) → held ≡ Nothing → held ≡ Ends ends → ⊥
 clash-held ends e f = let z : _≡_ {A = ℕ} 0 1 = cc in omega arith
 
-suc-eqb : (m n : ℕ) → eqb (suc m) (suc n) ≡ eqb m n
-suc-eqb m n = elim (eq-or-ne m n) [
-  | inl e ↦ eq-eqb (suc m) (suc n) (omega arith) ∙ sym (eq-eqb m n e)
-  | inr e ↦ ne-eqb (suc m) (suc n) (λ f. e (omega arith)) ∙ sym (ne-eqb m n e)
-]
-
 pub sizes-alike : {held : Held} {vs ws : List ℕ} {i j : ℕ} {q r : Size} → Sizes held vs i q → Sizes held ws j r → (k : ℕ) (ns : List Net)
     → alike (left (heldNet k held ns) vs i) (left (heldNet k held ns) ws j) ≡ eqb (q .size) (r .size) && alike (left ns vs (q .at)) (left ns ws (r .at))
 unfolding alike
@@ -75,7 +69,7 @@ sizes-alike {vs = vs} {ws} {i} {j} (out ends e l p s) (out ends2 f m o t) k ns =
 sizes-alike {vs = vs} {ws} {i} {j} (out ends e l p s) (path ends2 f ds o t) k ns = rw (e, s, t, left-out (net k ends ∷ ns) vs i l, o (net k ends) ns, ne-eqb 0 (suc (length ds)) (λ z. omega arith)) refl
 sizes-alike (path ends e ds p s) (empty f o t) k ns = absurd (clash-held ends f e)
 sizes-alike {vs = vs} {ws} {i} {j} (path ends e ds p s) (out ends2 f l o t) k ns = rw (e, s, t, left-out (net k ends ∷ ns) ws j l, p (net k ends) ns, ne-eqb (suc (length ds)) 0 (λ z. omega arith)) refl
-sizes-alike (path ends e ds p s) (path ends2 f es o t) k ns = rw (e, s, t, p (net k ends) ns, o (net k ends) ns, suc-eqb (length ds) (length es)) refl
+sizes-alike (path ends e ds p s) (path ends2 f es o t) k ns = rw (e, s, t, p (net k ends) ns, o (net k ends) ns, eqb-suc (length ds) (length es)) refl
 
 -- ── all places ──
 -- DEFINITION: the first i places have equal sizes or not, and the paths of the nets after them begin at the indices p and q

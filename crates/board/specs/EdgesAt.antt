@@ -4,9 +4,9 @@
 use mathlib.Core.Path.{_≡_, refl, ap, sym, _∙_, subst}
 use mathlib.Core.Bool.{true}
 use mathlib.Core.Logic.{_⊎_, inl, inr}
-use Prim.Native.Nat.{ℕ, suc, _+_, _-_}
+use Prim.Native.Nat.{suc, _+_, _-_}
 use native.Mathlib.Omega.{arith}
-use Rattle.board.specs.Board.{Board, at, Edge, edge, top-side, bottom-side, left-side, right-side, IsEdge}
+use Rattle.board.specs.Board.{Board, Edge, top-side, bottom-side, left-side, right-side, IsEdge}
 use Rattle.board.specs.Path.{next, along}
 use Rattle.board.specs.Degree.{edge?}
 use Rattle.board.specs.Tests.{edge-exact}
@@ -98,3 +98,7 @@ degree-counts b v e k n =
           once f d v (edge-rises b (along d v) there) (ap (λ (x : Edge). x .from .line) s) (ap (λ (x : Edge). x .from .column) s)
           (ap (λ (x : Edge). x .to .line) s) (ap (λ (x : Edge). x .to .column) s);
     }
+
+-- edges with the same ends are the same
+pub edge-eq : (e f : Edge) → e .from .line ≡ f .from .line → e .from .column ≡ f .from .column → e .to ≡ f .to → e ≡ f
+edge-eq e f p q r = λ i. record { from = record { line = p i; column = q i }; to = r i }

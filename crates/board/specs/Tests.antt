@@ -1,9 +1,9 @@
 -- The tests of Degree are exact: `vertex?` is true exactly at the corners of cells, `edge?` exactly at their sides.
 -- Assumes nothing: the laws hold on any board, within the limits or not.
-use mathlib.Core.Path.{_≡_, refl, sym, _∙_}
-use mathlib.Core.Bool.{Bool, true, false, _&&_, _||_}
+use mathlib.Core.Path.{_≡_, refl}
+use mathlib.Core.Bool.{Bool, true, _&&_, _||_}
 use mathlib.Core.Logic.{_⊎_, inl, inr, _↔_}
-use Prim.Native.Nat.{ℕ, zero, suc, _+_, _-_, _≤_, _<_}
+use Prim.Native.Nat.{ℕ, suc, _+_, _-_}
 use native.Mathlib.Omega.{arith}
 use lib.Dec.{leb, ltb}
 use borrow.Author.Tests.{leb-true, le-leb, ltb-true, lt-ltb}
@@ -30,7 +30,7 @@ use Rattle.board.specs.Board.{
   IsVertex,
   IsEdge,
 }
-use Rattle.board.specs.Path.{next, along}
+use Rattle.board.specs.Path.{along}
 use Rattle.board.specs.Degree.{cell?, belowRight, belowLeft, aboveRight, aboveLeft, vertex?, edge?}
 use Rattle.board.specs.declared.Vertex.{Vertex}
 use Rattle.board.specs.declared.Direction.{Direction}

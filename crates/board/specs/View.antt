@@ -6,7 +6,7 @@ use mathlib.Core.Path.{_≡_, refl, ap, _∙_}
 use mathlib.Core.Bool.{_&&_}
 use mathlib.Core.List.{List, [], _∷_, _++_, map}
 use mathlib.Core.Logic.{inl, inr}
-use Prim.Native.Nat.{ℕ, zero, suc, _+_, _<_}
+use Prim.Native.Nat.{ℕ, _+_, _<_}
 use native.Mathlib.Omega.{arith}
 use lib.Dec.{leb, ltb}
 use lib.ListN.{length, getD, set}
@@ -14,7 +14,7 @@ use lib.Seq.{getD-set-same, getD-set-other}
 use native.Mathlib.Numerals.{add-one}
 use borrow.Author.Tests.{le-ltb}
 use Rattle.count.specs.Truth.{le-or-lt}
-use Rattle.count.specs.Lists.{rising, upTo, length-rising, getD-rising, rising-snoc, map-rising}
+use Rattle.count.specs.Lists.{upTo, length-rising, getD-rising, rising-snoc, map-rising}
 use Rattle.board.specs.Board.{Board, height, left, right, noRow}
 use Rattle.board.specs.Degree.{cell?}
 use Rattle.board.specs.declared.Row.{Row}

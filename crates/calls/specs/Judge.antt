@@ -4,7 +4,7 @@ use mathlib.Core.List.{List, [], _∷_, map}
 use Prim.Native.Nat.{ℕ}
 use lib.ListN.{length}
 use Rattle.board.specs.declared.Direction.{Direction}
-use Rattle.machine.specs.Refusal.{Refusal, line, firstRefusal}
+use Rattle.machine.specs.Refusal.{line, firstRefusal}
 use Rattle.machine.specs.Session.{Session, pairs}
 use Rattle.machine.specs.Sound.{sound?}
 use Rattle.words.specs.Bytes.{wordsIn, uneven}

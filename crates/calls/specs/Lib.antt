@@ -1,4 +1,5 @@
 pub mod Result
+pub mod Results
 pub mod Reading
 pub mod Writing
 pub mod Shape

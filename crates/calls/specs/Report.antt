@@ -1,7 +1,7 @@
 -- Definitions only: the report on a judged routing (document 01, "Judging a routing"). Nothing is proved here.
 -- It speaks of pairs and their paths as lists of directions.
 use mathlib.Core.Bool.{Bool, true, false, cond, _&&_}
-use mathlib.Core.List.{List, [], _∷_, _++_, flatMap, map}
+use mathlib.Core.List.{List, [], _∷_, _++_}
 use Prim.Native.Nat.{ℕ, _+_}
 use lib.Dec.{ltb, eqb}
 use lib.ListN.{length, replicate}
@@ -13,8 +13,7 @@ use Rattle.board.specs.declared.Direction.{Direction}
 use Rattle.net.specs.Terminals.{same}
 use Rattle.net.specs.declared.Pair.{Pair}
 use Rattle.cut.specs.Odd.{readingOrder}
-use Rattle.words.specs.declared.Run.{Run}
-use Rattle.calls.specs.Shape.{RunAt, PathAt}
+use Rattle.calls.specs.Shape.{RunAt}
 
 -- the directions of a path's runs
 unfoldable pub directions : List RunAt → List Direction

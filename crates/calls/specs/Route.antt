@@ -13,7 +13,7 @@ use Rattle.cut.specs.Odd.{oddVertices}
 use Rattle.cut.specs.declared.Cut.{Cut}
 use Rattle.cut.specs.declared.Cut.the-variants.{Row, Column}
 use Rattle.routing.specs.Routing.{Routing}
-use Rattle.machine.specs.Refusal.{Refusal, refusal, line, firstRefusal}
+use Rattle.machine.specs.Refusal.{Refusal, line, firstRefusal}
 use Rattle.machine.specs.Session.{Session, pairs}
 use Rattle.machine.specs.Sound.{sound?}
 use Rattle.words.specs.Bytes.{bytesOf}

@@ -1,6 +1,6 @@
 -- Definitions only: the shape of a list of routing words (document 01, "Routing words", refusals 41 to 43), and the paths in it. Nothing is proved here.
-use mathlib.Core.Bool.{Bool, true, false, not, cond, _&&_, _||_}
-use mathlib.Core.List.{List, [], _∷_, map}
+use mathlib.Core.Bool.{Bool, false, cond, _||_}
+use mathlib.Core.List.{List, [], _∷_}
 use mathlib.Core.Option.{Option, none, some}
 use Prim.Native.Nat.{ℕ, zero, suc, _+_}
 use lib.Dec.{ltb, eqb}
@@ -8,8 +8,7 @@ use lib.ListN.{length, take, drop}
 use Rattle.board.specs.Path.{number}
 use Rattle.board.specs.declared.Direction.{Direction}
 use Rattle.net.specs.declared.Net.{Net}
-use Rattle.machine.specs.Refusal.{Refusal, refusal, line, firstRefusal}
-use Rattle.words.specs.Bits.{bits}
+use Rattle.machine.specs.Refusal.{Refusal, refusal}
 use Rattle.words.specs.RoutingWord.{routingWord, pathIn, runIn}
 use Rattle.words.specs.declared.Path.{Path}
 use Rattle.words.specs.declared.Run.{Run}

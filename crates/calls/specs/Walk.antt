@@ -11,7 +11,7 @@ use Rattle.board.specs.declared.Direction.{Direction}
 use Rattle.net.specs.Terminals.{same}
 use Rattle.routing.specs.Routing.{uses}
 use Rattle.machine.specs.Refusal.{line, firstRefusal}
-use Rattle.calls.specs.Result.{Result, no, yes, andThen, unless}
+use Rattle.calls.specs.Result.{Result, yes, andThen, unless}
 use Rattle.calls.specs.Shape.{RunAt, PathAt}
 
 -- where a walk stands, and the edges that were used earlier, the last one first

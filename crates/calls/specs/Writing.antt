@@ -4,7 +4,7 @@ use mathlib.Core.List.{List, [], _∷_, _++_, map}
 use Prim.Native.Nat.{ℕ}
 use lib.Dec.{ltb}
 use lib.ListN.{length, drop}
-use Rattle.machine.specs.Refusal.{Refusal, line, firstRefusal}
+use Rattle.machine.specs.Refusal.{line, firstRefusal}
 use Rattle.machine.specs.Session.{Session}
 use Rattle.machine.specs.Sound.{sound?}
 use Rattle.words.specs.BoardWord.{rowWord, netWord, endWord}

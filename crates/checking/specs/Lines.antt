@@ -9,7 +9,7 @@ use Rattle.net.specs.declared.Net.{Net}
 use Rattle.machine.specs.Session.{holds}
 use Rattle.machine.specs.Add.{goodNumber, full}
 use Rattle.answers.specs.declared.AddAnswer.{AddAnswer}
-use Rattle.answers.specs.declared.AddAnswer.the-variants.{Accepted, Unsound, BadNumber, NumberTaken, NoVertex, SameVertex, PinsTaken}
+use Rattle.answers.specs.declared.AddAnswer.the-variants.{Accepted, BadNumber, NumberTaken, NoVertex, SameVertex, PinsTaken}
 
 -- the first of the conditions for adding that holds, in the order of the table
 unfoldable pub firstOf : Bool → Bool → Bool → Bool → Bool → Bool → Bool → AddAnswer

@@ -1,9 +1,8 @@
 -- The demands are met.
 -- Assumes nothing but what Demands quantifies over: the promises of the calls.
 use mathlib.Core.Path.{_≡_, refl, ap, sym, _∙_, subst}
-use mathlib.Core.Bool.{true}
 use mathlib.Core.List.{List, [], _∷_}
-use mathlib.Core.Option.{Option, none, some}
+use mathlib.Core.Option.{none, some}
 use Prim.Native.Nat.{ℕ, _/_, _≤_}
 use native.Mathlib.Omega.{arith}
 use lib.ListN.{length, take}
@@ -22,7 +21,7 @@ use Rattle.soundness.specs.Stays.{sound-fine}
 use Rattle.session.specs.View.{sessionOf}
 use Rattle.calls.specs.Result.{Result, no, yes, andThen}
 use Rattle.calls.specs.Reading.{readWords, readBytes, handedBack}
-use Rattle.calls.specs.Writing.{boardWords, writeBoard, countOf, bufferAfter, writtenInto}
+use Rattle.calls.specs.Writing.{boardWords, writeBoard, countOf, bufferAfter}
 use Rattle.calls.specs.Report.{Report, reportOf, alike}
 use Rattle.calls.specs.Judge.{judged, ifSound, judgeWords, ofList, compareWords, judgeBytes}
 use Rattle.calls.specs.Route.{routeRefused, HandsBack, HandsBackBytes, Routes, RoutesBytes, refused, given}
@@ -33,14 +32,13 @@ use Rattle.editor.specs.declared.Told.{Told}
 use Rattle.convex.specs.Exact.{is-convex}
 use Rattle.reading.specs.Promise.{readAnswer, refusalIn, ReadPromise}
 use Rattle.reading.specs.declared.AfterRead.{AfterRead}
-use Rattle.writing.specs.Promise.{writeAnswer, WritePromise}
 use Rattle.judgelaws.specs.Passing.{Numbered}
-use Rattle.judgelaws.specs.Exact.{Passing, passes-exactly}
+use Rattle.judgelaws.specs.Exact.{passes-exactly}
 use Rattle.roundtrip.specs.Parts.{unpiled}
 use Rattle.roundtrip.specs.Fits.{few-nets}
 use Rattle.roundtrip.specs.RoundTrip.{buffer-reads, read-written}
 use Rattle.history.specs.Routing as history
-use Rattle.cidrask.specs.Demands.{Demand1, Demand2, Demand3, IsRouting}
+use Rattle.cidrask.specs.Demands.{Demand1, Demand2, Demand3}
 
 -- ── 1 ──
 buffer-kept : (before : List ℕ) (x : Result (List ℕ)) (r : Refusal) → countOf x ≡ no r → bufferAfter before x ≡ before

@@ -4,24 +4,11 @@ use mathlib.Core.Path.{_≡_, refl, ap}
 use mathlib.Core.Bool.{Bool, true, false, not}
 use Prim.Native.Nat.{ℕ, suc, _+_, _*_, _≤_}
 use native.Mathlib.Omega.{arith}
-use lib.Dec.{leb, eqb}
-use borrow.Author.Tests.{eqb-true, le-leb, lt-leb, eq-eqb}
-use Rattle.count.specs.Truth.{and-true, one}
-use Rattle.board.specs.declared.Vertex.{Vertex}
-use Rattle.net.specs.Terminals.{same}
-use Rattle.count.specs.Bits.{eqb-sym, leb-next}
+use lib.Dec.{leb}
+use borrow.Author.Tests.{le-leb, lt-leb}
+use Rattle.count.specs.Truth.{one}
+use Rattle.count.specs.Bits.{leb-next}
 use Rattle.corner.specs.Pairs.{apart, both, astray}
-
-pub same-true : (v u : Vertex) → same v u ≡ true → v ≡ u
-same-true v u h =
-    let k = and-true (eqb (v .line) (u .line)) (eqb (v .column) (u .column)) h in
-    λ i. record { line = eqb-true (v .line) (u .line) (k .0) i; column = eqb-true (v .column) (u .column) (k .1) i }
-
-pub same-self : (v : Vertex) → same v v ≡ true
-same-self v = rw (eq-eqb (v .line) (v .line) refl, eq-eqb (v .column) (v .column) refl)
-
-pub same-sym : (u v : Vertex) → same u v ≡ same v u
-same-sym u v = rw (eqb-sym (u .line) (v .line), eqb-sym (u .column) (v .column))
 
 -- ── apart ──
 pub apart-sym : (a b : Bool) → apart a b ≡ apart b a

@@ -15,7 +15,7 @@ use Rattle.net.specs.Terminals.{same}
 use Rattle.routing.specs.Routing.{Routing, Routable}
 use Rattle.corner.specs.Pairs.{maps}
 use Rattle.corner.specs.Problem.{Joined, KeepsEdges}
-use Rattle.corner.specs.Apart.{same-true, same-self}
+use Rattle.net.specs.Same.{same-true, same-self}
 use Rattle.corner.specs.Trails.{Link, hor, ver, lo, hi, Ends}
 use Rattle.corner.specs.Carry.{carry}
 use Rattle.corner.specs.Tidy.{tidy}

@@ -9,14 +9,14 @@ use native.Mathlib.Omega.{arith}
 use Rattle.count.specs.Truth.{bool, one}
 use Rattle.board.specs.Board.{Board, IsVertex}
 use Rattle.board.specs.Degree.{vertex?, degree, pins}
+use Rattle.board.specs.Tests.{vertex-exact}
 use Rattle.board.specs.declared.Vertex.{Vertex}
 use Rattle.net.specs.declared.Pair.{Pair}
 use Rattle.net.specs.Terminals.{same, terminals}
 use Rattle.cut.specs.declared.Cut.{Cut}
 use Rattle.cut.specs.Cut.{side, crosses, crossing}
 use Rattle.corner.specs.Pairs.{apart, tally, All, leaving, standing}
-use Rattle.corner.specs.Apart.{same-self, same-sym}
-use Rattle.corner.specs.Exact.{vertex-exact}
+use Rattle.net.specs.Same.{same-self, same-sym}
 
 pub terminals-standing : (ps : List Pair) (v : Vertex) → terminals ps v ≡ standing (same v) ps
 unfolding terminals standing tally

@@ -22,7 +22,7 @@ use Rattle.count.specs.Parity.{Even}
 use Rattle.count.specs.Bits.{and-comm, and-off, and-on, eqb-sym, le-suc-bit, below-suc}
 use Rattle.count.specs.Sums.{sum-none}
 use Rattle.corner.specs.Pairs.{All, leaving, inside, standing, maps}
-use Rattle.corner.specs.Apart.{same-true}
+use Rattle.net.specs.Same.{same-true}
 use Rattle.corner.specs.Tallies.{all-map, all-maps, standing-split, standing-add, standing-none, standing-ext, leaving-maps, standing-maps}
 use Rattle.corner.specs.Shape.{size, Shape, present, behind, deg, cap, Good}
 use Rattle.corner.specs.Placed.{Placed, CutCondition}

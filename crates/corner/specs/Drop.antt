@@ -13,7 +13,8 @@ use Rattle.net.specs.declared.Pair.{Pair}
 use Rattle.net.specs.Terminals.{same}
 use Rattle.cut.specs.Cut.{side}
 use Rattle.corner.specs.Pairs.{tally, All, leaving, standing, Proper}
-use Rattle.corner.specs.Apart.{same-true, apart-same}
+use Rattle.net.specs.Same.{same-true}
+use Rattle.corner.specs.Apart.{apart-same}
 use Rattle.corner.specs.Shape.{Shape, Here, Good}
 use Rattle.corner.specs.Trails.{Link, joined, used, Trails, total, Routed}
 

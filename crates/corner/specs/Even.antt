@@ -10,6 +10,7 @@ use Rattle.count.specs.Truth.{bool, clash}
 use Rattle.count.specs.Lists.{upTo}
 use Rattle.board.specs.Board.{Board, Within, at, IsVertex}
 use Rattle.board.specs.Degree.{vertex?, degree}
+use Rattle.board.specs.Tests.{vertex-exact}
 use Rattle.board.specs.declared.Vertex.{Vertex}
 use Rattle.net.specs.declared.Pair.{Pair}
 use Rattle.net.specs.Terminals.{terminals}
@@ -17,7 +18,6 @@ use Rattle.cut.specs.Odd.{odd?, readingOrder, oddVertices}
 use Rattle.count.specs.Parity.{oddNumber, odd-case}
 use Rattle.count.specs.Each.{Each, each-upTo, upTo-each, each-map, map-each, each-flatMap, flatMap-each, select-none, none-select}
 use Rattle.corner.specs.Problem.{AllEven}
-use Rattle.corner.specs.Exact.{vertex-exact}
 use Rattle.corner.specs.Overfull.{vertex-frame}
 
 -- every place of the frame is looked at

@@ -1,36 +1,17 @@
--- The tests of a board say what its definitions say: `cell?` and Cell, `vertex?` and IsVertex, `edge?` and IsEdge.
+-- Edges and vertices by the cells beside them, and edges from their other ends.
 -- Assumes nothing.
 use mathlib.Core.Path.{_≡_, refl, ap, sym, subst}
 use mathlib.Core.Bool.{Bool, true, false, _&&_, _||_}
 use mathlib.Core.Logic.{_⊎_, inl, inr, _↔_}
 use Prim.Native.Nat.{ℕ, suc, _-_}
 use native.Mathlib.Omega.{arith}
-use lib.Dec.{leb, ltb}
-use borrow.Author.Tests.{leb-true, le-leb, ltb-true, lt-ltb}
-use Rattle.count.specs.Truth.{and-true, and-yes, or-true, or-left, or-right}
-use Rattle.board.specs.Board.{Board, height, left, right, Cell, at, Edge, edge, Corner, Side, IsVertex, IsEdge, top-left, top-right, bottom-left, bottom-right, top-side, bottom-side, left-side, right-side}
-use Rattle.board.specs.Degree.{cell?, belowRight, belowLeft, aboveRight, aboveLeft, vertex?, edge?}
+use lib.Dec.{ltb}
+use borrow.Author.Tests.{lt-ltb}
+use Rattle.board.specs.Board.{Board, Cell, at, Edge, edge, Corner, Side, IsVertex, IsEdge, top-left, top-right, bottom-left, bottom-right, top-side, bottom-side, left-side, right-side}
+use Rattle.board.specs.Degree.{cell?, belowRight, belowLeft, aboveRight, aboveLeft, edge?}
+use Rattle.board.specs.Tests.{edge-exact}
 use Rattle.board.specs.declared.Vertex.{Vertex}
 use Rattle.board.specs.declared.Direction.the-variants.{Up, Right, Down, Left}
-
--- ── cells ──
-pub cell-yes : (b : Board) (i j : ℕ) → Cell b i j → cell? b i j ≡ true
-cell-yes b i j k = and-yes _ _ (lt-ltb i (height b) (k .row)) (and-yes _ _ (le-leb (left b i) j (k .from)) (lt-ltb j (right b i) (k .to)))
-
-pub cell-true : (b : Board) (i j : ℕ) → cell? b i j ≡ true → Cell b i j
-cell-true b i j e =
-    let k = and-true (ltb i (height b)) (leb (left b i) j && ltb j (right b i)) e in
-    let m = and-true (leb (left b i) j) (ltb j (right b i)) (k .1) in
-    record { row = ltb-true i (height b) (k .0); from = leb-true (left b i) j (m .0); to = ltb-true j (right b i) (m .1) }
-
--- the cell before a line or a column, if there is one
-before-yes : (n m : ℕ) (t : ℕ → Bool) → n ≡ suc m → t m ≡ true → (ltb 0 n && t (n - 1)) ≡ true
-before-yes n m t e h =
-    let q : m ≡ n - 1 = omega arith in
-    and-yes _ _ (lt-ltb 0 n (omega arith)) (subst (λ k. t k ≡ true) q h)
-
-before-true : (n : ℕ) (t : ℕ → Bool) → (ltb 0 n && t (n - 1)) ≡ true → (m : ℕ) × (n ≡ suc m) × (t m ≡ true)
-before-true n t e = let k = and-true (ltb 0 n) (t (n - 1)) e in (n - 1, omega (arith, ltb-true 0 n (k .0)), k .1)
 
 -- ── edges ──
 -- which side of its cell an edge is
@@ -77,30 +58,10 @@ no-loop b v h = elim (side-case (h .0) (h .1) (edge v v) (h .3)) [
 ]
 
 pub right-exact : (b : Board) (l c : ℕ) → (edge? b Right (at l c) ≡ true) ↔ IsEdge b (edge (at l c) (at l (suc c)))
-unfolding edge? aboveRight belowRight
-right-exact b l c = (
-  (λ e. elim (or-true (ltb 0 l && cell? b (l - 1) c) (cell? b l c) e) [
-    | inl h ↦ let k = before-true l (λ i. cell? b i c) h in level-edge b l c (k .0) (inr (k .1)) (cell-true b (k .0) c (k .2))
-    | inr h ↦ level-edge b l c l (inl refl) (cell-true b l c h)
-  ]),
-  λ e. let k = level b l c e in elim (k .1) [
-    | inl q ↦ or-right (ltb 0 l && cell? b (l - 1) c) (cell? b l c) (cell-yes b l c (subst (λ i. Cell b i c) (sym q) (k .2)))
-    | inr q ↦ or-left (ltb 0 l && cell? b (l - 1) c) (cell? b l c) (before-yes l (k .0) (λ i. cell? b i c) q (cell-yes b (k .0) c (k .2)))
-  ],
-)
+right-exact b l c = edge-exact b Right (at l c)
 
 pub down-exact : (b : Board) (l c : ℕ) → (edge? b Down (at l c) ≡ true) ↔ IsEdge b (edge (at l c) (at (suc l) c))
-unfolding edge? belowLeft belowRight
-down-exact b l c = (
-  (λ e. elim (or-true (ltb 0 c && cell? b l (c - 1)) (cell? b l c) e) [
-    | inl h ↦ let k = before-true c (cell? b l) h in upright-edge b l c (k .0) (inr (k .1)) (cell-true b l (k .0) (k .2))
-    | inr h ↦ upright-edge b l c c (inl refl) (cell-true b l c h)
-  ]),
-  λ e. let k = upright b l c e in elim (k .1) [
-    | inl q ↦ or-right (ltb 0 c && cell? b l (c - 1)) (cell? b l c) (cell-yes b l c (subst (Cell b l) (sym q) (k .2)))
-    | inr q ↦ or-left (ltb 0 c && cell? b l (c - 1)) (cell? b l c) (before-yes c (k .0) (cell? b l) q (cell-yes b l (k .0) (k .2)))
-  ],
-)
+down-exact b l c = edge-exact b Down (at l c)
 
 -- ── the same edge from its other end ──
 pub up-down : (b : Board) (l c : ℕ) → edge? b Up (at (suc l) c) ≡ edge? b Down (at l c)
@@ -151,60 +112,3 @@ cell-vertex b v i j (inl p) (inl q) k = (i, j, k, subst (Corner i j) (λ t. at (
 cell-vertex b v i j (inl p) (inr q) k = (i, j, k, subst (Corner i j) (λ t. at (sym p t) (sym q t)) top-right)
 cell-vertex b v i j (inr p) (inl q) k = (i, j, k, subst (Corner i j) (λ t. at (sym p t) (sym q t)) bottom-left)
 cell-vertex b v i j (inr p) (inr q) k = (i, j, k, subst (Corner i j) (λ t. at (sym p t) (sym q t)) bottom-right)
-
--- a vertex has an upright edge or a horizontal one, and so the test finds it
-pub vertex-exact : (b : Board) (v : Vertex) → (vertex? b v ≡ true) ↔ IsVertex b v
-unfolding vertex? aboveLeft aboveRight belowLeft belowRight
-vertex-exact b v = (there, here)
-  where
-    l : ℕ
-    l = v .line
-
-    c : ℕ
-    c = v .column
-
-    al : Bool
-    al = (ltb 0 (v .line) && ltb 0 (v .column)) && cell? b (v .line - 1) (v .column - 1)
-
-    ar : Bool
-    ar = ltb 0 (v .line) && cell? b (v .line - 1) (v .column)
-
-    bl : Bool
-    bl = ltb 0 (v .column) && cell? b (v .line) (v .column - 1)
-
-    br : Bool
-    br = cell? b (v .line) (v .column)
-
-    there : vertex? b v ≡ true → IsVertex b v
-    there e = elim (or-true (al || ar) (bl || br) e) [
-      | inl h ↦ elim (or-true al ar h) [
-        | inl k ↦
-            let m = and-true (ltb 0 (v .line) && ltb 0 (v .column)) (cell? b (v .line - 1) (v .column - 1)) k in
-            let n = and-true (ltb 0 (v .line)) (ltb 0 (v .column)) (m .0) in
-            cell-vertex b v (v .line - 1) (v .column - 1) (inr (omega (arith, ltb-true 0 (v .line) (n .0)))) (inr (omega (arith, ltb-true 0 (v .column) (n .1)))) (cell-true b (v .line - 1) (v .column - 1) (m .1))
-        | inr k ↦
-            let m = and-true (ltb 0 (v .line)) (cell? b (v .line - 1) (v .column)) k in
-            cell-vertex b v (v .line - 1) (v .column) (inr (omega (arith, ltb-true 0 (v .line) (m .0)))) (inl refl) (cell-true b (v .line - 1) (v .column) (m .1))
-      ]
-      | inr h ↦ elim (or-true bl br h) [
-        | inl k ↦
-            let m = and-true (ltb 0 (v .column)) (cell? b (v .line) (v .column - 1)) k in
-            cell-vertex b v (v .line) (v .column - 1) (inl refl) (inr (omega (arith, ltb-true 0 (v .column) (m .0)))) (cell-true b (v .line) (v .column - 1) (m .1))
-        | inr k ↦ cell-vertex b v (v .line) (v .column) (inl refl) (inl refl) (cell-true b (v .line) (v .column) k)
-      ]
-    ]
-
-    moved : (i j i' j' : ℕ) → i ≡ i' → j ≡ j' → Cell b i j → cell? b i' j' ≡ true
-    moved i j i' j' p q k = cell-yes b i' j' (subst (λ n. Cell b i' n) q (subst (λ n. Cell b n j) p k))
-
-    here : IsVertex b v → vertex? b v ≡ true
-    here h = let k = vertex-cell b v h in let i = k .0 in let j = k .1 in elim (k .2) [
-      | inl p ↦ elim (k .3) [
-        | inl q ↦ or-right (al || ar) (bl || br) (or-right bl br (moved i j (v .line) (v .column) (sym p) (sym q) (k .4)))
-        | inr q ↦ or-right (al || ar) (bl || br) (or-left bl br (and-yes _ _ (lt-ltb 0 (v .column) (omega arith)) (moved i j (v .line) (v .column - 1) (sym p) (omega arith) (k .4))))
-      ]
-      | inr p ↦ elim (k .3) [
-        | inl q ↦ or-left (al || ar) (bl || br) (or-right al ar (and-yes _ _ (lt-ltb 0 (v .line) (omega arith)) (moved i j (v .line - 1) (v .column) (omega arith) (sym q) (k .4))))
-        | inr q ↦ or-left (al || ar) (bl || br) (or-left al ar (and-yes _ _ (and-yes _ _ (lt-ltb 0 (v .line) (omega arith)) (lt-ltb 0 (v .column) (omega arith))) (moved i j (v .line - 1) (v .column - 1) (omega arith) (omega arith) (k .4))))
-      ]
-    ]

@@ -20,7 +20,7 @@ use Rattle.cut.specs.Cut.{side}
 use Rattle.count.specs.Bits.{le-case, and-comm, and-off}
 use Rattle.count.specs.Sums.{sum-reverse, sum-none}
 use Rattle.corner.specs.Pairs.{pair, All, leaving, standing, Proper, maps}
-use Rattle.corner.specs.Apart.{same-true, same-self}
+use Rattle.net.specs.Same.{same-true, same-self}
 use Rattle.corner.specs.Tallies.{all-maps, standing-ext, leaving-ext, leaving-not, leaving-const, leaving-maps, standing-maps}
 use Rattle.corner.specs.Shape.{size, last, Shape, present, At, Here, Line, vertices, behind, deg, cap, Shaped, Fits, Good, start, finish, Top}
 use Rattle.corner.specs.Presence.{last-suc, present-yes, present-true, present-no, top-in}

@@ -15,7 +15,8 @@ use Rattle.cut.specs.declared.Cut.the-variants.{Row, Column}
 use Rattle.cut.specs.Cut.{side}
 use Rattle.count.specs.Bits.{eq-case, one-false}
 use Rattle.corner.specs.Pairs.{apart, astray, All, leaving, standing}
-use Rattle.corner.specs.Apart.{same-sym, apart-sym, detour}
+use Rattle.net.specs.Same.{same-sym}
+use Rattle.corner.specs.Apart.{apart-sym, detour}
 use Rattle.corner.specs.Shape.{Shape, present, At, Here, deg, cap, Shaped, Fits, Good, Roomy, Full, start, UL, NUL, BUL, topCut, leftCut, Less}
 use Rattle.corner.specs.Presence.{present-yes, present-true, less-bit, less-still, deg-less}
 use Rattle.corner.specs.Delete.{touch-corner}

@@ -18,7 +18,7 @@ use Rattle.cut.specs.declared.Cut.{Cut}
 use Rattle.cut.specs.declared.Cut.the-variants.{Row, Column}
 use Rattle.cut.specs.Cut.{edges}
 use Rattle.routing.specs.Routing.{sameEdge}
-use Rattle.corner.specs.Apart.{same-true, same-self}
+use Rattle.net.specs.Same.{same-true, same-self}
 use Rattle.corner.specs.Shape.{size}
 use Rattle.corner.specs.Trails.{Link, hor, ver, lo, hi, Ends, sameLink, capOf, InFrame}
 use Rattle.corner.specs.TrailLaws.{link-self, link-true}

@@ -17,7 +17,8 @@ use Rattle.cut.specs.Cut.{edges, side}
 use Rattle.count.specs.Bits.{leb-next}
 use Rattle.corner.specs.Pairs.{pair, apart, All, leaving, standing, Proper, Take}
 use Rattle.convex.specs.Form.{width}
-use Rattle.corner.specs.Apart.{same-true, same-self, astray-start, astray-end}
+use Rattle.net.specs.Same.{same-true, same-self}
+use Rattle.corner.specs.Apart.{astray-start, astray-end}
 use Rattle.corner.specs.Tallies.{all-zip, standing-cons, leaving-cons, all-out, leaving-ext}
 use Rattle.corner.specs.Taking.{all-take, leaving-take, standing-take, pick, proper-take, proper-leaving}
 use Rattle.corner.specs.Shape.{Shape, present, At, Here, deg, cap, Shaped, Good, start, finish, Top, UL, NUL, BUL, topCut, leftCut, narrow, lower, Less}

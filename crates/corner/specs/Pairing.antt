@@ -16,7 +16,7 @@ use Rattle.count.specs.Parity.{oddNumber, odd-case}
 use Rattle.count.specs.Bits.{one-true, one-false}
 use Rattle.count.specs.Sums.{sum-le, sum-none, sum-get, sum-lt, zero-or-some}
 use Rattle.corner.specs.Pairs.{pair, tally, standing}
-use Rattle.corner.specs.Apart.{same-true, same-self}
+use Rattle.net.specs.Same.{same-true, same-self}
 use Rattle.corner.specs.Tallies.{all-append, standing-cons, standing-nil, standing-append}
 use Rattle.corner.specs.Shape.{size, Shape, present, Here, deg, Shaped}
 use Rattle.corner.specs.Placed.{Placed, CutCondition, Loose, oddAt, HelpersOn}

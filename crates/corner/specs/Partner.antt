@@ -16,7 +16,7 @@ use Rattle.count.specs.Parity.{odd-case}
 use Rattle.count.specs.Bits.{one-true, one-false}
 use Rattle.count.specs.Sums.{sum-at}
 use Rattle.corner.specs.Pairs.{pair, standing}
-use Rattle.corner.specs.Apart.{same-true, same-self, same-sym}
+use Rattle.net.specs.Same.{same-true, same-self, same-sym}
 use Rattle.corner.specs.Tallies.{standing-cons}
 use Rattle.corner.specs.Shape.{size, Shape, present, Here, deg, Shaped}
 use Rattle.corner.specs.Placed.{oddAt}

@@ -12,7 +12,7 @@ use Rattle.board.specs.Board.{at}
 use Rattle.board.specs.declared.Vertex.{Vertex}
 use Rattle.net.specs.Terminals.{same}
 use Rattle.count.specs.Bits.{eq-case, one-true}
-use Rattle.corner.specs.Apart.{same-true}
+use Rattle.net.specs.Same.{same-true}
 use Rattle.corner.specs.Shape.{size, last, Shape, present, At, Here, behind, deg, Shaped, start, finish, Top, UL, Less}
 
 pub last-suc : suc last ≡ size

@@ -12,7 +12,7 @@ use Rattle.board.specs.declared.Vertex.{Vertex}
 use Rattle.net.specs.declared.Pair.{Pair}
 use Rattle.net.specs.Terminals.{same}
 use Rattle.corner.specs.Pairs.{All, standing, Proper, Take}
-use Rattle.corner.specs.Apart.{same-self}
+use Rattle.net.specs.Same.{same-self}
 use Rattle.corner.specs.Taking.{all-take, standing-take, take-swap, pick, proper-take}
 use Rattle.corner.specs.Shape.{Shape, present, Here, vertices, Good, start, finish, Top, UL, NUL, BUL, topCut, leftCut, narrow, lower, Less}
 use Rattle.corner.specs.Presence.{present-yes, top-in}

@@ -18,7 +18,8 @@ use Rattle.cut.specs.declared.Cut.the-variants.{Row, Column}
 use Rattle.cut.specs.Cut.{side}
 use Rattle.count.specs.Bits.{le-case, leb-next}
 use Rattle.corner.specs.Pairs.{pair, apart, astray, All, leaving, standing, hits, Proper, across, Take}
-use Rattle.corner.specs.Apart.{same-self, apart-same, astray-start, astray-end}
+use Rattle.net.specs.Same.{same-self}
+use Rattle.corner.specs.Apart.{apart-same, astray-start, astray-end}
 use Rattle.corner.specs.Tallies.{all-map, all-zip, standing-cons, leaving-cons, all-out}
 use Rattle.corner.specs.Taking.{all-take, leaving-take, standing-take, least, proper-take}
 use Rattle.corner.specs.Shape.{Shape, present, Here, cap, Shaped, Good, Roomy, Full, start, finish, Top, UL, NUL, BUL, topCut, leftCut, narrow, Less}

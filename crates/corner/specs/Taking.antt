@@ -11,7 +11,8 @@ use Rattle.board.specs.declared.Vertex.{Vertex}
 use Rattle.net.specs.declared.Pair.{Pair}
 use Rattle.net.specs.Terminals.{same}
 use Rattle.corner.specs.Pairs.{pair, apart, both, tally, All, leaving, inside, standing, hits, Proper, Take, here, back, there, Found}
-use Rattle.corner.specs.Apart.{same-true, same-self, same-sym, apart-sym, both-sym}
+use Rattle.net.specs.Same.{same-true, same-self, same-sym}
+use Rattle.corner.specs.Apart.{apart-sym, both-sym}
 use Rattle.corner.specs.Tallies.{standing-split}
 
 pub tally-take : (f : Vertex → Vertex → ℕ) → ((u v : Vertex) → f u v ≡ f v u) → (u v : Vertex) {ps rest : List Pair} → Take u v ps rest

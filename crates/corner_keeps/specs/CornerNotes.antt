@@ -14,7 +14,7 @@ use Rattle.count.specs.Truth.{bool, clash, and-yes}
 use Rattle.board.specs.declared.Vertex.{Vertex}
 use Rattle.net.specs.Terminals.{same}
 use Rattle.cut.specs.Cut.{side}
-use Rattle.corner.specs.Apart.{same-true}
+use Rattle.net.specs.Same.{same-true}
 use Rattle.notes.specs.Notes.{stay}
 use Rattle.notes.specs.Arrays.{hopAt, hopD, hopOf}
 

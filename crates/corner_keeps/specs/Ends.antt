@@ -16,7 +16,7 @@ use Rattle.count.specs.Sums.{sum-none, sum-get}
 use Rattle.board.specs.declared.Vertex.{Vertex}
 use Rattle.net.specs.Terminals.{same}
 use Rattle.corner.specs.Pairs.{standing}
-use Rattle.corner.specs.Apart.{same-true, same-self}
+use Rattle.net.specs.Same.{same-true, same-self}
 use Rattle.corner.specs.Taking.{proper-take}
 use Rattle.corner.specs.Shape.{Shape, last, UL, NUL, BUL, narrow, lower, topCut, leftCut}
 use Rattle.corner.specs.Presence.{present-one}

@@ -10,7 +10,7 @@ use native.Mathlib.Numerals.{add-one}
 use lib.ListN.{length, getD, set}
 use Rattle.count.specs.Truth.{one, one-le}
 use Rattle.count.specs.Sum.{sum, sum-eq}
-use Rattle.count.specs.Sums.{sum-le, sum-get}
+use Rattle.count.specs.Sums.{sum-le, sum-get, sum-const}
 use Rattle.corner.specs.Shape.{size, last, Shape, present, vertices, Shaped, narrow, lower}
 use Rattle.corner.specs.Presence.{last-suc, present-one}
 use Rattle.corner.specs.Delete.{narrow-less, lower-less, fewer}
@@ -39,11 +39,6 @@ vertices-some S G = omega (
   sum-get size (S .a (S .top)) (λ c. one (present S (S .top) c)) (omega (arith, G .full (S .top) (omega arith, G .order), G .thin (S .top) (omega arith, G .order))),
   sum-get size (S .top) (λ l. sum size (λ c. one (present S l c))) (omega (arith, G .order, G .low)),
 )
-
-sum-const : (n k : ℕ) → sum n (λ i. k) ≡ n * k
-unfolding sum
-sum-const zero k = omega arith
-sum-const (suc n) k = omega (arith, sum-const n k)
 
 pub vertices-few : (S : Shape) → vertices S ≤ 1024
 unfolding vertices size

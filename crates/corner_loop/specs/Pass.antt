@@ -10,7 +10,7 @@ use Rattle.count.specs.Truth.{not-true}
 use Rattle.board.specs.declared.Vertex.{Vertex}
 use Rattle.net.specs.Terminals.{same}
 use Rattle.corner.specs.Pairs.{Proper}
-use Rattle.corner.specs.Apart.{same-true}
+use Rattle.net.specs.Same.{same-true}
 use Rattle.corner.specs.Shape.{last, Shape, vertices, Top}
 use Rattle.corner.specs.Presence.{last-suc}
 use Rattle.corner.specs.Flip.{flip, flip-vertices}

@@ -3,7 +3,7 @@
 use mathlib.Core.Path.{_≡_, refl, ap, _∙_, sym}
 use mathlib.Core.Bool.{Bool, true, false, _&&_}
 use mathlib.Core.Logic.{_⊎_, inl, inr}
-use Prim.Native.Nat.{ℕ, suc, _+_, _≤_, _<_}
+use Prim.Native.Nat.{ℕ, suc, _+_, _≤_, _<_, _*_}
 use native.Mathlib.Omega.{arith}
 use lib.Dec.{leb, eqb}
 use borrow.Author.Tests.{leb-true, leb-false, eqb-true, eqb-false, le-leb, lt-leb, eq-eqb}
@@ -107,3 +107,7 @@ below-suc true k c = elim (le-case (suc c) (suc k)) [
     | inr b ↦ elim (eq-case k c) [ inl e ↦ omega arith | inr e ↦ omega arith ]
   ]
 ]
+
+-- two digits in base 32
+pub digits-apart : (l c m d : ℕ) → c < 32 → d < 32 → l * 32 + c ≡ m * 32 + d → (l ≡ m) × (c ≡ d)
+digits-apart l c m d h k e = let p : l ≡ m = omega arith in (p, omega arith)

@@ -2,7 +2,7 @@
 -- Assumes nothing.
 use mathlib.Core.Path.{_≡_, refl, subst}
 use mathlib.Core.Logic.{_⊎_, inl, inr}
-use Prim.Native.Nat.{ℕ, zero, suc, _+_, _-_, _≤_, _<_, min}
+use Prim.Native.Nat.{ℕ, zero, suc, _+_, _-_, _≤_, _<_, min, _*_}
 use native.Mathlib.Nat.{zero-add, suc-add}
 use native.Mathlib.Omega.{arith}
 use Rattle.count.specs.Bits.{eq-case}
@@ -99,3 +99,8 @@ search-below a q top (suc n) = elim (search-below a q top n) [
     ]
   ]
 ]
+
+pub sum-const : (n k : ℕ) → sum n (λ i. k) ≡ n * k
+unfolding sum
+sum-const zero k = omega arith
+sum-const (suc n) k = omega (arith, sum-const n k)

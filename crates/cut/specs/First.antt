@@ -1,7 +1,7 @@
 -- What the lists of overfull cuts and of odd vertices say: they are empty exactly when there is none, and their head is the first in order.
 -- Assumes for vertices that the board is within the limits: the reading order has lines and columns 0 to 31.
 use mathlib.Core.Path.{_≡_, refl, ap, sym}
-use mathlib.Core.Bool.{Bool, true, false, _&&_}
+use mathlib.Core.Bool.{true, false}
 use mathlib.Core.List.{List, [], map, head?}
 use mathlib.Core.Logic.{_⊎_, inl, inr, _↔_}
 use mathlib.Core.Option.{some}
@@ -10,7 +10,7 @@ use native.Mathlib.Omega.{arith}
 use lib.Dec.{eqb}
 use borrow.Author.Tests.{eqb-true, eq-eqb}
 use Rattle.count.specs.Truth.{clash, not-true, and-true, and-yes, le-or-lt, eq-or-ne}
-use Rattle.count.specs.Lists.{upTo, select, none-append, first-append, none-map, first-map, none-flat, first-flat, Ordered, first-only, head-is}
+use Rattle.count.specs.Lists.{upTo, none-append, first-append, none-map, first-map, none-flat, first-flat, Ordered, first-only, head-is}
 use Rattle.board.specs.Board.{Board, Within, height, at, IsVertex}
 use Rattle.board.specs.Degree.{vertex?, degree}
 use Rattle.board.specs.Tests.{vertex-exact}

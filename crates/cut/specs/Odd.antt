@@ -1,7 +1,7 @@
 -- Definitions only: document 01, "Cuts", last sentence, and the order of refusal 32. Nothing is proved here.
 use mathlib.Core.Bool.{Bool, _&&_}
 use mathlib.Core.List.{List, flatMap, map}
-use Prim.Native.Nat.{ℕ, _+_, _%_}
+use Prim.Native.Nat.{_+_, _%_}
 use lib.Dec.{eqb}
 use Rattle.count.specs.Lists.{upTo, select}
 use Rattle.board.specs.Board.{Board, at}

@@ -1,7 +1,7 @@
 -- The edges of a row number right - left + 1; those of a column are one for each line that passes the column.
 -- Assumes that the board is within the limits, and for columns that it is convex.
 use mathlib.Core.Path.{_≡_}
-use mathlib.Core.Bool.{Bool, true, false, _&&_}
+use mathlib.Core.Bool.{Bool, true, _&&_}
 use mathlib.Core.Logic.{_↔_}
 use Prim.Native.Nat.{ℕ, suc, _+_, _≤_, _<_}
 use native.Mathlib.Omega.{arith}

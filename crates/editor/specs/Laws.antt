@@ -2,13 +2,13 @@
 -- Assumes what reading, routing and judging promise.
 use mathlib.Core.Path.{_≡_, refl, ap, sym, _∙_}
 use mathlib.Core.List.{List}
-use mathlib.Core.Option.{Option, none, some}
+use mathlib.Core.Option.{none, some}
 use Prim.Native.Nat.{ℕ}
 use native.Mathlib.Omega.{arith}
 use Rattle.machine.specs.Refusal.{Refusal, refusal}
 use Rattle.machine.specs.Session.{Session}
 use Rattle.session.specs.View.{sessionOf}
-use Rattle.calls.specs.Result.{Result, no, yes, andThen}
+use Rattle.calls.specs.Result.{Result, no, yes}
 use Rattle.calls.specs.Reading.{readBytes, handedBack}
 use Rattle.calls.specs.Route.{RoutesBytes}
 use Rattle.calls.specs.Judge.{judgeBytes}
@@ -16,7 +16,7 @@ use Rattle.calls.specs.Editor.{EditorRoutes, unread, read, editorJudge}
 use Rattle.reading.specs.Promise.{readAnswer, refusalIn, ReadPromise}
 use Rattle.reading.specs.declared.AfterRead.{AfterRead}
 use Rattle.reading.specs.declared.ReadAnswer.the-variants as answer
-use Rattle.editor.specs.Told.{tell, routeTold, judgeTold, refusedTold, RoutePromise}
+use Rattle.editor.specs.Told.{tell, routeTold, judgeTold}
 use Rattle.editor.specs.declared.Told.{Told}
 
 -- ── reading ──

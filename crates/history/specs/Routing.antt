@@ -2,7 +2,6 @@
 -- first overfull cut is named.
 -- Assumes of each call only its promise.
 use mathlib.Core.Path.{_≡_, refl, ap, sym, _∙_}
-use mathlib.Core.Bool.{Bool, true, false}
 use mathlib.Core.List.{List, [], _∷_, head?}
 use mathlib.Core.Logic.{_↔_}
 use mathlib.Core.Option.{Option, none, some}
@@ -23,7 +22,7 @@ use Rattle.corner.specs.Theorem.{routable}
 use Rattle.machine.specs.Refusal.{Refusal}
 use Rattle.machine.specs.Session.{Session, pairs}
 use Rattle.machine.specs.Machine.{after, answers}
-use Rattle.machine.specs.Sound.{Sound, sound?, Fresh, bare}
+use Rattle.machine.specs.Sound.{Sound, Fresh, bare}
 use Rattle.soundness.specs.Exact.{sound-exact}
 use Rattle.session.specs.declared.Session as code
 use Rattle.session.specs.View.{sessionOf}

@@ -1,13 +1,12 @@
 -- Definitions: the verdict of document 01 that a value of the code stands for. And what `judged` is, over a board and nets.
 -- Assumes nothing.
-use mathlib.Core.Path.{_≡_, refl, ap, sym, _∙_}
+use mathlib.Core.Path.{_≡_, refl, sym, _∙_}
 use mathlib.Core.Bool.{Bool}
 use mathlib.Core.List.{List, [], _∷_}
 use mathlib.Core.Option.{Option, none, some}
 use Prim.Native.Nat.{ℕ}
 use lib.ListN.{length, replicate}
-use Rattle.board.specs.Board.{Board, Edge}
-use Rattle.board.specs.declared.Direction.{Direction}
+use Rattle.board.specs.Board.{Board}
 use Rattle.net.specs.declared.Net.{Net}
 use Rattle.machine.specs.Refusal as machine
 use Rattle.machine.specs.Refusal.{line, firstRefusal}

@@ -1,18 +1,21 @@
 -- A board within the limits has at most 1,984 edges: so many different edges there are at most in a list.
 -- Assumes that the board is within the limits.
 use mathlib.Core.Path.{_≡_, refl, ap, sym, _∙_}
-use mathlib.Core.Bool.{Bool, true, false, cond}
+use mathlib.Core.Bool.{cond}
 use mathlib.Core.List.{List, [], _∷_, _++_, flatten}
 use mathlib.Core.Logic.{_⊎_, inl, inr}
 use Prim.Native.Nat.{ℕ, zero, suc, _+_, _*_, _<_, _≤_}
 use native.Mathlib.Omega.{arith}
 use lib.Dec.{eqb}
-use lib.ListN.{length, length-append}
-use borrow.Author.Tests.{eq-eqb, ne-eqb, eqb-true, eqb-false}
+use lib.ListN.{length}
+use borrow.Author.Tests.{eq-eqb, ne-eqb}
 use Rattle.count.specs.Truth.{bool, clash, one, one-le, eq-or-ne}
-use Rattle.count.specs.Sum.{sum, sum-zero, sum-suc}
+use Rattle.count.specs.Sum.{sum}
+use Rattle.count.specs.Sums.{sum-add}
+use Rattle.count.specs.Bits.{digits-apart}
 use Rattle.board.specs.Board.{Board, Within, Edge, IsEdge, at}
-use Rattle.board.specs.Path.{next, along, Path}
+use Rattle.board.specs.Path.{next, Path}
+use Rattle.board.specs.EdgesAt.{edge-eq}
 use Rattle.board.specs.declared.Vertex.{Vertex}
 use Rattle.board.specs.declared.Direction.{Direction}
 use Rattle.net.specs.declared.Pair.{Pair}
@@ -36,14 +39,8 @@ place-small : (e : Edge) → Across e ⊎ Downward e → place e < 1984
 place-small e (inl a) = omega (arith, place-across e a, a .line, a .column)
 place-small e (inr a) = omega (arith, place-down e a, a .line, a .column)
 
-edge-eq : (e f : Edge) → e .from .line ≡ f .from .line → e .from .column ≡ f .from .column → e .to ≡ f .to → e ≡ f
-edge-eq e f p q r = λ i. record { from = record { line = p i; column = q i }; to = r i }
-
 across-apart : (l c m d : ℕ) → c < 31 → d < 31 → l * 31 + c ≡ m * 31 + d → (l ≡ m) × (c ≡ d)
 across-apart l c m d h k e = let p : l ≡ m = omega arith in (p, omega arith)
-
-down-apart : (l c m d : ℕ) → c < 32 → d < 32 → l * 32 + c ≡ m * 32 + d → (l ≡ m) × (c ≡ d)
-down-apart l c m d h k e = let p : l ≡ m = omega arith in (p, omega arith)
 
 places-apart : (e f : Edge) → Across e ⊎ Downward e → Across f ⊎ Downward f → place e ≡ place f → e ≡ f
 places-apart e f (inl a) (inl b) h =
@@ -53,7 +50,7 @@ places-apart e f (inl a) (inr b) h = absurd (omega (arith, place-across e a, pla
 places-apart e f (inr a) (inl b) h = absurd (omega (arith, place-down e a, place-across f b, b .line, b .column))
 places-apart e f (inr a) (inr b) h =
     let x = place-down e a in let y = place-down f b in
-    let k = down-apart (e .from .line) (e .from .column) (f .from .line) (f .from .column) (a .column) (b .column) (omega arith) in
+    let k = digits-apart (e .from .line) (e .from .column) (f .from .line) (f .from .column) (a .column) (b .column) (omega arith) in
     edge-eq e f (k .0) (k .1) (a .to ∙ (rw (k .0, k .1) (sym (b .to))))
 
 -- ── counting by numbers ──
@@ -92,11 +89,6 @@ placed-once b w (e ∷ es) a o i = elim (eq-or-ne (place e) i) [
       omega (arith, o e, one-le (eqb (place e) i))
   | inr q ↦ omega (arith, ap one (ne-eqb (place e) i q), placed-once b w es (a .1) (λ f. omega (arith, o f)) i)
 ]
-
-sum-add : (n : ℕ) (f g : ℕ → ℕ) → sum n (λ i. f i + g i) ≡ sum n f + sum n g
-unfolding sum
-sum-add zero f g = refl
-sum-add (suc n) f g = omega (arith, sum-add n f g)
 
 sum-none : (k n : ℕ) → n ≤ k → sum n (λ i. one (eqb k i)) ≡ 0
 unfolding sum

@@ -1,15 +1,13 @@
 -- A list of words passes exactly when it is the routing words of a routing of the nets; the paths that are reported on are that routing's.
 -- Assumes of the session that its board is within the limits, and that it has at most 64 nets, of numbers below 256.
 use mathlib.Core.Path.{_≡_, refl, ap, sym, _∙_}
-use mathlib.Core.Bool.{Bool, true, false, _||_}
 use mathlib.Core.List.{List, [], _∷_, _++_, map, flatten}
 use mathlib.Core.Logic.{inl, inr, _↔_}
 use mathlib.Core.Option.{Option, none, some}
-use Prim.Native.Nat.{ℕ, zero, suc, _+_, _<_, _≤_}
+use Prim.Native.Nat.{ℕ, suc, _+_, _≤_}
 use native.Mathlib.Omega.{arith}
-use lib.Dec.{eqb, ltb}
 use lib.ListN.{length, length-append, length-map}
-use lib.Seq.{take-at, drop-at}
+use lib.Seq.{drop-at}
 use borrow.Author.Tests.{ne-eqb, le-ltb}
 use Rattle.count.specs.Truth.{bool}
 use Rattle.board.specs.Board.{Board, Within, Edge}
@@ -19,17 +17,17 @@ use Rattle.net.specs.declared.Pair.{Pair}
 use Rattle.routing.specs.Routing.{Joins, edgesFrom, trails, uses, Routing}
 use Rattle.machine.specs.Refusal.{Refusal}
 use Rattle.machine.specs.Session.{Session, pairs}
-use Rattle.words.specs.RoutingWord.{pathWord, runWord, routingEndWord, runsOf, pathWords, pathsWords, routingWords}
+use Rattle.words.specs.RoutingWord.{runWord, routingEndWord, runsOf, pathWords, pathsWords, routingWords}
 use Rattle.words.specs.declared.Run.{Run}
 use Rattle.calls.specs.Result.{Result, no, yes, andThen, unless}
 use Rattle.calls.specs.Shape.{between, wordsRefused, badCount, pathsFrom}
 use Rattle.calls.specs.Walk.{walkPaths}
-use Rattle.calls.specs.Report.{Report, reportOf}
 use Rattle.calls.specs.Judge.{pathsIn, judged}
 use Rattle.judgelaws.specs.Runs.{steps}
 use Rattle.judgelaws.specs.Shapes.{wordsBy, Each, no-net, one-net, shape-read, paths-back, paths-in-words, words-back}
 use Rattle.judgelaws.specs.Walks.{yes-eq, no-yes, endsOf, paths-went, paths-can}
-use Rattle.judgelaws.specs.Straight.{steps-back, runs-fit, runs-few}
+use Rattle.words.specs.RunLaws.{runs-few}
+use Rattle.judgelaws.specs.Straight.{steps-back, runs-fit}
 use Rattle.judgelaws.specs.Passing.{Numbered, shape-passes}
 use Rattle.judgelaws.specs.Edges.{edges-few, joins-edges, length-edges}
 

@@ -1,17 +1,15 @@
 -- The words of runs for each net, and the end word, have the shape.
 -- Assumes that the nets' numbers and their count fit their fields.
-use mathlib.Core.Path.{_≡_, refl, ap, sym, _∙_}
-use mathlib.Core.Bool.{Bool, true, false, cond}
+use mathlib.Core.Path.{_≡_, refl, _∙_}
 use mathlib.Core.List.{List, [], _∷_, _++_, map}
-use mathlib.Core.Option.{Option, none, some}
-use Prim.Native.Nat.{ℕ, zero, suc, _+_, _<_, _≤_}
+use mathlib.Core.Option.{Option, none}
+use Prim.Native.Nat.{ℕ, suc, _+_, _<_}
 use native.Mathlib.Omega.{arith}
-use lib.Dec.{eqb}
 use lib.ListN.{length}
 use borrow.Author.Tests.{eq-eqb, ne-eqb}
 use Rattle.board.specs.declared.Direction.{Direction}
 use Rattle.net.specs.declared.Net.{Net}
-use Rattle.words.specs.RoutingWord.{routingWord, pathWord, runWord, routingEndWord}
+use Rattle.words.specs.RoutingWord.{runWord}
 use Rattle.words.specs.Inverse.{path-back, run-back, routing-end-back}
 use Rattle.words.specs.declared.Run.{Run}
 use Rattle.calls.specs.Shape.{between, runsDue, wordsRefused}

@@ -1,21 +1,20 @@
 -- Runs of which two in a row differ in direction: they are the runs of their directions.
 -- Assumes nothing.
 use mathlib.Core.Path.{_≡_, refl, ap, sym, _∙_}
-use mathlib.Core.Bool.{true, false}
+use mathlib.Core.Bool.{false}
 use mathlib.Core.List.{List, [], _∷_, _++_, map}
-use mathlib.Core.Option.{Option, none, some}
+use mathlib.Core.Option.{Option, some}
 use Prim.Native.Nat.{ℕ, zero, suc, _+_, _-_, _<_}
 use native.Mathlib.Omega.{arith}
-use lib.Dec.{eqb}
 use lib.ListN.{length, replicate}
 use borrow.Author.Tests.{eq-eqb}
 use Rattle.board.specs.Path.{number}
 use Rattle.board.specs.declared.Direction.{Direction}
-use Rattle.board.specs.declared.Direction.the-variants.{Up, Right, Down, Left}
 use Rattle.words.specs.Bits.{bits}
 use Rattle.words.specs.RoutingWord.{runWord, direction, runIn, stepThen, runsOf}
+use Rattle.words.specs.Inverse.{direction-back, number-small}
 use Rattle.words.specs.declared.Run.{Run}
-use Rattle.calls.specs.Shape.{repeated, RunAt, runsFrom}
+use Rattle.calls.specs.Shape.{repeated, runsFrom}
 use Rattle.calls.specs.Report.{directions}
 
 abbrev pub run : Direction → ℕ → Run
@@ -59,18 +58,6 @@ runs-back (one-more {rs = rs} r p q e h) =
     ∙ (straight (r .direction) m (steps rs) (runs-back h) h ∙ ap (λ (n : ℕ). record { direction = r .direction; length = n } ∷ rs) j)
 
 -- ── the runs in their words ──
-pub direction-back : (d : Direction) → direction (number d) ≡ d
-direction-back Up = refl
-direction-back Right = refl
-direction-back Down = refl
-direction-back Left = refl
-
-number-small : (d : Direction) → number d < 4
-number-small Up = omega arith
-number-small Right = omega arith
-number-small Down = omega arith
-number-small Left = omega arith
-
 run-in-word : (r : Run) → r .length < 32 → runIn (runWord r) ≡ r
 run-in-word r h =
     let n = number-small (r .direction) in

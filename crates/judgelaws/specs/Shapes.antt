@@ -1,48 +1,25 @@
 -- A list that has the shape is the words of runs, for each net in turn, and the end word.
 -- Assumes nothing.
 use mathlib.Core.Path.{_≡_, refl, ap, sym, _∙_}
-use mathlib.Core.Bool.{Bool, true, false, cond, _||_}
+use mathlib.Core.Bool.{false}
 use mathlib.Core.List.{List, [], _∷_, _++_, map, append-assoc}
 use mathlib.Core.Logic.{inl, inr}
 use mathlib.Core.Option.{Option, none, some}
-use Prim.Native.Nat.{ℕ, zero, suc, _+_, _<_, _≤_}
+use Prim.Native.Nat.{ℕ, zero, suc, _+_, _<_}
 use native.Mathlib.Omega.{arith}
 use lib.Dec.{eqb}
-use lib.ListN.{length, take, drop, length-map}
+use lib.ListN.{length, length-map}
 use lib.Seq.{take-at, drop-at}
-use borrow.Author.Tests.{eqb-true, eqb-false, eq-eqb}
-use Rattle.count.specs.Truth.{bool, or-left, or-right, clash}
+use borrow.Author.Tests.{eqb-true, eqb-false}
+use Rattle.count.specs.Truth.{bool, or-left, or-right}
 use Rattle.board.specs.declared.Direction.{Direction}
 use Rattle.net.specs.declared.Net.{Net}
-use Rattle.machine.specs.Refusal.{Refusal, refusal}
-use Rattle.words.specs.Bits.{bits}
-use Rattle.words.specs.RoutingWord.{routingWord, pathWord, runWord, routingEndWord, pathIn, runsOf, pathWords, pathsWords, routingWords}
+use Rattle.words.specs.RoutingWord.{routingWord, pathWord, runWord, routingEndWord, pathIn, pathWords, pathsWords}
 use Rattle.words.specs.Inverse.{SaysRouting, says-path, says-run, says-routing-end, says-no-routing, says-routing}
 use Rattle.words.specs.declared.Path.{Path}
 use Rattle.words.specs.declared.Run.{Run}
-use Rattle.words.specs.declared.RoutingWord.{RoutingWord}
 use Rattle.words.specs.declared.RoutingWord.the-variants as word
-use Rattle.calls.specs.Shape.{
-  Due,
-  between,
-  inPath,
-  over,
-  runsDue,
-  repeated,
-  Move,
-  wrong,
-  on,
-  moveBetween,
-  moveInPath,
-  move,
-  atEnd,
-  onward,
-  wordsRefused,
-  PathAt,
-  runsFrom,
-  pathsFrom,
-}
-use Rattle.calls.specs.Report.{directions}
+use Rattle.calls.specs.Shape.{Due, between, inPath, over, runsDue, repeated, moveBetween, moveInPath, onward, wordsRefused, pathsFrom}
 use Rattle.calls.specs.Judge.{pathsIn}
 use Rattle.judgelaws.specs.Runs.{steps, Runs, no-more, one-more, runs-back, runs-in-words}
 

@@ -1,38 +1,26 @@
 -- The runs of a path on a board within the limits: of 1 to 31 edges, two in a row in different directions; and they give its directions back.
 -- Assumes that the board is within the limits.
 use mathlib.Core.Path.{_≡_, refl, ap, sym, _∙_, subst}
-use mathlib.Core.Bool.{Bool, true, false, cond}
-use mathlib.Core.List.{List, [], _∷_, _++_}
+use mathlib.Core.Bool.{true}
+use mathlib.Core.List.{List, [], _∷_}
 use mathlib.Core.Logic.{_⊎_, inl, inr}
-use mathlib.Core.Option.{Option, none, some}
-use Prim.Native.Nat.{ℕ, zero, suc, _+_, _-_, _<_, _≤_}
+use mathlib.Core.Option.{none, some}
+use Prim.Native.Nat.{ℕ, suc, _+_, _-_, _<_, _≤_}
 use native.Mathlib.Numerals.{add-one}
 use native.Mathlib.Omega.{arith}
 use lib.Dec.{eqb}
-use lib.ListN.{length, replicate}
+use lib.ListN.{length}
 use borrow.Author.Tests.{eqb-true}
 use Rattle.count.specs.Truth.{bool}
-use Rattle.board.specs.Board.{
-  Board,
-  Within,
-  Cell,
-  Edge,
-  IsEdge,
-  at,
-  Side,
-  top-side,
-  bottom-side,
-  left-side,
-  right-side,
-}
+use Rattle.board.specs.Board.{Board, Within, Edge, IsEdge, at, Side, top-side, bottom-side, left-side, right-side}
 use Rattle.board.specs.Path.{next, along, number, Path}
 use Rattle.board.specs.declared.Vertex.{Vertex}
 use Rattle.board.specs.declared.Direction.{Direction}
 use Rattle.board.specs.declared.Direction.the-variants.{Up, Right, Down, Left}
 use Rattle.words.specs.RoutingWord.{direction, stepThen, runsOf}
 use Rattle.words.specs.declared.Run.{Run}
-use Rattle.calls.specs.Shape.{repeated}
-use Rattle.judgelaws.specs.Runs.{run, steps, Runs, no-more, one-more, direction-back}
+use Rattle.words.specs.Inverse.{direction-back}
+use Rattle.judgelaws.specs.Runs.{run, steps, Runs, no-more, one-more}
 
 -- ── the directions back ──
 number-apart : (d e : Direction) → eqb (number d) (number e) ≡ true → d ≡ e
@@ -115,15 +103,3 @@ runs-fit b w (d ∷ ds) u v p =
     step-fits d u (r .0) (r .1) (h .0) (h .1)
 
 -- no more runs than edges
-runs-few-then : (d : Direction) (rs : List Run) → length (stepThen d rs) ≤ suc (length rs)
-runs-few-then d [] = omega arith
-runs-few-then d (r ∷ rs) = go (eqb (number d) (number (r .direction)))
-  where
-    go : (t : Bool) → length (cond t (run d (r .length + 1) ∷ rs) (run d 1 ∷ (r ∷ rs))) ≤ suc (suc (length rs))
-    go true = omega arith
-    go false = omega arith
-
-pub runs-few : (ds : List Direction) → length (runsOf ds) ≤ length ds
-unfolding runsOf
-runs-few [] = omega arith
-runs-few (d ∷ ds) = omega (arith, runs-few ds, runs-few-then d (runsOf ds))

@@ -1,10 +1,10 @@
 -- A walk that is not refused goes along paths that use no edge twice; and along such paths no walk is refused.
 -- Assumes nothing.
-use mathlib.Core.Path.{_≡_, refl, ap, sym, _∙_, subst}
-use mathlib.Core.Bool.{Bool, true, false, not}
+use mathlib.Core.Path.{_≡_, refl, ap, sym, subst}
+use mathlib.Core.Bool.{false, not}
 use mathlib.Core.List.{List, [], _∷_, _++_, map, flatten}
 use mathlib.Core.Logic.{inl, inr}
-use Prim.Native.Nat.{ℕ, zero, suc, _+_, _≤_, _<_}
+use Prim.Native.Nat.{ℕ, zero, suc, _+_, _≤_}
 use native.Mathlib.Omega.{arith}
 use lib.Dec.{ltb}
 use lib.ListN.{replicate}
@@ -19,7 +19,8 @@ use Rattle.board.specs.declared.Direction.{Direction}
 use Rattle.net.specs.Terminals.{same}
 use Rattle.net.specs.declared.Pair.{Pair}
 use Rattle.routing.specs.Routing.{Joins, edgesFrom, trails, sameEdge, uses}
-use Rattle.routing.specs.Check.{same-exact, same-edge-exact}
+use Rattle.net.specs.Same.{same-exact}
+use Rattle.routing.specs.Check.{same-edge-exact}
 use Rattle.machine.specs.Refusal.{Refusal, line, firstRefusal}
 use Rattle.calls.specs.Result.{Result, no, yes, andThen, unless}
 use Rattle.calls.specs.Shape.{RunAt, PathAt}

@@ -1,2 +1,3 @@
 pub mod Terminals
 pub mod View
+pub mod Same

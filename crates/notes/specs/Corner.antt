@@ -10,7 +10,7 @@ use Rattle.count.specs.Bits.{one-true, one-false}
 use Rattle.board.specs.Board.{at}
 use Rattle.board.specs.declared.Vertex.{Vertex}
 use Rattle.net.specs.Terminals.{same}
-use Rattle.corner.specs.Apart.{same-true, same-self}
+use Rattle.net.specs.Same.{same-true, same-self}
 use Rattle.corner.specs.Shape.{Shape, present, Less, last, UL, NUL, BUL}
 use Rattle.corner.specs.Trails.{sameLink}
 use Rattle.notes.specs.Notes.{Move, edge, start, finish, Item, Moved}

@@ -2,12 +2,12 @@
 -- Assumes nothing.
 use mathlib.Core.Path.{_≡_, ap, _∙_}
 use mathlib.Core.List.{List, [], _∷_}
-use Prim.Native.Nat.{ℕ, zero, suc, _+_, _*_, _≤_, _<_}
+use Prim.Native.Nat.{ℕ, _+_, _≤_, _<_}
 use native.Mathlib.Omega.{arith}
 use lib.ListN.{length}
 use Rattle.count.specs.Truth.{one}
 use Rattle.count.specs.Sum.{sum, sum-eq}
-use Rattle.count.specs.Sums.{sum-le, sum-add, sum-get}
+use Rattle.count.specs.Sums.{sum-le, sum-add, sum-get, sum-const}
 use Rattle.corner.specs.Shape.{size}
 use Rattle.corner.specs.Trails.{Link, hor, ver, sameLink}
 use Rattle.corner.specs.TrailLaws.{link-self}
@@ -44,11 +44,6 @@ all-get f (ver l c) i =
     let a = sum-get size c (λ c. f (hor l c) + f (ver l c)) (i .1) in
     let b = sum-get size l (λ l. sum size (λ c. f (hor l c) + f (ver l c))) (i .0) in
     omega arith
-
-sum-const : (n k : ℕ) → sum n (λ i. k) ≡ n * k
-unfolding sum
-sum-const zero k = omega arith
-sum-const (suc n) k = omega (arith, sum-const n k)
 
 pub all-ones : all (λ e. 1) ≡ 2048
 unfolding all both size

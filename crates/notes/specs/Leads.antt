@@ -12,7 +12,7 @@ use Rattle.count.specs.Sums.{sum-none}
 use Rattle.board.specs.declared.Vertex.{Vertex}
 use Rattle.net.specs.Terminals.{same}
 use Rattle.corner.specs.Pairs.{back}
-use Rattle.corner.specs.Apart.{same-true, same-self}
+use Rattle.net.specs.Same.{same-true, same-self}
 use Rattle.corner.specs.Shape.{size}
 use Rattle.corner.specs.Trails.{Link, lo, hi, sameLink}
 use Rattle.corner.specs.TrailLaws.{link-true}

@@ -1,14 +1,13 @@
 -- Adding the nets of a list of words, in a second pass over it: DEFINITIONS at the level of the code's values, and the laws of the loop.
 -- Assumes nothing.
-use mathlib.Core.Path.{_≡_, refl, ap, sym, _∙_}
+use mathlib.Core.Path.{_≡_, refl, ap, _∙_}
 use mathlib.Core.Bool.{Bool, true, false, not}
 use mathlib.Core.List.{List, [], _∷_}
-use mathlib.Core.Logic.{_⊎_, inl, inr}
+use mathlib.Core.Logic.{_⊎_}
 use mathlib.Core.Option.{Option, none, some}
 use Prim.Native.Nat.{ℕ, zero, suc, _+_, _<_, _≤_}
 use native.Mathlib.Omega.{arith}
 use lib.ListN.{length, drop, getD, replicate, length-set}
-use lib.Dec.{eqb}
 use borrow.Author.Tests.{eq-eqb, ne-eqb}
 use Rattle.board.specs.Board.{Board}
 use Rattle.board.specs.Degree.{vertex?}
@@ -17,7 +16,7 @@ use Rattle.net.specs.View.{nothing}
 use Rattle.net.specs.declared.Net.{Net}
 use Rattle.net.specs.declared.Place.{Place}
 use Rattle.machine.specs.Refusal.{Refusal, refusal, line, firstRefusal}
-use Rattle.machine.specs.Machine.{Answer, accepted, refused}
+use Rattle.machine.specs.Machine.{accepted, refused}
 use Rattle.machine.specs.Session.{holds, insert}
 use Rattle.machine.specs.Add.{goodNumber, full, addLines, addRefused, isNone, accepts}
 use Rattle.soundness.specs.Accept.{free-of}
@@ -30,7 +29,7 @@ use Rattle.answers.specs.declared.Told.{Told}
 use Rattle.words.specs.BoardWord.{boardWord}
 use Rattle.words.specs.declared.BoardWord.{BoardWord}
 use Rattle.words.specs.declared.BoardWord.the-variants as word
-use Rattle.calls.specs.Result.{Result, no, yes}
+use Rattle.calls.specs.Result.{no, yes}
 use Rattle.calls.specs.Reading.{Listed, addListed}
 use Rattle.reading.specs.Listed.{listThen, listed, listed-more, listed-none}
 use Rattle.reading.specs.declared.Added.{Added}

@@ -3,20 +3,18 @@
 use mathlib.Core.Path.{_≡_, refl, ap, sym, _∙_}
 use mathlib.Core.Bool.{not}
 use mathlib.Core.List.{List, [], _∷_, _++_, append-assoc}
-use mathlib.Core.Option.{Option, none, some}
-use Prim.Native.Nat.{ℕ, zero, suc, _+_, _<_}
+use Prim.Native.Nat.{ℕ, suc, _+_, _<_}
 use native.Mathlib.Numerals.{add-one}
-use native.Mathlib.Omega.{arith}
 use lib.ListN.{length, drop, getD}
 use lib.Seq.{drop-cons, drop-length}
 use Rattle.net.specs.declared.Net.{Net}
-use Rattle.machine.specs.Refusal.{Refusal, refusal, line, firstRefusal}
-use Rattle.machine.specs.Session.{Session}
+use Rattle.machine.specs.Refusal.{line, firstRefusal}
 use Rattle.words.specs.BoardWord.{boardWord}
 use Rattle.words.specs.declared.BoardWord.{BoardWord}
 use Rattle.words.specs.declared.BoardWord.the-variants as word
-use Rattle.calls.specs.Result.{Result, no, yes, andThen, unless}
-use Rattle.calls.specs.Reading.{Listed, Taken, nothingTaken, wordLines, take, takeWords, reverse, boardIn}
+use Rattle.calls.specs.Result.{yes}
+use Rattle.calls.specs.Results.{passed, yes-same}
+use Rattle.calls.specs.Reading.{Listed, Taken, wordLines, take, takeWords, reverse}
 
 -- DEFINITION: a net word's net at index i, before the others
 abbrev pub listThen : ℕ → BoardWord → List Listed → List Listed
@@ -56,20 +54,12 @@ append-none : (xs : List Listed) → xs ++ [] ≡ xs
 append-none [] = refl
 append-none (x ∷ xs) = ap (λ (l : List Listed). x ∷ l) (append-none xs)
 
--- a result that is a value was not refused
-passed : {A : Type 0} (o : Option Refusal) (x : Result A) (a : A) → unless o x ≡ yes a → (o ≡ none) × (x ≡ yes a)
-passed none x a e = (refl, e)
-passed (some r) x a e = absurd (let z : _≡_ {A = ℕ} 0 1 = cc in omega arith)
-
 pub taken-nets : (ws : List ℕ) (i : ℕ) (t u : Taken) → takeWords i t ws ≡ yes u → reverse (u .nets) [] ≡ reverse (t .nets) [] ++ listed i ws
 unfolding takeWords listed
 taken-nets [] i t u e =
     let k = passed (firstRefusal (line (not (t .ended)) 13 i ∷ [])) (yes t) u e in
     let q : t ≡ u = yes-same t u (k .1) in
     rw (← q) (sym (append-none (reverse (t .nets) [])))
-  where
-    yes-same : (a b : Taken) → _≡_ {A = Result Taken} (yes a) (yes b) → a ≡ b
-    yes-same a b h = cc
 taken-nets (w ∷ ws) i t u e =
     let k = passed (firstRefusal (wordLines i t (boardWord w))) (takeWords (suc i) (take i t (boardWord w)) ws) u e in
     taken-nets ws (suc i) (take i t (boardWord w)) u (k .1) ∙ take-nets i t (boardWord w) (listed (suc i) ws)

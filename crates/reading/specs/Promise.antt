@@ -1,11 +1,11 @@
 -- DEFINITIONS: what reading promises; and how its parts make up the definition of reading.
 -- Assumes nothing.
 use mathlib.Core.Path.{_≡_, refl, ap, sym, _∙_}
-use mathlib.Core.Bool.{Bool, true, false, not}
+use mathlib.Core.Bool.{Bool, true, false}
 use mathlib.Core.List.{List, [], _∷_, _++_}
-use mathlib.Core.Logic.{_⊎_, inl, inr}
+use mathlib.Core.Logic.{inl, inr}
 use mathlib.Core.Option.{Option, none, some}
-use Prim.Native.Nat.{ℕ, zero, suc, _-_, _/_, _%_, _<_}
+use Prim.Native.Nat.{ℕ, _-_, _/_, _%_, _<_}
 use native.Mathlib.Omega.{arith}
 use lib.Dec.{eqb, ltb}
 use lib.ListN.{length, replicate, take}
@@ -23,7 +23,7 @@ use Rattle.machine.specs.Sound.{blank}
 use Rattle.places.specs.Places.{netsOf}
 use Rattle.session.specs.Value.{freshOf, blankBoard}
 use Rattle.session.specs.View.{sessionOf}
-use Rattle.session.specs.Promise.{FreshPromise, BlankPromise}
+use Rattle.session.specs.Promise.{FreshPromise}
 use Rattle.session.specs.declared.Session as code
 use Rattle.calls.specs.Result.{Result, no, yes, andThen, unless}
 use Rattle.calls.specs.Reading.{Taken, nothingTaken, takeWords, addListed, reverse, boardIn, readNets, readTaken, readWords, readBytes, badLength, handedBack}
@@ -32,7 +32,7 @@ use Rattle.octets.specs.Words.{words-length, all-words, FilledWith}
 use Rattle.scan.specs.Follows.{Follows, count-is}
 use Rattle.scan.specs.Promise.{takeAll, ScanPromise}
 use Rattle.scan.specs.declared.Scanned.{Scanned}
-use Rattle.reading.specs.Value.{boardValue, placesFor, valueFor, readValue, places-for}
+use Rattle.reading.specs.Value.{boardValue, valueFor, readValue, places-for}
 use Rattle.reading.specs.Listed.{listed, taken-nets}
 use Rattle.reading.specs.Adding.{AllPromise}
 use Rattle.reading.specs.declared.AddedAll.{AddedAll}

@@ -3,7 +3,7 @@
 use mathlib.Core.Path.{_≡_, refl, ap, sym, _∙_}
 use mathlib.Core.List.{List, [], _∷_, _++_, map}
 use mathlib.Core.Option.{Option, none, some}
-use Prim.Native.Nat.{ℕ, zero, suc, _+_, _-_, _<_, _≤_}
+use Prim.Native.Nat.{ℕ, suc, _+_, _-_, _<_}
 use native.Mathlib.Omega.{arith}
 use lib.ListN.{length, getD, replicate}
 use lib.Seq.{ext-getD}
@@ -17,7 +17,7 @@ use Rattle.net.specs.declared.Held.{Held}
 use Rattle.net.specs.declared.Held.the-variants.{Nothing, Ends}
 use Rattle.net.specs.declared.Place.{Place}
 use Rattle.machine.specs.Session.{Session, netOf}
-use Rattle.places.specs.Places.{holding, netsOf, placeAt}
+use Rattle.places.specs.Places.{holding, netsOf}
 use Rattle.places.specs.Nets.{heldAs, net-of}
 use Rattle.session.specs.Value.{freshOf, blankBoard}
 use Rattle.session.specs.declared.Session as code

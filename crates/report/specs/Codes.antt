@@ -1,7 +1,6 @@
 -- What a mark says of a vertex: how many of the nets before turned there, and whether this one did.
 -- Assumes that the nets come in rising number, up to 64.
 use mathlib.Core.Path.{_≡_, refl, ap, sym, _∙_}
-use mathlib.Core.Bool.{Bool, true, false, cond}
 use mathlib.Core.List.{List}
 use Prim.Native.Nat.{ℕ, suc, _+_, _*_, _<_, _≤_}
 use native.Mathlib.Omega.{arith}

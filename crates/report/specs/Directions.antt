@@ -1,13 +1,14 @@
 -- The directions of a path, one run on: how many edges and turns it has, and how often it turns at a vertex.
 -- Assumes nothing.
-use mathlib.Core.Path.{_≡_, refl, ap, sym, _∙_}
-use mathlib.Core.Bool.{Bool, true, false, cond, not, _&&_}
+use mathlib.Core.Path.{_≡_, refl, ap, _∙_}
+use mathlib.Core.Bool.{Bool, true, false, cond, not}
 use mathlib.Core.List.{List, [], _∷_, _++_}
-use Prim.Native.Nat.{ℕ, zero, suc, _+_, _-_, _<_, _≤_}
+use Prim.Native.Nat.{ℕ, zero, suc, _+_, _-_}
 use native.Mathlib.Omega.{arith}
-use lib.Dec.{ltb, eqb}
+use lib.Dec.{eqb}
 use lib.ListN.{length, replicate, length-append, length-replicate}
-use borrow.Author.Tests.{lt-ltb, eq-eqb}
+use borrow.Author.Tests.{lt-ltb}
+use Rattle.convex.specs.Turns.{turn-self}
 use Rattle.board.specs.Board.{at}
 use Rattle.board.specs.Path.{next, number, turn, turns}
 use Rattle.board.specs.declared.Vertex.{Vertex}
@@ -45,10 +46,6 @@ abbrev pub turnsAfter : Last → List Direction → ℕ
 turnsAfter Nothing ds = turns ds
 turnsAfter (Was e) ds = turns (e ∷ ds)
 
-no-turn : (d : Direction) → turn d d ≡ 0
-unfolding turn
-no-turn d = rw (eq-eqb (number d) (number d) refl) refl
-
 turn-is : (e d : Direction) (n : ℕ) → turn e d ≡ turnBy (Was e) (run d (suc n))
 unfolding turn
 turn-is e d n = rw (lt-ltb 0 (suc n) (omega arith)) (go (eqb (number e) (number d)))
@@ -60,7 +57,7 @@ turn-is e d n = rw (lt-ltb 0 (suc n) (omega arith)) (go (eqb (number e) (number 
 straight-turns : (n : ℕ) (d : Direction) (ds : List Direction) → turns (d ∷ (replicate n d ++ ds)) ≡ turns (d ∷ ds)
 unfolding turns
 straight-turns zero d ds = refl
-straight-turns (suc n) d ds = omega (arith, no-turn d, straight-turns n d ds)
+straight-turns (suc n) d ds = omega (arith, turn-self d, straight-turns n d ds)
 
 last-some : (l : Last) (d : Direction) (n : ℕ) → lastAfter l (run d (suc n)) ≡ Was d
 last-some l d n = rw (lt-ltb 0 (suc n) (omega arith)) refl
@@ -126,7 +123,7 @@ straight-from : (v : Vertex) (d : Direction) (n l c : ℕ) (ds : List Direction)
     → turnsFrom v (Was d) (at l c) (replicate n d ++ ds) ≡ turnsFrom v (Was d) (at (lineAfter d l n) (columnAfter d c n)) ds
 straight-from v d zero l c ds = rw (line-none d l, column-none d c) refl
 straight-from v d (suc n) l c ds =
-    let s : cond (same (at l c) v) (turn d d) 0 ≡ 0 = rw (no-turn d) (either-none (same (at l c) v)) in
+    let s : cond (same (at l c) v) (turn d d) 0 ≡ 0 = rw (turn-self d) (either-none (same (at l c) v)) in
     let r = straight-from v d n (lineAfter d l 1) (columnAfter d c 1) ds in
     let q : turnsAt v (at l c) (d ∷ (replicate n d ++ ds)) ≡ turnsFrom v (Was d) (at (lineAfter d l (suc n)) (columnAfter d c (suc n))) ds =
     step-from v (at l c) d (replicate n d ++ ds) ∙ (rw (next-is d l c, ← line-more d l n, ← column-more d c n) r) in

@@ -1,13 +1,12 @@
 -- All paths of a list, one net on: their edges, their turns, and at which vertices how many of them turn.
 -- Assumes nothing.
-use mathlib.Core.Path.{_≡_, refl, ap, sym, _∙_}
-use mathlib.Core.Bool.{Bool, true, false}
-use mathlib.Core.List.{List, [], _∷_, map}
-use Prim.Native.Nat.{ℕ, zero, suc, _+_, _-_, _*_, _/_, _%_, _<_, _≤_}
+use mathlib.Core.Path.{_≡_, refl, ap, _∙_}
+use mathlib.Core.List.{List, [], _∷_}
+use Prim.Native.Nat.{ℕ, suc, _+_, _-_, _*_, _/_, _%_, _<_, _≤_}
 use native.Mathlib.Numerals.{add-one}
 use native.Mathlib.Omega.{arith}
 use lib.Dec.{ltb, eqb}
-use lib.ListN.{length, take, drop, getD, replicate}
+use lib.ListN.{length, take, drop, getD}
 use Rattle.count.specs.Truth.{one}
 use Rattle.board.specs.Path.{turns}
 use Rattle.board.specs.declared.Vertex.{Vertex}
@@ -21,8 +20,8 @@ use Rattle.net.specs.declared.Place.{Place}
 use Rattle.machine.specs.Session.{pairs}
 use Rattle.places.specs.Places.{net, heldNet, netsFrom, netsOf}
 use Rattle.words.specs.RoutingWord.{pathIn}
-use Rattle.calls.specs.Shape.{PathAt, pathsFrom}
-use Rattle.calls.specs.Report.{directions, edgesUsed, turnsMade, turnsAt, turning, knockKnee, knockKnees}
+use Rattle.calls.specs.Shape.{pathsFrom}
+use Rattle.calls.specs.Report.{edgesUsed, turnsMade, turnsAt, turning, knockKnee, knockKnees}
 use Rattle.calls.specs.Report as calls
 use Rattle.calls.specs.Report.{reportOf}
 use Rattle.calls.specs.Judge.{pathsIn}
@@ -31,7 +30,7 @@ use Rattle.walk.specs.Parts.{EndsAt, part-is, paths-out, paths-more}
 use Rattle.report.specs.Traces.{knots}
 use Rattle.report.specs.Knots.{vertexAt, knots-are}
 use Rattle.report.specs.Directions.{dirsOf, dirs-are}
-use Rattle.report.specs.Codes.{Coded, code-skip, code-knot, Says, says-none}
+use Rattle.report.specs.Codes.{code-skip, code-knot, Says}
 use Rattle.report.specs.Tracing.{Measured}
 use Rattle.report.specs.declared.Trace.{Trace}
 use Rattle.report.specs.declared.Sum.{Sum}

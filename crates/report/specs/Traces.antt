@@ -1,6 +1,6 @@
 -- Definitions only: a path traced run by run, and the marks of its turns. Nothing is proved here.
 -- A mark is 0 where no net turned, a net's number where that one alone did, and 128 where two did.
-use mathlib.Core.Bool.{Bool, cond, not, _&&_}
+use mathlib.Core.Bool.{cond, not, _&&_}
 use mathlib.Core.List.{List, [], _∷_}
 use Prim.Native.Nat.{ℕ, _+_, _-_, _*_, _≤_}
 use lib.Dec.{ltb, eqb}

@@ -1,30 +1,31 @@
 -- A path traced run by run: its edges, its turns, and the marks of its turns.
 -- Assumes nothing; what is said of marks is for a net of number 1 to 64.
-use mathlib.Core.Path.{_≡_, refl, ap, sym, _∙_}
+use mathlib.Core.Path.{_≡_, refl, ap, _∙_}
 use mathlib.Core.Bool.{Bool, true, false, cond, not, _&&_}
 use mathlib.Core.List.{List, [], _∷_, _++_}
 use mathlib.Core.Logic.{_⊎_, inl, inr}
-use Prim.Native.Nat.{ℕ, zero, suc, _+_, _-_, _*_, _<_, _≤_}
+use Prim.Native.Nat.{ℕ, suc, _+_, _-_, _*_, _<_, _≤_}
 use native.Mathlib.Numerals.{add-one}
 use native.Mathlib.Omega.{arith}
 use lib.Dec.{ltb, eqb}
 use lib.ListN.{length, drop, getD, set, replicate, length-set, drop-of-length-le}
 use lib.Seq.{drop-cons, getD-set-same, getD-set-other}
-use borrow.Author.Tests.{lt-ltb, le-ltb, ltb-true, ltb-false, eqb-true, eqb-false}
-use Rattle.count.specs.Truth.{bool, clash, one, le-or-lt}
+use borrow.Author.Tests.{lt-ltb, ltb-true}
+use Rattle.count.specs.Truth.{bool, clash, one}
+use Rattle.count.specs.Bits.{digits-apart}
 use Rattle.board.specs.Board.{at}
-use Rattle.board.specs.Path.{number, turn, turns}
+use Rattle.board.specs.Path.{number, turns}
 use Rattle.board.specs.declared.Vertex.{Vertex}
 use Rattle.net.specs.Terminals.{same}
-use Rattle.routing.specs.Check.{same-exact}
+use Rattle.net.specs.Same.{same-exact}
 use Rattle.words.specs.RoutingWord.{runIn}
 use Rattle.words.specs.declared.Run.{Run}
 use Rattle.calls.specs.Report.{turnsAt}
 use Rattle.shape.specs.declared.Last.{Last}
 use Rattle.shape.specs.declared.Last.the-variants.{Nothing, Was}
-use Rattle.report.specs.Traces.{turnBy, lastAfter, traceRun, begin, marked, markAt, markRun}
+use Rattle.report.specs.Traces.{turnBy, traceRun, begin, marked, markAt, markRun}
 use Rattle.report.specs.Directions.{dirsOf, edges-run, turnsAfter, turns-run, turnsFrom, from-run}
-use Rattle.report.specs.Codes.{Coded, Coding, before, code-turn, code-done, Says}
+use Rattle.report.specs.Codes.{Coding, before, code-turn, code-done, Says}
 use Rattle.report.specs.declared.Trace.{Trace}
 
 -- ── the marks, one run on ──
@@ -56,9 +57,6 @@ length-mark-run k t r a = go (eqb (turnBy (t .last) r) 1)
 mark-same : (k l c : ℕ) (a : List ℕ) → length a ≡ 1024 → l < 32 → c < 32 → getD (markAt l c k a) (l * 32 + c) 0 ≡ marked (getD a (l * 32 + c) 0) k
 unfolding markAt
 mark-same k l c a e p q = rw (lt-ltb l 32 p, lt-ltb c 32 q) (getD-set-same a (l * 32 + c) (marked (getD a (l * 32 + c) 0) k) 0 (omega arith))
-
-digits-apart : (l c m d : ℕ) → c < 32 → d < 32 → l * 32 + c ≡ m * 32 + d → (l ≡ m) × (c ≡ d)
-digits-apart l c m d h k e = let p : l ≡ m = omega arith in (p, omega arith)
 
 mark-other : (k l c m d : ℕ) (a : List ℕ) → same (at l c) (at m d) ≡ false → d < 32 → getD (markAt l c k a) (m * 32 + d) 0 ≡ getD a (m * 32 + d) 0
 unfolding markAt

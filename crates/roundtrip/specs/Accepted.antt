@@ -1,14 +1,14 @@
 -- Words that pass the lines 12 to 15 are the words of what was taken from them, and the numbers of its nets rise.
 -- Assumes that the words were accepted.
 use mathlib.Core.Path.{_≡_, refl, ap, sym, _∙_}
-use mathlib.Core.Bool.{Bool, true, false, not, _&&_, _||_}
+use mathlib.Core.Bool.{true, false, not, _&&_, _||_}
 use mathlib.Core.List.{List, [], _∷_, _++_, map}
 use Prim.Native.Nat.{ℕ, suc, _+_, _≤_}
 use native.Mathlib.Omega.{arith}
 use lib.Dec.{eqb}
 use lib.ListN.{length}
 use borrow.Author.Tests.{leb-false, eqb-true, not-false}
-use Rattle.count.specs.Truth.{clash, and-true}
+use Rattle.count.specs.Truth.{clash, and-true, or-false}
 use Rattle.board.specs.declared.Row.{Row}
 use Rattle.net.specs.declared.Net.{Net}
 use Rattle.machine.specs.Refusal.{line, firstRefusal}
@@ -21,13 +21,9 @@ use Rattle.words.specs.declared.Counts.{Counts}
 use Rattle.calls.specs.Result.{yes, unless}
 use Rattle.calls.specs.Reading.{Listed, Taken, isRow, isUnknown, notAbove, some?, misplaced, badRow, badCount, wordLines, take, takeWords, reverse}
 use Rattle.roundtrip.specs.Parts.{netsIn, netsThen, said, Falling}
-use Rattle.roundtrip.specs.Results.{yes-same, passed, line-passed}
+use Rattle.calls.specs.Results.{yes-same, passed, line-passed}
 
 -- ── one word that was accepted ──
-neither : (a b : Bool) → a || b ≡ false → (a ≡ false) × (b ≡ false)
-neither true b e = absurd (clash refl e)
-neither false b e = (refl, e)
-
 -- DEFINITION: what holds where the word at index i says x, and the list from it on was accepted
 record Passes (i : ℕ) (t : Taken) (x : BoardWord) (ws : List ℕ) (u : Taken) : Type 0 where
   known : isUnknown x ≡ false
@@ -47,7 +43,7 @@ passes w ws i t u x q e =
     let l = line-passed (isUnknown x) 12 i (line wrong 13 i ∷ is14) (k .0) in
     let m = line-passed wrong 13 i is14 (l .1) in
     let n = line-passed (badRow t x) 14 i is15 (m .1) in
-    let o = neither (misplaced t x) (t .ended) (neither (eqb i 0 && not (isRow x)) (misplaced t x || t .ended) (m .0) .1) in
+    let o = or-false (misplaced t x) (t .ended) (or-false (eqb i 0 && not (isRow x)) (misplaced t x || t .ended) (m .0) .1) in
     record { known = l .0; placed = o .0; before-end = o .1; counted = line-passed (badCount t x) 15 i [] (n .1) .0; rest = k .1 }
 
 -- after the end word there is nothing

@@ -19,7 +19,7 @@ use Rattle.soundness.specs.Rising.{From}
 use Rattle.calls.specs.Result.{yes}
 use Rattle.calls.specs.Reading.{Listed, placedAt, addListed}
 use Rattle.roundtrip.specs.Parts.{netsIn, Below}
-use Rattle.roundtrip.specs.Results.{yes-same, passed}
+use Rattle.calls.specs.Results.{yes-same, passed}
 
 -- ── a net above all others goes to the end ──
 pub insert-last : (n : Net) (on : List Net) → Below (n .number) on → insert n on ≡ on ++ (n ∷ [])

@@ -21,7 +21,7 @@ use Rattle.calls.specs.Result.{yes}
 use Rattle.calls.specs.Reading.{readWords, readBytes}
 use Rattle.calls.specs.Writing.{boardWords}
 use Rattle.roundtrip.specs.Parts.{RowsFit, NetsFit, Words, Bytes}
-use Rattle.roundtrip.specs.Results.{passed, line-passed}
+use Rattle.calls.specs.Results.{passed, line-passed}
 use Rattle.roundtrip.specs.Fits.{rows-fit, nets-fit, few-nets}
 
 -- ── from words to bytes and back ──

@@ -1,6 +1,5 @@
 pub mod RoundTrip
 pub mod Parts
-pub mod Results
 pub mod Adds
 pub mod Packed
 pub mod Fits

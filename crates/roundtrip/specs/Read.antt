@@ -19,7 +19,7 @@ use Rattle.calls.specs.Result.{yes, andThen}
 use Rattle.calls.specs.Reading.{Taken, nothingTaken, takeWords, addListed, reverse, boardIn, readNets, readTaken, badLength, readWords}
 use Rattle.calls.specs.Writing.{boardWords}
 use Rattle.roundtrip.specs.Parts.{netsIn, netsThen}
-use Rattle.roundtrip.specs.Results.{yes-same, passed, line-passed, then-yes}
+use Rattle.calls.specs.Results.{yes-same, passed, line-passed, then-yes}
 use Rattle.roundtrip.specs.Adds.{listed-addable}
 use Rattle.roundtrip.specs.Accepted.{taken-said, falling-from, then-reverse, length-reverse}
 

@@ -19,7 +19,7 @@ use Rattle.calls.specs.Result.{Result, no, yes}
 use Rattle.calls.specs.Reading.{boardLimit, readWords, readBytes}
 use Rattle.calls.specs.Writing.{boardWords, writeBoard, countOf, bufferAfter}
 use Rattle.roundtrip.specs.Parts.{Bytes, unpiled}
-use Rattle.roundtrip.specs.Results.{yes-same, passed, line-passed}
+use Rattle.calls.specs.Results.{yes-same, passed, line-passed}
 use Rattle.roundtrip.specs.Written.{words-read}
 use Rattle.roundtrip.specs.Read.{read-holds}
 use Rattle.roundtrip.specs.InBytes.{words-back, bytes-even, bytes-back, sound-words, even-read, read-even}

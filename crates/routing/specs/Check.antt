@@ -1,35 +1,26 @@
 -- Tests of paths and routings that are exact: what a program can compute of the definitions in Routing.
 -- Assumes nothing.
-use mathlib.Core.Path.{_≡_, refl, ap, sym, _∙_, subst}
+use mathlib.Core.Path.{_≡_, refl, ap}
 use mathlib.Core.Bool.{Bool, true, false, _&&_}
-use mathlib.Core.List.{List, [], _∷_, _++_, flatten}
-use mathlib.Core.Logic.{_⊎_, inl, inr, _↔_}
-use Prim.Native.Nat.{ℕ, zero, suc, _+_, _≤_, _<_}
+use mathlib.Core.List.{List, [], _∷_, flatten}
+use mathlib.Core.Logic.{inl, inr, _↔_}
+use Prim.Native.Nat.{_≤_}
 use native.Mathlib.Omega.{arith}
 use lib.Dec.{eqb}
 use borrow.Author.Tests.{eqb-true, eq-eqb}
-use Rattle.count.specs.Truth.{bool, clash, one, and-true, and-yes, le-or-lt}
+use Rattle.count.specs.Truth.{bool, clash, one, and-true, and-yes}
 use Rattle.board.specs.Board.{Board, Edge}
-use Rattle.board.specs.Path.{next, along, Path}
+use Rattle.board.specs.Path.{next, Path}
 use Rattle.board.specs.Degree.{edge?}
 use Rattle.board.specs.Tests.{edge-exact}
 use Rattle.board.specs.declared.Vertex.{Vertex}
 use Rattle.board.specs.declared.Direction.{Direction}
 use Rattle.net.specs.Terminals.{same}
+use Rattle.net.specs.Same.{same-exact}
 use Rattle.net.specs.declared.Pair.{Pair}
-use Rattle.routing.specs.Routing.{Joins, edgesFrom, trails, sameEdge, uses, Routing}
+use Rattle.routing.specs.Routing.{Joins, trails, sameEdge, uses, Routing}
 
 -- ── equal vertices and edges ──
-pub same-exact : (u v : Vertex) → (same u v ≡ true) ↔ (u ≡ v)
-same-exact u v = (
-  λ e.
-      let k = and-true (eqb (u .line) (v .line)) (eqb (u .column) (v .column)) e in
-      λ i. record { line = eqb-true (u .line) (v .line) (k .0) i; column = eqb-true (u .column) (v .column) (k .1) i },
-  λ e.
-      and-yes (eqb (u .line) (v .line)) (eqb (u .column) (v .column)) (eq-eqb _ _ (ap (λ (w : Vertex). w .line) e))
-      (eq-eqb _ _ (ap (λ (w : Vertex). w .column) e)),
-)
-
 pub same-edge-exact : (e f : Edge) → (sameEdge e f ≡ true) ↔ (e ≡ f)
 same-edge-exact e f = (
   λ h.
@@ -78,10 +69,6 @@ joins-exact b (p ∷ ps) (ds ∷ dss) = (
 unfoldable pub once? : List Edge → Bool
 once? [] = true
 once? (e ∷ es) = eqb (uses e es) 0 && once? es
-
-one-of : (b : Bool) → one b ≡ 0 → b ≡ false
-one-of true h = absurd (omega arith)
-one-of false h = refl
 
 pub once-exact : (es : List Edge) → (once? es ≡ true) ↔ ((e : Edge) → uses e es ≤ 1)
 unfolding once? uses

@@ -3,9 +3,9 @@
 use mathlib.Core.Path.{_≡_, refl, ap, sym, _∙_}
 use mathlib.Core.Bool.{Bool, true, false, not, cond, _&&_, _||_}
 use mathlib.Core.List.{List, [], _∷_, _++_, append-assoc}
-use mathlib.Core.Logic.{_⊎_, inl, inr}
+use mathlib.Core.Logic.{inl, inr}
 use mathlib.Core.Option.{Option, none, some}
-use Prim.Native.Nat.{ℕ, zero, suc, _+_, _-_, _<_}
+use Prim.Native.Nat.{ℕ, suc, _+_, _-_, _<_}
 use native.Mathlib.Omega.{arith}
 use lib.Dec.{leb, ltb, eqb}
 use lib.ListN.{length, set, replicate, length-append}
@@ -17,11 +17,10 @@ use Rattle.board.specs.View.{boardOf, height-of, board-more}
 use Rattle.board.specs.declared.Row.{Row}
 use Rattle.net.specs.declared.Net.{Net}
 use Rattle.machine.specs.Refusal.{Refusal, refusal, firstRefusal}
-use Rattle.words.specs.declared.Counts.{Counts}
 use Rattle.words.specs.declared.BoardWord.{BoardWord}
 use Rattle.words.specs.declared.BoardWord.the-variants as word
 use Rattle.calls.specs.Reading.{Listed, Taken, nothingTaken, some?, notAbove, wordLines, take, boardIn}
-use Rattle.scan.specs.Scan.{rowRefused, netRefused, endRefused, wordRefused, withRow, withNet, withEnd, withWord, start}
+use Rattle.scan.specs.Scan.{rowRefused, netRefused, endRefused, wordRefused, withRow, withNet, withWord, start}
 use Rattle.scan.specs.declared.Scan.{Scan}
 
 -- DEFINITION: the last net's number

@@ -1,10 +1,9 @@
 -- The reading order from some line, or from some column of a line, on: what a search through it has still to see.
 -- Assumes nothing.
-use mathlib.Core.Path.{_≡_, refl, ap, sym, _∙_}
+use mathlib.Core.Path.{_≡_, refl}
 use mathlib.Core.List.{List, [], _∷_, _++_, flatMap, map}
 use Prim.Native.Nat.{ℕ, _+_, _-_, _<_}
-use native.Mathlib.Omega.{arith}
-use Rattle.count.specs.Lists.{rising, upTo, rising-more, rising-none}
+use Rattle.count.specs.Lists.{rising, upTo, rising-more}
 use Rattle.board.specs.Board.{at}
 use Rattle.board.specs.declared.Vertex.{Vertex}
 use Rattle.cut.specs.Odd.{readingOrder}

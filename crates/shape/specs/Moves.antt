@@ -12,9 +12,8 @@ use lib.Dec.{ltb, eqb}
 use lib.ListN.{length, drop, getD, drop-of-length-le}
 use lib.Seq.{drop-cons, drop-length}
 use borrow.Author.Tests.{lt-ltb, ltb-true, ne-eqb}
-use Rattle.count.specs.Truth.{bool, and-true}
+use Rattle.count.specs.Truth.{bool}
 use Rattle.net.specs.View.{nothing}
-use Rattle.net.specs.declared.Pair.{Pair}
 use Rattle.net.specs.declared.Net.{Net}
 use Rattle.net.specs.declared.Held.{Held}
 use Rattle.net.specs.declared.Held.the-variants.{Nothing, Ends}
@@ -26,7 +25,7 @@ use Rattle.words.specs.RoutingWord.{routingWord}
 use Rattle.words.specs.declared.RoutingWord.{RoutingWord}
 use Rattle.words.specs.declared.RoutingWord.the-variants as word
 use Rattle.calls.specs.Shape as shape
-use Rattle.calls.specs.Shape.{between, inPath, over, wrong, on, runsDue, repeated, moveBetween, moveInPath, atEnd, onward, wordsRefused}
+use Rattle.calls.specs.Shape.{between, over, wrong, on, runsDue, repeated, moveBetween, moveInPath, atEnd, onward, wordsRefused}
 use Rattle.shape.specs.States.{
   lastOf,
   dueOf,

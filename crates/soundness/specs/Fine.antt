@@ -17,7 +17,8 @@ use Rattle.net.specs.Terminals.{same, ends, terminals}
 use Rattle.net.specs.declared.Net.{Net}
 use Rattle.machine.specs.Session.{pairs, insert, remove, netOf}
 use Rattle.soundness.specs.Accept.{Free}
-use Rattle.soundness.specs.Insert.{same-itself, terminals-insert, terminals-remove, holds-removed, netOf-number}
+use Rattle.net.specs.Same.{same-self}
+use Rattle.soundness.specs.Insert.{terminals-insert, terminals-remove, holds-removed, netOf-number}
 use Rattle.soundness.specs.Rising.{From, from-insert, from-remove, insert-remove}
 
 -- DEFINITION: a net by itself is one that may stand on the board
@@ -55,10 +56,10 @@ same-vertex u v e =
     vertex l c = record { line = l; column = c }
 
 pub first-there : (n : Net) → 1 ≤ ends (n .ends) (n .ends .first)
-first-there n = rw (same-itself (n .ends .first)) (omega arith)
+first-there n = rw (same-self (n .ends .first)) (omega arith)
 
 pub second-there : (n : Net) → 1 ≤ ends (n .ends) (n .ends .second)
-second-there n = rw (same-itself (n .ends .second)) (omega arith)
+second-there n = rw (same-self (n .ends .second)) (omega arith)
 
 -- ── a net goes in ──
 pub room-insert : (b : Board) (ns : List Net) (n : Net) → Room b ns → Free b ns n → Room b (insert n ns)
@@ -67,7 +68,7 @@ room-insert b ns n r f v = go (same (n .ends .first) v) (same (n .ends .second) 
     go : (p q : Bool) → same (n .ends .first) v ≡ p → same (n .ends .second) v ≡ q → terminals (pairs (insert n ns)) v ≤ pins b v
     go true true d e =
         let x : n .ends .first ≡ n .ends .second = same-vertex (n .ends .first) v d ∙ sym (same-vertex (n .ends .second) v e) in
-        absurd (clash (rw x (same-itself (n .ends .second))) (f .apart))
+        absurd (clash (rw x (same-self (n .ends .second))) (f .apart))
     go true false d e =
         let w = rw (same-vertex (n .ends .first) v d) at (f .room-first) in
         let t : terminals (pairs (insert n ns)) v ≡ 1 + terminals (pairs ns) v = rw (d, e) at (terminals-insert n ns v) in

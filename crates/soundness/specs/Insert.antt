@@ -8,9 +8,10 @@ use Prim.Native.Nat.{ℕ, _+_, _≤_}
 use native.Mathlib.Omega.{arith}
 use lib.Dec.{eqb, ltb}
 use borrow.Author.Tests.{eq-eqb, eqb-true}
-use Rattle.count.specs.Truth.{clash, or-left, or-right}
+use Rattle.count.specs.Truth.{or-left, or-right, or-false}
 use Rattle.board.specs.declared.Vertex.{Vertex}
-use Rattle.net.specs.Terminals.{same, ends, terminals}
+use Rattle.net.specs.Terminals.{ends, terminals}
+use Rattle.net.specs.Same.{same-self}
 use Rattle.net.specs.declared.Net.{Net}
 use Rattle.machine.specs.Session.{pairs, holds, insert, remove, netOf, sameNet, recorded}
 
@@ -61,11 +62,8 @@ netOf-holds k [] n e = let z : _≡_ {A = ℕ} 0 1 = cc in absurd (omega arith)
 netOf-holds k (m ∷ ms) n e = netOf-held (eqb (m .number) k) m n (netOf k ms) (holds k ms) (netOf-holds k ms n) e
 
 -- ── recorded ──
-pub same-itself : (v : Vertex) → same v v ≡ true
-same-itself v = rw (eq-eqb (v .line) (v .line) refl, eq-eqb (v .column) (v .column) refl) refl
-
 net-itself : (n : Net) → sameNet n n ≡ true
-net-itself n = rw (eq-eqb (n .number) (n .number) refl, same-itself (n .ends .first), same-itself (n .ends .second)) refl
+net-itself n = rw (eq-eqb (n .number) (n .number) refl, same-self (n .ends .first), same-self (n .ends .second)) refl
 
 recorded-cond : (t : Bool) (n m : Net) (ms ns : List Net) → recorded n ns ≡ true → recorded n (cond t (n ∷ (m ∷ ms)) (m ∷ ns)) ≡ true
 unfolding recorded
@@ -103,10 +101,6 @@ terminals-remove k (m ∷ ms) v = fewer-cond (eqb (m .number) k) m ms (remove k 
 -- ── what was put in and taken out again ──
 absent-cond : (t : Bool) (m : Net) (ms ns : List Net) → t ≡ false → ns ≡ ms → cond t ns (m ∷ ns) ≡ m ∷ ms
 absent-cond t m ms ns e f = rw (e, f) refl
-
-or-false : (a b : Bool) → a || b ≡ false → (a ≡ false) × (b ≡ false)
-or-false true b e = absurd (clash refl e)
-or-false false b e = (refl, e)
 
 pub remove-absent : (k : ℕ) (ns : List Net) → holds k ns ≡ false → remove k ns ≡ ns
 unfolding remove holds

@@ -4,27 +4,16 @@ use mathlib.Core.Path.{_≡_, refl, ap, sym, _∙_}
 use mathlib.Core.Bool.{Bool, true, false, cond}
 use mathlib.Core.List.{List, [], _∷_}
 use mathlib.Core.Logic.{_⊎_, inl, inr}
-use Prim.Native.Nat.{ℕ, suc, _+_, _-_, _*_, _%_, _<_, _≤_}
+use Prim.Native.Nat.{ℕ, suc, _+_, _-_, _*_, _%_, _<_}
 use native.Mathlib.Omega.{arith}
-use lib.Dec.{eqb, ltb}
-use lib.ListN.{length, getD, set, replicate, length-set, length-replicate, getD-replicate}
+use lib.Dec.{eqb}
+use lib.ListN.{set, replicate, length-set, length-replicate, getD-replicate}
 use lib.Seq.{getD-set-same, getD-set-other}
 use borrow.Author.Tests.{lt-ltb, eq-eqb, ne-eqb}
 use Rattle.count.specs.Truth.{bool, clash, one}
-use Rattle.board.specs.Board.{
-  Board,
-  Within,
-  Cell,
-  Edge,
-  IsEdge,
-  at,
-  Side,
-  top-side,
-  bottom-side,
-  left-side,
-  right-side,
-}
-use Rattle.board.specs.Path.{next, along}
+use Rattle.board.specs.Board.{Board, Within, Edge, IsEdge, at, Side, top-side, bottom-side, left-side, right-side}
+use Rattle.board.specs.Path.{along}
+use Rattle.board.specs.EdgesAt.{edge-eq}
 use Rattle.board.specs.declared.Vertex.{Vertex}
 use Rattle.board.specs.declared.Direction.{Direction}
 use Rattle.board.specs.declared.Direction.the-variants.{Up, Right, Down, Left}
@@ -79,9 +68,6 @@ slot-along b w Left v h = elim (edge-lies b w (along Left v) h .to) [
 ]
 
 -- ── no two edges have one slot ──
-edge-eq : (e f : Edge) → e .from .line ≡ f .from .line → e .from .column ≡ f .from .column → e .to ≡ f .to → e ≡ f
-edge-eq e f p q r = λ i. record { from = record { line = p i; column = q i }; to = r i }
-
 even-or-odd : (x y : ℕ) → x * 2 ≡ y * 2 + 1 → ⊥
 even-or-odd x y e = omega arith
 

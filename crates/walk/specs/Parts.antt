@@ -1,15 +1,15 @@
 -- A path's runs as a part of the list of words.
 -- Assumes nothing.
-use mathlib.Core.Path.{_≡_, refl, ap, sym, _∙_}
+use mathlib.Core.Path.{_≡_, refl, sym, _∙_}
 use mathlib.Core.List.{List, [], _∷_}
 use mathlib.Core.Logic.{_⊎_, inl, inr}
-use Prim.Native.Nat.{ℕ, zero, suc, _+_, _-_, _<_, _≤_}
+use Prim.Native.Nat.{ℕ, suc, _+_, _-_, _<_, _≤_}
 use native.Mathlib.Omega.{arith}
 use lib.ListN.{length, take, drop, getD, length-drop, drop-of-length-le}
 use lib.Seq.{take-all, drop-cons, drop-drop}
 use Rattle.net.specs.declared.Net.{Net}
 use Rattle.words.specs.RoutingWord.{pathIn}
-use Rattle.calls.specs.Shape.{PathAt, runsFrom, pathsFrom}
+use Rattle.calls.specs.Shape.{runsFrom, pathsFrom}
 
 -- DEFINITION: `to` is the end of `runs` words from `from` on, or of the list if that comes first
 abbrev pub EndsAt : (from runs len to : ℕ) → Type 0

@@ -1,10 +1,9 @@
 -- Runs, paths and all paths, one further: where the code's calls lead, the walk of document 01 leads too.
 -- Assumes nothing.
-use mathlib.Core.Path.{_≡_, refl, ap, sym, _∙_}
-use mathlib.Core.Bool.{Bool, true, false, not}
+use mathlib.Core.Path.{_≡_, refl, ap, _∙_}
+use mathlib.Core.Bool.{true, false}
 use mathlib.Core.List.{List, [], _∷_}
-use mathlib.Core.Logic.{_⊎_, inl, inr}
-use Prim.Native.Nat.{ℕ, zero, suc, _+_, _-_, _<_, _≤_}
+use Prim.Native.Nat.{ℕ, suc, _+_, _-_, _<_, _≤_}
 use native.Mathlib.Numerals.{add-one}
 use native.Mathlib.Omega.{arith}
 use lib.ListN.{length, take, drop, getD, drop-of-length-le}
@@ -15,22 +14,21 @@ use Rattle.net.specs.Terminals.{same}
 use Rattle.net.specs.View.{nothing}
 use Rattle.net.specs.declared.Net.{Net}
 use Rattle.net.specs.declared.Pair.{Pair}
-use Rattle.net.specs.declared.Held.{Held}
 use Rattle.net.specs.declared.Held.the-variants.{Nothing, Ends}
 use Rattle.net.specs.declared.Place.{Place}
 use Rattle.machine.specs.Refusal.{refusal}
-use Rattle.places.specs.Places.{net, heldNet, netsFrom, netsOf}
+use Rattle.places.specs.Places.{net, netsFrom, netsOf}
 use Rattle.words.specs.RoutingWord.{pathIn, runIn}
 use Rattle.words.specs.declared.Run.{Run}
 use Rattle.calls.specs.Result.{Result, no, yes, andThen}
 use Rattle.calls.specs.Shape.{runsFrom, pathsFrom}
 use Rattle.calls.specs.Walk.{Walker, walkSteps, walkRuns, walkPath, walkPaths}
-use Rattle.shape.specs.Refused.{refusalOf}
 use Rattle.shape.specs.declared.Refusal.{Refusal}
 use Rattle.shape.specs.declared.Checked.{Checked}
 use Rattle.shape.specs.declared.Checked.the-variants as checked
+use Rattle.shape.specs.Moves.{nets-more}
 use Rattle.walk.specs.Slots.{Marks}
-use Rattle.walk.specs.Walks.{walker, RunEnd, WalksRun, PathEnd, WalksPath, PlaceEnd, WalksPlace, WalksPaths}
+use Rattle.walk.specs.Walks.{walker, WalksRun, WalksPath, WalksPlace, WalksPaths}
 use Rattle.walk.specs.Parts.{EndsAt, part-is, paths-out, paths-more}
 use Rattle.walk.specs.declared.Walked.{Walked}
 use Rattle.walk.specs.declared.Walked.the-variants as walked
@@ -140,11 +138,6 @@ pub record Paths (b : Board) (nets : List Place) (ws : List ℕ) (a₀ : List �
 pub paths-start : {b : Board} {nets : List Place} {ws : List ℕ} {a : List ℕ} → Paths b nets ws a 0 0 a
 unfolding netsOf
 paths-start = record { leads = λ used m. (used, m, refl) }
-
-nets-more : (nets : List Place) (i : ℕ) → i < length nets
-    → netsFrom (suc i) (drop i nets) ≡ heldNet (suc i) (getD nets i nothing .held) (netsFrom (suc (suc i)) (drop (suc i) nets))
-unfolding netsFrom
-nets-more nets i h = rw (drop-cons nets i nothing h) refl
 
 module _ {b : Board} {nets : List Place} {ws : List ℕ} {a₀ : List ℕ} {i n : ℕ} {a : List ℕ} where
   pub paths-on : Paths b nets ws a₀ i n a → i < length nets → {r : Onward} {a' : List ℕ} → WalksPlace b (getD nets i nothing .held) ws n a a' r

@@ -1,9 +1,9 @@
 -- One step of a run: where the code's tests and marks lead, the walk of document 01 leads too.
 -- Assumes that the board is within the limits, where an edge is marked.
 use mathlib.Core.Path.{_≡_, refl, ap, sym, _∙_}
-use mathlib.Core.Bool.{Bool, true, false, not}
+use mathlib.Core.Bool.{true, false}
 use mathlib.Core.List.{List, [], _∷_}
-use Prim.Native.Nat.{ℕ, zero, suc, _+_, _-_, _<_, _≤_}
+use Prim.Native.Nat.{ℕ, suc, _-_, _<_, _≤_}
 use native.Mathlib.Omega.{arith}
 use lib.Dec.{ltb}
 use lib.ListN.{length, getD, set}
@@ -17,9 +17,9 @@ use Rattle.board.specs.declared.Direction.{Direction}
 use Rattle.board.specs.declared.Direction.the-variants.{Up, Right, Down, Left}
 use Rattle.routing.specs.Routing.{uses}
 use Rattle.machine.specs.Refusal.{refusal}
-use Rattle.calls.specs.Result.{Result, no, yes}
-use Rattle.calls.specs.Walk.{Walker, walkSteps}
-use Rattle.walk.specs.Slots.{slot, slotAt, Marks}
+use Rattle.calls.specs.Result.{no, yes}
+use Rattle.calls.specs.Walk.{walkSteps}
+use Rattle.walk.specs.Slots.{slotAt, Marks}
 use Rattle.walk.specs.Marking.{Lies, edge-lies, slot-along, marks-more}
 use Rattle.walk.specs.Walks.{walker, WalksRun}
 use Rattle.walk.specs.declared.Walked.the-variants as walked

@@ -3,11 +3,10 @@
 -- that the array then marks.
 use mathlib.Core.Path.{_≡_}
 use mathlib.Core.List.{List}
-use Prim.Native.Nat.{ℕ, suc, _<_}
+use Prim.Native.Nat.{ℕ, suc}
 use lib.ListN.{drop}
 use Rattle.board.specs.Board.{Board, Edge}
 use Rattle.board.specs.declared.Vertex.{Vertex}
-use Rattle.board.specs.declared.Direction.{Direction}
 use Rattle.net.specs.declared.Net.{Net}
 use Rattle.net.specs.declared.Pair.{Pair}
 use Rattle.net.specs.declared.Held.{Held}
@@ -16,7 +15,7 @@ use Rattle.places.specs.Places.{net, heldNet}
 use Rattle.words.specs.declared.Run.{Run}
 use Rattle.calls.specs.Result.{Result, no, yes}
 use Rattle.calls.specs.Shape.{runsFrom, pathsFrom}
-use Rattle.calls.specs.Walk.{Walker, walkSteps, walkRuns, walkPath, walkPaths}
+use Rattle.calls.specs.Walk.{Walker, walkSteps, walkPath, walkPaths}
 use Rattle.shape.specs.Refused.{refusalOf}
 use Rattle.shape.specs.declared.Checked.{Checked}
 use Rattle.shape.specs.declared.Checked.the-variants as checked

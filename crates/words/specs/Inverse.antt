@@ -1,15 +1,13 @@
 -- Packing and unpacking are inverse to each other, for each kind of word: a word that says something is the packed word of what it says,
 -- and the packed word of fields that fit says just them.
 -- Assumes nothing.
-use mathlib.Core.Path.{_≡_, refl, ap, sym, _∙_}
-use mathlib.Core.Bool.{Bool, true, false, cond}
-use mathlib.Core.Logic.{_⊎_, inl, inr}
-use Prim.Native.Nat.{ℕ, _+_, _<_}
+use mathlib.Core.Path.{_≡_, refl, sym, _∙_}
+use mathlib.Core.Logic.{inl, inr}
+use Prim.Native.Nat.{ℕ, _<_}
 use native.Mathlib.Omega.{arith}
 use lib.Dec.{eqb}
 use borrow.Author.Tests.{eq-eqb, ne-eqb, eqb-true}
 use Rattle.count.specs.Truth.{bool}
-use Rattle.board.specs.Board.{at}
 use Rattle.board.specs.Path.{number}
 use Rattle.board.specs.declared.Direction.{Direction}
 use Rattle.board.specs.declared.Direction.the-variants.{Up, Right, Down, Left}
@@ -77,13 +75,13 @@ end-back c h k =
     let q : bits 0 8 w ≡ c .nets = omega arith in
     rw (ne-eqb (kind w) 1 (λ e. omega arith), ne-eqb (kind w) 2 (λ e. omega arith), eq-eqb (kind w) 15 t, p, q, eq-eqb w w refl) refl
 
-direction-back : (d : Direction) → direction (number d) ≡ d
+pub direction-back : (d : Direction) → direction (number d) ≡ d
 direction-back Up = refl
 direction-back Right = refl
 direction-back Down = refl
 direction-back Left = refl
 
-number-small : (d : Direction) → number d < 4
+pub number-small : (d : Direction) → number d < 4
 number-small Up = omega arith
 number-small Right = omega arith
 number-small Down = omega arith

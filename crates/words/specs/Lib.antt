@@ -3,3 +3,4 @@ pub mod BoardWord
 pub mod RoutingWord
 pub mod Bytes
 pub mod Inverse
+pub mod RunLaws

@@ -1,18 +1,16 @@
 -- The words of a path, run by run: what the buffer holds after so many runs, and once the path word stands in front of them.
 -- Assumes nothing.
 use mathlib.Core.Path.{_≡_, refl, ap, sym, _∙_}
-use mathlib.Core.Bool.{Bool, true, false, cond}
 use mathlib.Core.List.{List, [], _∷_, _++_, map, append-assoc, append-nil}
-use Prim.Native.Nat.{ℕ, suc, _+_, _≤_}
+use Prim.Native.Nat.{ℕ, _+_, _≤_}
 use native.Mathlib.Omega.{arith}
 use native.Mathlib.Numerals.{add-one}
-use lib.Dec.{eqb}
 use lib.ListN.{getD, set, take, drop, length, length-append, length-drop, length-set, length-map, take-append-drop, drop-of-length-le}
 use lib.Seq.{take-all, length-take-le}
 use Rattle.board.specs.Path.{number}
-use Rattle.board.specs.declared.Direction.{Direction}
 use Rattle.net.specs.declared.Net.{Net}
-use Rattle.words.specs.RoutingWord.{direction, run, stepThen, runsOf, runWord, pathWord, pathWords}
+use Rattle.words.specs.RoutingWord.{direction, run, runsOf, runWord, pathWord, pathWords}
+use Rattle.words.specs.RunLaws.{runs-few}
 use Rattle.words.specs.declared.Run.{Run}
 use Rattle.writer.specs.Written.{directions, RunAt, Written}
 use Rattle.writer.specs.Blocks.{take-more, drop-more, block-inside, put-next}
@@ -109,20 +107,6 @@ partly-all {bytes} {before} {out} {n} {from} {w} net p h e =
           rw (p .text room, all, append-assoc (take 1 before), set-first before (map runWord (allRuns bytes) ++ drop (n + 1) before) w front, e, size, count) refl;
     }
 
--- a path has at most as many runs as steps
-few-runs : (ds : List Direction) → length (runsOf ds) ≤ length ds
-unfolding runsOf
-few-runs [] = omega arith
-few-runs (d ∷ ds) = omega (arith, one-more d (runsOf ds), few-runs ds)
-  where
-    one-more : (d : Direction) (rs : List Run) → length (stepThen d rs) ≤ suc (length rs)
-    one-more d [] = omega arith
-    one-more d (r ∷ rs) = more (eqb (number d) (number (r .direction)))
-      where
-        more : (b : Bool) → length (cond b (run d (r .length + 1) ∷ rs) (run d 1 ∷ (r ∷ rs))) ≤ suc (suc (length rs))
-        more true = omega arith
-        more false = omega arith
-
 pub few-words : (net : Net) (bytes : List ℕ) → length (pathWords net (directions bytes)) ≤ length bytes + 1
 unfolding pathWords
-few-words net bytes = omega (arith, few-runs (directions bytes), length-map (allRuns bytes) runWord, length-map bytes direction)
+few-words net bytes = omega (arith, runs-few (directions bytes), length-map (allRuns bytes) runWord, length-map bytes direction)

@@ -1,23 +1,21 @@
 -- DEFINITIONS: what writing a board promises; and how the words of rows, nets and end make up the definition's.
 -- Assumes nothing.
 use mathlib.Core.Path.{_≡_, refl, ap, sym, _∙_}
-use mathlib.Core.Bool.{Bool, true, false, not}
+use mathlib.Core.Bool.{true, false}
 use mathlib.Core.List.{List, [], _∷_, _++_, map, append-assoc}
 use Prim.Native.Nat.{ℕ, _+_, _-_, _%_, _≤_, _<_}
 use native.Mathlib.Omega.{arith}
-use lib.Dec.{ltb}
 use lib.ListN.{length, set, length-append, length-map}
 use borrow.Author.Tests.{lt-ltb, le-ltb}
-use Rattle.board.specs.Board.{height}
-use Rattle.board.specs.View.{boardOf, height-of}
-use Rattle.machine.specs.Refusal.{Refusal, refusal, line, firstRefusal}
+use Rattle.board.specs.View.{height-of}
+use Rattle.machine.specs.Refusal.{refusal}
 use Rattle.machine.specs.Session.{Session}
 use Rattle.machine.specs.Sound.{sound?}
 use Rattle.places.specs.Places.{netsOf}
 use Rattle.session.specs.View.{sessionOf}
 use Rattle.session.specs.declared.Session as code
-use Rattle.words.specs.BoardWord.{rowWord, netWord, endWord}
-use Rattle.calls.specs.Result.{Result, no, yes, unless}
+use Rattle.words.specs.BoardWord.{netWord, endWord}
+use Rattle.calls.specs.Result.{Result, no, yes}
 use Rattle.calls.specs.Writing.{boardWords, writeBoard, countOf, bufferAfter}
 use Rattle.writing.specs.Buffer.{startWith, Continues, store-next, stored-length}
 use Rattle.writing.specs.Words.{rowWords, row-words-length, row-words-all, netWords, net-words-all, net-words-le}

@@ -6,7 +6,7 @@ use Rattle.cut.specs.Laws.{with-held, held-crosses-le, crossing-tally}
 use Rattle.cut.specs.Cut.{crosses, crossing}
 use Rattle.net.specs.View.{pairsOf, nothing, tally-more, tally-none}
 use Rattle.count.specs.Lists.{tally}
-use Rattle.count.specs.Truth.{one, one-le}
+use Rattle.count.specs.Truth.{one}
 use lib.ListN.{length, drop, getD}
 use mathlib.Core.Path.{_≡_, refl, ap, _∙_}
 use Prim.Native.Nat.{_+_, _-_, _≤_}

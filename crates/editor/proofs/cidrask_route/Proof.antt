@@ -1,7 +1,5 @@
 -- `cidrask_route` hands the numbers on.
 use Rattle.editor.specs.Laws.{two-numbers}
-use native.Mathlib.Omega.{arith}
-use mathlib.Core.Path.{ap}
 use borrow.Author.Needs.{needs}
 use Rattle.editor.proofs.cidrask_route.Statement.{statement}
 use Rattle.editor.proofs.cidrask_route.Tie as tie

@@ -1,5 +1,4 @@
 -- `cut_told` tells an overfull cut as the definition does.
-use native.Mathlib.Omega.{arith}
 use borrow.Author.Needs.{needs}
 use Rattle.editor.proofs.cut_told.Statement.{statement}
 use Rattle.editor.proofs.cut_told.Tie as tie

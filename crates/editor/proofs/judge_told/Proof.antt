@@ -1,5 +1,4 @@
 -- `judge_told` tells a judgement as the definition does.
-use native.Mathlib.Omega.{arith}
 use borrow.Author.Needs.{needs}
 use Rattle.editor.proofs.judge_told.Statement.{statement}
 use Rattle.editor.proofs.judge_told.Tie as tie

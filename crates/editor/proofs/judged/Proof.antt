@@ -1,5 +1,4 @@
 -- `judged` reads the board, then judges the list.
-use native.Mathlib.Omega.{arith}
 use Rattle.editor.specs.Laws.{judged-unread, judged-read}
 use borrow.Author.Needs.{needs}
 use Rattle.editor.proofs.judged.Statement.{statement}

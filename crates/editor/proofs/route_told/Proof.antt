@@ -1,5 +1,4 @@
 -- `route_told` tells an answer of routing as the definition does.
-use native.Mathlib.Omega.{arith}
 use borrow.Author.Needs.{needs}
 use Rattle.editor.proofs.route_told.Statement.{statement}
 use Rattle.editor.proofs.route_told.Tie as tie

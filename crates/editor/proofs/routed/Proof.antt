@@ -1,5 +1,4 @@
 -- `routed` reads the board, then routes it.
-use native.Mathlib.Omega.{arith}
 use Rattle.editor.specs.Laws.{routed-unread, routed-read}
 use borrow.Author.Needs.{needs}
 use Rattle.editor.proofs.routed.Statement.{statement}

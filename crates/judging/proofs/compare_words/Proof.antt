@@ -2,7 +2,7 @@
 use Rattle.judging.specs.Calls.{compare-unsound, compare-sound}
 use Rattle.session.specs.View.{sessionOf}
 use borrow.Author.Tests.{not-true, not-false}
-use Rattle.judge.specs.Verdicts.{verdictOf, comparisonOf}
+use Rattle.judge.specs.Verdicts.{comparisonOf}
 use mathlib.Core.Path.{ap, sym, _∙_}
 use borrow.Author.Needs.{needs}
 use Rattle.judging.proofs.compare_words.Statement.{statement}

@@ -2,7 +2,7 @@
 use Rattle.judging.specs.Calls.{judge-unsound, judge-sound}
 use Rattle.session.specs.View.{sessionOf}
 use borrow.Author.Tests.{not-true, not-false}
-use Rattle.judge.specs.Verdicts.{verdictOf, comparisonOf}
+use Rattle.judge.specs.Verdicts.{verdictOf}
 use mathlib.Core.Path.{ap, sym, _∙_}
 use borrow.Author.Needs.{needs}
 use Rattle.judging.proofs.judge_words.Statement.{statement}

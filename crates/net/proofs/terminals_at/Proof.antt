@@ -3,7 +3,7 @@ use Rattle.net.specs.View.{pairsOf, tally-more, tally-none, terminals-ta
 use Rattle.net.specs.Terminals.{ends, terminals}
 use Rattle.count.specs.Lists.{tally}
 use lib.ListN.{length, drop}
-use mathlib.Core.Path.{_≡_, refl}
+use mathlib.Core.Path.{_≡_}
 use Prim.Native.Nat.{_+_, _-_, _*_, _≤_}
 use native.Mathlib.Omega.{arith}
 use Rattle.net.proofs.terminals_at.Statement.{statement}

@@ -3,7 +3,7 @@ use borrow.Author.Needs.{needs}
 use native.Mathlib.Omega.{arith}
 use mathlib.Core.Path.{_≡_}
 use Prim.Native.Nat.{_+_, _-_, _≤_}
-use lib.ListN.{length, drop}
+use lib.ListN.{drop}
 use Rattle.report.specs.Traces.{knots}
 use Rattle.report.specs.Knots.{knots-more, knots-none}
 use Rattle.report.proofs.count_knots.Statement.{statement}

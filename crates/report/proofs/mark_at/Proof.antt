@@ -1,6 +1,5 @@
 -- `mark_at` marks a vertex within lines and columns 0 to 31, and no other.
 use mathlib.Core.Path.{refl}
-use native.Mathlib.Omega.{arith}
 use borrow.Author.Tests.{lt-ltb, le-ltb}
 use Rattle.report.specs.Traces.{markAt}
 use borrow.Author.Needs.{needs}

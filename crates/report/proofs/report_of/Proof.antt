@@ -1,7 +1,6 @@
 -- `report_of` gives the report of document 01. The invariant: the first i places are measured.
 use borrow.Author.Needs.{needs}
 use native.Mathlib.Omega.{arith}
-use lib.ListN.{replicate}
 use Prim.Native.Nat.{_-_, _*_, _≤_}
 use Rattle.report.specs.Codes.{says-none}
 use Rattle.report.specs.Paths.{Measuring, measuring-start, measuring-on, measuring-done}

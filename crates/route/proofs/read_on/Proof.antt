@@ -1,6 +1,5 @@
 -- Reading on ends: each turn takes one of the million.
 use borrow.Author.Needs.{needs}
-use native.Mathlib.Omega.{arith}
 use mathlib.Core.Path.{_≡_}
 use lib.ListN.{length}
 use Rattle.route.proofs.read_on.Statement.{statement}

@@ -7,9 +7,9 @@ use Rattle.cut.specs.Cut.{overfull?}
 use Rattle.net.specs.View.{pairsOf}
 use Rattle.board.specs.View.{boardOf, height-of}
 use Rattle.count.specs.Lists.{rising, rising-more, rising-none, first, first-yes, first-no}
-use mathlib.Core.List.{List, map, head?}
+use mathlib.Core.List.{map, head?}
 use mathlib.Core.Path.{_≡_, refl, ap, sym, _∙_}
-use Prim.Native.Nat.{ℕ, _-_, _≤_}
+use Prim.Native.Nat.{_-_, _≤_}
 use Rattle.search.proofs.overfull_row.Statement.{statement}
 use Rattle.search.proofs.overfull_row.Tie as tie
 use Rattle.search.proofs.overfull_row.Reads as reads

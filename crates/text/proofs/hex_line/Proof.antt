@@ -1,5 +1,4 @@
 -- `hex_line` is the line that the definition gives.
-use native.Mathlib.Omega.{arith}
 use borrow.Author.Needs.{needs}
 use Rattle.text.proofs.hex_line.Statement.{statement}
 use Rattle.text.proofs.hex_line.Tie as tie

@@ -1,6 +1,5 @@
 -- Each word once.
 use borrow.Author.Needs.{needs}
-use native.Mathlib.Omega.{arith}
 use Prim.Native.Nat.{_-_, _≤_}
 use Rattle.text.proofs.print_words.Statement.{statement}
 use Rattle.text.proofs.print_words.Tie as tie

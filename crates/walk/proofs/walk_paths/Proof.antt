@@ -1,7 +1,7 @@
 -- `walk_paths` walks as the definition does. The invariant: from all the paths the definition leads to those of the nets from place i on.
 use borrow.Author.Needs.{needs}
 use native.Mathlib.Omega.{arith}
-use Prim.Native.Nat.{_+_, _-_, _≤_}
+use Prim.Native.Nat.{_-_, _≤_}
 use Rattle.board.specs.Board.{Within}
 use Rattle.board.specs.View.{boardOf}
 use Rattle.walk.specs.Paths.{Paths, paths-start, paths-on, paths-refused, paths-done}

@@ -2,7 +2,7 @@
 use borrow.Author.Needs.{needs}
 use borrow.Author.Tests.{not-true, not-false, ltb-true, ltb-false}
 use native.Mathlib.Omega.{arith}
-use mathlib.Core.Path.{_≡_, refl, sym, _∙_}
+use mathlib.Core.Path.{sym, _∙_}
 use Rattle.board.specs.Board.{Within}
 use Rattle.board.specs.View.{boardOf}
 use Rattle.walk.specs.Steps.{Along, along-start, along-off, along-again, along-on, along-done, vertex-near}

@@ -4,7 +4,7 @@ use borrow.Author.Needs.{needs}
 use Rattle.writing.specs.Words.{rowWords, row-words-length, row-words-more}
 use Rattle.writing.specs.Buffer.{startWith, store-next, stored-length}
 use lib.ListN.{length}
-use mathlib.Core.Path.{_≡_, refl, ap, sym, _∙_}
+use mathlib.Core.Path.{_≡_, refl}
 use Prim.Native.Nat.{_-_, _≤_}
 use Rattle.writing.proofs.write_rows.Statement.{statement}
 use Rattle.writing.proofs.write_rows.Tie as tie
