@@ -1,6 +1,6 @@
 -- The writes of each part of a step make the step.
 -- Assumes what the parts promise.
-use mathlib.Core.Path.{_≡_, refl, ap, _∙_, sym, subst}
+use mathlib.Core.Path.{_≡_, ap, _∙_, sym, subst}
 use mathlib.Core.Bool.{Bool, true, false, cond}
 use mathlib.Core.List.{List}
 use mathlib.Core.Logic.{_⊎_, inl, inr}
@@ -17,9 +17,9 @@ use Rattle.corner_keeps.specs.TwoEnds.{splitRun}
 use Rattle.corner_keeps.specs.Choice.{farW}
 use Rattle.corner_keeps.specs.Step.{Step, Stuck, FirstR, endR, split-two, no-second}
 use Rattle.corner_ends.specs.declared.Work.{Work}
-use Rattle.corner_ends.specs.View.{run, Went, TwoEndsR, TwoEnds, halted, counted}
+use Rattle.corner_ends.specs.View.{run, TwoEndsR, halted, counted}
 
--- which of two rows was picked, it is one of the table
+-- whichever of two rows is picked, it is one of the table
 pub picked-row : (b : Bool) (p i j n : ℕ) → p ≡ cond b i j → i < n → j < n → p < n
 picked-row true p i j n e hi hj = omega arith
 picked-row false p i j n e hi hj = omega arith
@@ -41,20 +41,20 @@ module _ (la lb ids side vert half s1 s2 d1 d2 lo hi : List ℕ) (w : Work) (i l
     swap-is : (b : Bool) → swapD s t line x ≡ b → line ≡ lineR R → x ≡ colR R → swapD (farW R i) (farW R j) (lineR R) (colR R) ≡ b
     swap-is b e el ex = rw (es, et, word, ex, el) at e
 
-    -- the row that goes right, and the one that goes down
+    -- row p goes right, and row q down
     pub two-part : (b : Bool) → b ≡ swapD s t line x → (p q : ℕ) → p ≡ cond b j i → q ≡ cond b i j
         → Split la lb ids side vert p q (line * 32 + x) from (from + 1) bul up la' lb' side' vert'
         → TwoEndsR R (run la' lb' ids side' vert' half s1 s2 d1 d2 lo' hi r) line x i (r .stuck)
     two-part b sw p q ep eq P el ex wide deep F = inl (
       ap (λ (z : Work). z .stuck) er,
       split-two i j wide deep F li (found j E el ex) (omega (arith, E .most, ne)) (elim (bool b) [
-        | inl t ↦ inr (
-          swap-is true (sym sw ∙ t) el ex,
-          rw (er, P .a-is, P .b-is, P .side-is, P .vert-is, ep, eq, t, elo, eb, eu, word, ex, el),
+        | inl h ↦ inr (
+          swap-is true (sym sw ∙ h) el ex,
+          rw (er, P .a-is, P .b-is, P .side-is, P .vert-is, ep, eq, h, elo, eb, eu, word, ex, el),
         )
-        | inr f ↦ inl (
-          swap-is false (sym sw ∙ f) el ex,
-          rw (er, P .a-is, P .b-is, P .side-is, P .vert-is, ep, eq, f, elo, eb, eu, word, ex, el),
+        | inr h ↦ inl (
+          swap-is false (sym sw ∙ h) el ex,
+          rw (er, P .a-is, P .b-is, P .side-is, P .vert-is, ep, eq, h, elo, eb, eu, word, ex, el),
         )
       ]),
     )
