@@ -21,7 +21,7 @@ use Rattle.corner_keeps.specs.Divide.{divideRun, dir1, dir2}
 use Rattle.corner_keeps.specs.Helper.{helperRun}
 use Rattle.corner_keeps.specs.Step.{Step, Stuck, FirstR, NoEnd, LeftFull, TopFull, endR, nearest, at-nul, helped, no-nearest, no-nul}
 use Rattle.corner_ends.specs.declared.Work.{Work}
-use Rattle.corner_ends.specs.View.{run, Low, Near, Went}
+use Rattle.corner_ends.specs.View.{run, Low, Went, halted, counted}
 use Rattle.corner_bare.specs.Promise.{CutRow, NoEndsR}
 
 -- a number that is stored is low
@@ -51,10 +51,7 @@ leave-le la lb l (suc n) = omega (
   apart-le (eqb (getD la n 0 / 32) l) (eqb (getD lb n 0 / 32) l),
 )
 
--- the numbers and the table after a division
-pub near-cut-row : (w r : Work) → r ≡ record { top = w .top; bottom = w .bottom; up = w .up; n = w .n + 1; next = w .next + 2; stuck = false } → w .top ≤ 31 → w .bottom ≤ 31 → Near w r
-near-cut-row w r e h g = rw e (h, g, omega arith, omega arith)
-
+-- the table after a division
 pub low-cut-row : (ids ids' : List ℕ) (i n next : ℕ) → Low ids → next < 2111 → ids' ≡ set (set ids i next) n (next + 1) → Low ids'
 low-cut-row ids ids' i n next h l e = rw e (low-set (set ids i next) n (next + 1) (low-set ids i next h (omega arith)) (omega arith))
 
@@ -62,7 +59,7 @@ low-cut-row ids ids' i n next h l e = rw e (low-set (set ids i next) n (next + 1
 pub cut-row-is : (la lb ids half s1 s2 d1 d2 : List ℕ) (w : Work) (i : ℕ) (first : Bool) (nul bul k x y dx dy : ℕ) (la' lb' ids' half' s1' s2' d1' d2' : List ℕ) (r : Work)
     → k ≡ getD ids i 0 → x ≡ cond first nul bul → y ≡ cond first bul nul → dx ≡ dir1 first (w .up) → dy ≡ dir2 first (w .up)
     → (half' ≡ set half k (w .next)) × (s1' ≡ set (set s1 (w .next) (getD la i 0)) (w .next + 1) y) × (s2' ≡ set (set s2 (w .next) x) (w .next + 1) (getD lb i 0)) × (d1' ≡ set d1 k dx) × (d2' ≡ set d2 k dy)
-    → Divided la lb ids i (w .n) (w .next) x y la' lb' ids' → r ≡ record { top = w .top; bottom = w .bottom; up = w .up; n = w .n + 1; next = w .next + 2; stuck = false }
+    → Divided la lb ids i (w .n) (w .next) x y la' lb' ids' → r ≡ counted w (w .n + 1) (w .next + 2)
     → CutRow la lb ids half s1 s2 d1 d2 w i first nul bul la' lb' ids' half' s1' s2' d1' d2' r
 cut-row-is la lb ids half s1 s2 d1 d2 w i first nul bul k x y dx dy la' lb' ids' half' s1' s2' d1' d2' r ek ex ey e1 e2 P D er = record {
   a-is = D .a-is ∙ ap (set la (w .n)) ey;
@@ -105,8 +102,8 @@ module _ (la lb ids side vert half s1 s2 d1 d2 lo hi : List ℕ) (w : Work) (lin
       left-no : (d ≡ w .bottom - w .top + 1 → ⊥) → x ≡ colR R → LeftFull R → ⊥
       left-no n ex e = n (ed ∙ subst (λ c. crossD la lb c (w .n) ≡ w .bottom - w .top + 1) (sym ex) e)
 
-      pub near-stuck : d ≡ w .bottom - w .top + 1 → (i : ℕ) → Least la lb (w .n) x (w .up) i → i ≡ w .n → NoEndsR R R' line x end true
-      near-stuck e i L q el ex ee E = inr (refl, no-nearest i E (left-yes e ex) (subst (λ c. Least la lb (w .n) c (w .up) i) ex L) (omega arith))
+      pub near-stuck : r ≡ halted w → d ≡ w .bottom - w .top + 1 → (i : ℕ) → Least la lb (w .n) x (w .up) i → i ≡ w .n → NoEndsR R R' line x end (r .stuck)
+      near-stuck er e i L q el ex ee E = inr (ap (λ (z : Work). z .stuck) er, no-nearest i E (left-yes e ex) (subst (λ c. Least la lb (w .n) c (w .up) i) ex L) (omega arith))
 
       pub near-cut : d ≡ w .bottom - w .top + 1 → (i : ℕ) → Least la lb (w .n) x (w .up) i → (i ≡ w .n → ⊥) → (c : ℕ) → c ≡ getD la i 0 % 32
           → CutRow la lb ids half s1 s2 d1 d2 w i (ltb x c) nul bul la' lb' ids' half' s1' s2' d1' d2' r → NoEndsR R R' line x end (r .stuck)
@@ -126,8 +123,8 @@ module _ (la lb ids side vert half s1 s2 d1 d2 lo hi : List ℕ) (w : Work) (lin
         top-no : (e + x ≡ end + 1 → ⊥) → line ≡ lineR R → x ≡ colR R → end ≡ endR R → TopFull R → ⊥
         top-no m el ex en h = m (omega (arith, h, ee, ap (λ l. leaveD la lb l (w .n)) el, ex, en))
 
-        pub nul-stuck : e + x ≡ end + 1 → (i : ℕ) → First la lb nul 0 (w .n) i → i ≡ w .n → NoEndsR R R' line x end true
-        nul-stuck h i F q el ex en E = inr (refl, no-nul i E (top-yes h el ex en) (subst (λ v. First la lb v 0 (w .n) i) (nul-word el ex) F) (omega arith))
+        pub nul-stuck : r ≡ halted w → e + x ≡ end + 1 → (i : ℕ) → First la lb nul 0 (w .n) i → i ≡ w .n → NoEndsR R R' line x end (r .stuck)
+        nul-stuck er h i F q el ex en E = inr (ap (λ (z : Work). z .stuck) er, no-nul i E (top-yes h el ex en) (subst (λ v. First la lb v 0 (w .n) i) (nul-word el ex) F) (omega arith))
 
         pub nul-cut : e + x ≡ end + 1 → (i : ℕ) → First la lb nul 0 (w .n) i → (i ≡ w .n → ⊥)
             → CutRow la lb ids half s1 s2 d1 d2 w i (eqb (getD la i 0) nul) nul bul la' lb' ids' half' s1' s2' d1' d2' r → NoEndsR R R' line x end (r .stuck)
@@ -143,7 +140,7 @@ module _ (la lb ids side vert half s1 s2 d1 d2 lo hi : List ℕ) (w : Work) (lin
         )
 
         pub add-helper : (e + x ≡ end + 1 → ⊥) → Added la lb ids (w .n) (w .next) nul bul la' lb' ids' → half' ≡ half → s1' ≡ s1 → s2' ≡ s2 → d1' ≡ d1 → d2' ≡ d2
-            → r ≡ record { top = w .top; bottom = w .bottom; up = w .up; n = w .n + 1; next = w .next + 1; stuck = false } → NoEndsR R R' line x end (r .stuck)
+            → r ≡ counted w (w .n + 1) (w .next + 1) → NoEndsR R R' line x end (r .stuck)
         add-helper m P q1 q2 q3 q4 q5 er el ex en E = inl (
           ap (λ (z : Work). z .stuck) er,
           helped E (left-no n ex) (top-no m el ex en) (rw (er, P .a-is, P .b-is, P .ids-is, q1, q2, q3, q4, q5, elo, nul-word el ex, bul-word el ex, ex, el)),

@@ -9,7 +9,7 @@ use Rattle.corner_keeps.specs.Run.{Run, lineR, colR}
 use Rattle.corner_keeps.specs.Divide.{dir1, dir2}
 use Rattle.corner_keeps.specs.Step.{NoEnd, endR}
 use Rattle.corner_ends.specs.declared.Work.{Work}
-use Rattle.corner_ends.specs.View.{run, Went}
+use Rattle.corner_ends.specs.View.{run, Went, counted}
 
 -- row i is divided
 pub record CutRow (la lb ids half s1 s2 d1 d2 : List ℕ) (w : Work) (i : ℕ) (first : Bool) (nul bul : ℕ) (la' lb' ids' half' s1' s2' d1' d2' : List ℕ) (r : Work) : Type 0 where
@@ -21,7 +21,7 @@ pub record CutRow (la lb ids half s1 s2 d1 d2 : List ℕ) (w : Work) (i : ℕ) (
   pub s2-is : s2' ≡ set (set s2 (w .next) (cond first nul bul)) (w .next + 1) (getD lb i 0)
   pub d1-is : d1' ≡ set d1 (getD ids i 0) (dir1 first (w .up))
   pub d2-is : d2' ≡ set d2 (getD ids i 0) (dir2 first (w .up))
-  pub work-is : r ≡ record { top = w .top; bottom = w .bottom; up = w .up; n = w .n + 1; next = w .next + 2; stuck = false }
+  pub work-is : r ≡ counted w (w .n + 1) (w .next + 2)
 
 -- two edges, and no end at the corner
 abbrev pub NoEndsR : (R R' : Run) (line x end : ℕ) → Bool → Type 0

@@ -69,14 +69,7 @@ fn cut_row(
         second_dir(first, w.up),
     );
     corner_steps::divide(la, lb, ids, i, n, next, x, y);
-    Work {
-        top: w.top,
-        bottom: w.bottom,
-        up: w.up,
-        n: n + 1,
-        next: next + 2,
-        stuck: false,
-    }
+    corner_ends::counted(w, n + 1, next + 2)
 }
 
 // Two edges and no end at the corner: a pair is divided there, or a helper pair is added.
@@ -110,14 +103,7 @@ pub fn no_end(
     if d == w.bottom - w.top + 1 {
         let i = corner_steps::least(la, lb, n, x, w.up);
         if i == n {
-            return Work {
-                top: w.top,
-                bottom: w.bottom,
-                up: w.up,
-                n: n,
-                next: w.next,
-                stuck: true,
-            };
+            return corner_ends::halted(w);
         }
         let c = corner_steps::wide(la[i]) % 32;
         return cut_row(la, lb, ids, half, s1, s2, d1, d2, w, i, x < c, nul, bul);
@@ -126,25 +112,11 @@ pub fn no_end(
     if e + x == end + 1 {
         let i = corner_steps::first_at(la, lb, nul, 0, n);
         if i == n {
-            return Work {
-                top: w.top,
-                bottom: w.bottom,
-                up: w.up,
-                n: n,
-                next: w.next,
-                stuck: true,
-            };
+            return corner_ends::halted(w);
         }
         let a = la[i];
         return cut_row(la, lb, ids, half, s1, s2, d1, d2, w, i, a == nul, nul, bul);
     }
     corner_steps::add(la, lb, ids, n, w.next, nul, bul);
-    Work {
-        top: w.top,
-        bottom: w.bottom,
-        up: w.up,
-        n: n + 1,
-        next: w.next + 1,
-        stuck: false,
-    }
+    corner_ends::counted(w, n + 1, w.next + 1)
 }

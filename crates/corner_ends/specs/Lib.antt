@@ -1,3 +1,4 @@
 pub mod View
+pub mod Near
 pub mod Went
 pub mod Moved

@@ -1,6 +1,6 @@
 -- The writes of a step at a corner with one edge make the step.
 -- Assumes what the parts promise.
-use mathlib.Core.Path.{_≡_, refl, ap, _∙_, sym, subst}
+use mathlib.Core.Path.{_≡_, ap, _∙_, sym}
 use mathlib.Core.Bool.{Bool, true, false}
 use mathlib.Core.List.{List}
 use mathlib.Core.Logic.{_⊎_, inl, inr}
@@ -15,7 +15,7 @@ use Rattle.corner_keeps.specs.Ready.{upN}
 use Rattle.corner_keeps.specs.OneEdge.{rightRun, downRun}
 use Rattle.corner_keeps.specs.Step.{Step, Stuck, FirstR, endR, right, down, no-right, no-down, no-edge, no-line}
 use Rattle.corner_ends.specs.declared.Work.{Work}
-use Rattle.corner_ends.specs.View.{run, Went, OneEdgeR}
+use Rattle.corner_ends.specs.View.{run, Went, OneEdgeR, halted, counted}
 
 pub seen-low : (o : Bool) (l : ℕ) → l ≤ 31 → seenD o l < 32
 seen-low true l h = omega arith
@@ -35,20 +35,24 @@ module _ (la lb ids side vert half s1 s2 d1 d2 lo hi : List ℕ) (w : Work) (lin
   abbrev Right : (R' : Run) → Bool → Type 0
   Right R' b = OneEdgeR R R' line x end i (w .bottom ≤ w .top) b
 
-  pub down-empty : (R' : Run) → (x ≡ end → ⊥) → OneEdgeR R R' line x end i ((w .top < w .bottom) × (end ≤ x)) true
-  down-empty R' n el ex ee c F = inr (refl, no-line (inl (omega (arith, n, c .1))))
+  module _ (R' : Run) (r : Work) (er : r ≡ halted w) where
+    halts : r .stuck ≡ true
+    halts = ap (λ (z : Work). z .stuck) er
 
-  pub down-none : (R' : Run) → x ≡ end → w .n ≤ i → OneEdgeR R R' line x end i ((w .top < w .bottom) × (end ≤ x)) true
-  down-none R' e l el ex ee c F = inr (refl, no-down i (sym ex ∙ e ∙ ee) (c .0) F l)
+    pub down-empty : (x ≡ end → ⊥) → OneEdgeR R R' line x end i ((w .top < w .bottom) × (end ≤ x)) (r .stuck)
+    down-empty n el ex ee c F = inr (halts, no-line (inl (omega (arith, n, c .1))))
 
-  pub right-deep : (R' : Run) → (w .top ≡ w .bottom → ⊥) → OneEdgeR R R' line x end i (w .bottom ≤ w .top) true
-  right-deep R' n el ex ee c F = inr (refl, no-line (inr (omega (arith, n))))
+    pub down-none : x ≡ end → w .n ≤ i → OneEdgeR R R' line x end i ((w .top < w .bottom) × (end ≤ x)) (r .stuck)
+    down-none e l el ex ee c F = inr (halts, no-down i (sym ex ∙ e ∙ ee) (c .0) F l)
 
-  pub right-thin : (R' : Run) → w .top ≡ w .bottom → end ≤ x → OneEdgeR R R' line x end i (w .bottom ≤ w .top) true
-  right-thin R' f l el ex ee c F = inr (refl, elim (eq-or-ne x end) [ inl e ↦ no-edge (sym ex ∙ e ∙ ee) f | inr e ↦ no-line (inl (omega (arith, e))) ])
+    pub right-deep : (w .top ≡ w .bottom → ⊥) → OneEdgeR R R' line x end i (w .bottom ≤ w .top) (r .stuck)
+    right-deep n el ex ee c F = inr (halts, no-line (inr (omega (arith, n))))
 
-  pub right-none : (R' : Run) → w .top ≡ w .bottom → x < end → w .n ≤ i → OneEdgeR R R' line x end i (w .bottom ≤ w .top) true
-  right-none R' f b l el ex ee c F = inr (refl, no-right i (omega arith) f F l)
+    pub right-thin : w .top ≡ w .bottom → end ≤ x → OneEdgeR R R' line x end i (w .bottom ≤ w .top) (r .stuck)
+    right-thin f l el ex ee c F = inr (halts, elim (eq-or-ne x end) [ inl e ↦ no-edge (sym ex ∙ e ∙ ee) f | inr e ↦ no-line (inl (omega (arith, e))) ])
+
+    pub right-none : w .top ≡ w .bottom → x < end → w .n ≤ i → OneEdgeR R R' line x end i (w .bottom ≤ w .top) (r .stuck)
+    right-none f b l el ex ee c F = inr (halts, no-right i (omega arith) f F l)
 
   module _ (from to s v : ℕ) (word : from ≡ line * 32 + x) (li : i < w .n) (la' lb' side' vert' lo' : List ℕ) (r : Work) (M : Moved la lb i from to la' lb')
       (N : (side' ≡ set side from s) × (vert' ≡ set vert from v)) where
@@ -68,7 +72,7 @@ module _ (la lb ids side vert half s1 s2 d1 d2 lo hi : List ℕ) (w : Work) (lin
     )
 
     pub right-done : w .top ≡ w .bottom → x < end → to ≡ from + 1 → s ≡ getD ids i 0 + 1 → v ≡ 0 → lo' ≡ set lo line (x + 1)
-        → r ≡ record { top = w .top; bottom = w .bottom; up = w .up; n = w .n; next = w .next; stuck = false }
+        → r ≡ counted w (w .n) (w .next)
         → OneEdgeR R R' line x end i (w .bottom ≤ w .top) (r .stuck)
     right-done f b et es ev elo er el ex ee c F = inl (
       ap (λ (z : Work). z .stuck) er,

@@ -31,6 +31,14 @@ run la lb ids side vert half s1 s2 d1 d2 lo hi w = record {
   up = w .up;
 }
 
+-- the same, but stuck
+abbrev pub halted : Work → Work
+halted w = record { top = w .top; bottom = w .bottom; up = w .up; n = w .n; next = w .next; stuck = true }
+
+-- the same with other counts, and not stuck
+abbrev pub counted : Work → ℕ → ℕ → Work
+counted w n next = record { top = w .top; bottom = w .bottom; up = w .up; n = n; next = next; stuck = false }
+
 -- numbers are below 2112
 abbrev pub Low : List ℕ → Type 0
 Low ids = (k : ℕ) → getD ids k 0 < 2112

@@ -1,11 +1,12 @@
 // Corners where a pair ends: the one pair goes along the corner's one edge, or two pairs along its two edges.
 ghost use mathlib.Core.Path.{_≡_};
+ghost use mathlib.Core.Bool.{cond};
 ghost use Prim.Native.Nat.{_+_, _*_, _≤_, _<_};
 ghost use lib.ListN.{set};
 ghost use Rattle.corner_steps.specs.Writes.{Moved};
 ghost use Rattle.corner_keeps.specs.Run.{bulW};
 ghost use Rattle.corner_keeps.specs.Ready.{upN};
-ghost use Rattle.corner_ends.specs.View.{Low, Near, TwoEnds, OneDown, OneRight};
+ghost use Rattle.corner_ends.specs.View.{Low, Near, TwoEnds, OneDown, OneRight, halted, counted};
 
 // Where the router stands: lines top to bottom as the shape is read, upside down where `up` holds; the count of live pairs, and the first number
 // that no pair has had. It is stuck only where the problem was not good.
@@ -16,6 +17,34 @@ pub struct Work {
     pub n: usize,
     pub next: u16,
     pub stuck: bool,
+}
+
+// The same, but stuck.
+pub fn halted(w: Work) -> Work
+    ensures { λ r. ⌜ r ≡ halted w ⌝ }
+{
+    Work {
+        top: w.top,
+        bottom: w.bottom,
+        up: w.up,
+        n: w.n,
+        next: w.next,
+        stuck: true,
+    }
+}
+
+// The same with other counts, and not stuck.
+pub fn counted(w: Work, n: usize, next: u16) -> Work
+    ensures { λ r. ⌜ r ≡ counted w n next ⌝ }
+{
+    Work {
+        top: w.top,
+        bottom: w.bottom,
+        up: w.up,
+        n: n,
+        next: next,
+        stuck: false,
+    }
 }
 
 // The word of the vertex in column x of a line.
@@ -42,6 +71,12 @@ fn bit(up: bool) -> u16
     ensures { λ r. ⌜ (r ≡ upN up) × (r ≤ 1) ⌝ }
 {
     if up { 1 } else { 0 }
+}
+
+fn pick(first: bool, a: usize, b: usize) -> usize
+    ensures { λ r. ⌜ r ≡ cond first a b ⌝ }
+{
+    if first { a } else { b }
 }
 
 // A line loses its first vertex, in column x.
@@ -96,58 +131,30 @@ pub fn two_ends(
     let from = word(line, x);
     let j = corner_steps::first_at(la, lb, from, i + 1, n);
     if j == n {
-        return Work {
-            top: w.top,
-            bottom: w.bottom,
-            up: w.up,
-            n: n,
-            next: w.next,
-            stuck: true,
-        };
+        return halted(w);
     }
     let bul = below(from, w.up);
     let s = corner_steps::wide(corner_steps::far(la, lb, i, from));
     let t = corner_steps::wide(corner_steps::far(la, lb, j, from));
     shorten(lo, line, x);
-    if corner_steps::swaps(s, t, line, x) {
-        corner_steps::split(
-            la,
-            lb,
-            ids,
-            side,
-            vert,
-            j,
-            i,
-            line * 32 + x,
-            from,
-            from + 1,
-            bul,
-            bit(w.up),
-        );
-    } else {
-        corner_steps::split(
-            la,
-            lb,
-            ids,
-            side,
-            vert,
-            i,
-            j,
-            line * 32 + x,
-            from,
-            from + 1,
-            bul,
-            bit(w.up),
-        );
-    }
-    Work {
-        top: w.top,
-        bottom: w.bottom,
-        up: w.up,
-        n: n,
-        next: w.next,
-        stuck: false,
-    }
+    let swapped = corner_steps::swaps(s, t, line, x);
+    let right = pick(swapped, j, i);
+    let down = pick(swapped, i, j);
+    corner_steps::split(
+        la,
+        lb,
+        ids,
+        side,
+        vert,
+        right,
+        down,
+        line * 32 + x,
+        from,
+        from + 1,
+        bul,
+        bit(w.up),
+    );
+    counted(w, n, w.next)
 }
 
 // A corner without a right neighbour: the one pair that ends there, row i, goes down.
@@ -169,29 +176,23 @@ pub fn go_down(
     ensures { λ r. ⌜ Near w r ⌝ }
 {
     let n = w.n;
-    if x == end {
-        if i < n {
-            let from = word(line, x);
-            let to = below(from, w.up);
-            let v = 2 * ids[i] + 2 + bit(w.up);
-            slide(la, lb, side, vert, i, from, to, 0, v);
-            return Work {
-                top: w.top + 1,
-                bottom: w.bottom,
-                up: w.up,
-                n: n,
-                next: w.next,
-                stuck: false,
-            };
-        }
+    if x != end {
+        return halted(w);
     }
+    if n <= i {
+        return halted(w);
+    }
+    let from = word(line, x);
+    let to = below(from, w.up);
+    let v = 2 * ids[i] + 2 + bit(w.up);
+    slide(la, lb, side, vert, i, from, to, 0, v);
     Work {
-        top: w.top,
+        top: w.top + 1,
         bottom: w.bottom,
         up: w.up,
         n: n,
         next: w.next,
-        stuck: true,
+        stuck: false,
     }
 }
 
@@ -215,30 +216,18 @@ pub fn go_right(
     ensures { λ r. ⌜ Near w r ⌝ }
 {
     let n = w.n;
-    if w.top == w.bottom {
-        if x < end {
-            if i < n {
-                let from = word(line, x);
-                let s = ids[i] + 1;
-                shorten(lo, line, x);
-                slide(la, lb, side, vert, i, from, from + 1, s, 0);
-                return Work {
-                    top: w.top,
-                    bottom: w.bottom,
-                    up: w.up,
-                    n: n,
-                    next: w.next,
-                    stuck: false,
-                };
-            }
-        }
+    if w.top != w.bottom {
+        return halted(w);
     }
-    Work {
-        top: w.top,
-        bottom: w.bottom,
-        up: w.up,
-        n: n,
-        next: w.next,
-        stuck: true,
+    if end <= x {
+        return halted(w);
     }
+    if n <= i {
+        return halted(w);
+    }
+    let from = word(line, x);
+    let s = ids[i] + 1;
+    shorten(lo, line, x);
+    slide(la, lb, side, vert, i, from, from + 1, s, 0);
+    counted(w, n, w.next)
 }

@@ -81,6 +81,9 @@ table-as e T = rw e T
 abbrev pub firstWork : (bottom n : ℕ) → Work
 firstWork bottom n = record { top = 0; bottom = bottom; up = false; n = n; next = n; stuck = false }
 
+pub first-low : (w : Work) (bottom n : ℕ) → w ≡ firstWork bottom n → bottom ≤ 31 → n ≤ 64 → (w .top ≤ 31) × (w .bottom ≤ 31) × (w .n ≤ 64) × (w .next ≤ 64)
+first-low w bottom n e h k = rw e (omega arith, h, k, k)
+
 module _ (b : Board) (ps : List Pair) (P : Problem b ps) (even : oddVertices b ps ≡ []) (roomy : overfullCuts b ps ≡ [])
     {lo hi : List ℕ} {h : ℕ} (tall : h ≡ height b) (L : Lined b lo hi (h + 1)) {la lb ids s1 s2 : List ℕ} {n : ℕ} (T : Table ps n la lb ids s1 s2) where
   abbrev pub R0 : Run

@@ -5,6 +5,7 @@ ghost use lib.ListN.{length};
 ghost use Rattle.session.specs.View.{sessionOf};
 ghost use Rattle.calls.specs.Route.{HandsBack, Routes, RoutesBytes};
 ghost use Rattle.wiring.specs.Answers.{Even, Roomy, routeAnswer, written};
+ghost use Rattle.wiring.specs.Starting.{firstWork};
 use board::Vertex;
 use corner_ends::Work;
 use cut::Cut;
@@ -26,6 +27,21 @@ fn wide(x: u8) -> usize
     ensures { λ r. ⌜ r ≡ x ⌝ }
 {
     x as usize
+}
+
+// Where the router starts: on all the lines of a board of so many rows, with n pairs.
+fn first_work(rows: u8, n: usize) -> Work
+    requires { ⌜ n ≤ 64 ⌝ }
+    ensures { λ r. ⌜ r ≡ firstWork rows n ⌝ }
+{
+    Work {
+        top: 0,
+        bottom: wide(rows),
+        up: false,
+        n: n,
+        next: start::number_of(n),
+        stuck: false,
+    }
 }
 
 // The words of a routing at the start of the buffer; answers with their count.
@@ -50,14 +66,7 @@ fn wire(s: Session, out: &mut [u32]) -> usize
     let mut half = [0u16; 2112];
     let mut d1 = [0u8; 2112];
     let mut d2 = [0u8; 2112];
-    let work = Work {
-        top: 0,
-        bottom: wide(board.count),
-        up: false,
-        n: n,
-        next: start::number_of(n),
-        stuck: false,
-    };
+    let work = first_work(board.count, n);
     corner_router::cut_all(
         &mut la,
         &mut lb,

@@ -1,18 +1,18 @@
 -- The writes one after the other, by cut-row-is.
 use native.Mathlib.Omega.{arith}
-use mathlib.Core.Path.{refl}
 use Rattle.corner_bare.specs.Divided.{cut-row-is}
 use borrow.Author.Needs.{needs}
 use Rattle.corner_bare.proofs.cut_row.Statement.{statement}
 use Rattle.corner_bare.proofs.cut_row.Tie as tie
 use Rattle.corner_bare.proofs.cut_row.Reads as reads
 use Rattle.corner_bare.proofs.cut_row.Lts as lts
-use Rattle.corner_steps.proofs.divide.Reads as divide-reads
-use Rattle.corner_steps.proofs.part.Reads as part-reads
-use Rattle.corner_steps.proofs.wide.Reads as wide-reads
 use Rattle.corner_bare.proofs.first_dir.Reads as first-dir-reads
 use Rattle.corner_bare.proofs.pick.Reads as pick-reads
 use Rattle.corner_bare.proofs.second_dir.Reads as second-dir-reads
+use Rattle.corner_ends.proofs.counted.Reads as counted-reads
+use Rattle.corner_steps.proofs.divide.Reads as divide-reads
+use Rattle.corner_steps.proofs.part.Reads as part-reads
+use Rattle.corner_steps.proofs.wide.Reads as wide-reads
 
 -- src/lib.rt:51:13
 mul-a : tie.Need-mul-a
@@ -69,18 +69,23 @@ part-requires c κs =
 divide-requires : tie.Need-divide-requires
 divide-requires c κs = search needs
 
--- src/lib.rt:76:12
-add-t21 : tie.Need-add-t21
-add-t21 c = search needs
+-- src/lib.rt:72:29
+add-counted : tie.Need-add-counted
+add-counted c = search needs
 
--- src/lib.rt:77:15
-add-t24 : tie.Need-add-t24
-add-t24 c = search needs
+-- src/lib.rt:72:36
+add-counted-2 : tie.Need-add-counted-2
+add-counted-2 c = search needs
+
+-- src/lib.rt:72:5
+counted-requires : tie.Need-counted-requires
+counted-requires c κs = search needs
 
 -- src/lib.rt:30:1
 returns : tie.Need-returns
 returns c =
-    let at-part = c .before .before .before .before in
+    let at-divide = c .before in
+    let at-part = at-divide .before .before .before .before in
     let at-second-dir = at-part .before in
     let at-first-dir = at-second-dir .before in
     let at-pick2 = at-first-dir .before .before .before .before .before .before in
@@ -90,7 +95,7 @@ returns c =
     cut-row-is _ _ _ _ _ _ _ _ (start .args .w) (start .args .i) (start .args .first) (start .args .nul) (start .args .bul) (at-wide .wide .result)
     (at-pick .pick .result) (at-pick2 .pick2 .result) (at-first-dir .first-dir .result) (at-second-dir .second-dir .result) _ _ _ _ _ _ _ _ _
     (at-wide .wide .ensures .0) (at-pick .pick .ensures) (at-pick2 .pick2 .ensures) (at-first-dir .first-dir .ensures) (at-second-dir .second-dir .ensures)
-    (at-part .part .ensures) (c .divide .ensures) refl
+    (at-part .part .ensures) (at-divide .divide .ensures) (c .counted .ensures)
 
 pub cut-row-spec : {M : Type 1} → statement M
 cut-row-spec =
@@ -109,6 +114,7 @@ cut-row-spec =
     second-dir-requires
     part-requires
     divide-requires
-    add-t21
-    add-t24
+    add-counted
+    add-counted-2
+    counted-requires
     returns)

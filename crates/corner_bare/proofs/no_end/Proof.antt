@@ -1,60 +1,68 @@
 -- Each way out is a step or a way to be stuck, by the laws of Divided.
 use native.Mathlib.Omega.{arith}
 use mathlib.Core.Path.{refl, ap}
-use Prim.Native.Nat.{_%_}
-use Rattle.corner_bare.specs.Divided.{near-stuck, near-cut, nul-stuck, nul-cut, add-helper, low-set, leave-le, near-cut-row, low-cut-row}
+use Prim.Native.Nat.{_+_, _%_}
+use Rattle.corner_ends.specs.Near.{near-halted, near-counted}
+use Rattle.corner_bare.specs.Divided.{near-stuck, near-cut, nul-stuck, nul-cut, add-helper, low-set, leave-le, low-cut-row}
 use borrow.Author.Needs.{needs}
 use Rattle.corner_bare.proofs.no_end.Statement.{statement}
 use Rattle.corner_bare.proofs.no_end.Tie as tie
 use Rattle.corner_bare.proofs.no_end.Reads as reads
 use Rattle.corner_bare.proofs.no_end.Lts as lts
+use Rattle.corner_bare.proofs.cut_row.Reads as cut-row-reads
+use Rattle.corner_ends.proofs.below.Reads as below-reads
+use Rattle.corner_ends.proofs.counted.Reads as counted-reads
+use Rattle.corner_ends.proofs.halted.Reads as halted-reads
+use Rattle.corner_ends.proofs.shorten.Reads as shorten-reads
+use Rattle.corner_ends.proofs.word.Reads as word-reads
 use Rattle.corner_steps.proofs.add.Reads as add-reads
 use Rattle.corner_steps.proofs.crossing.Reads as crossing-reads
 use Rattle.corner_steps.proofs.first_at.Reads as first-at-reads
 use Rattle.corner_steps.proofs.least.Reads as least-reads
 use Rattle.corner_steps.proofs.leaving.Reads as leaving-reads
 use Rattle.corner_steps.proofs.wide.Reads as wide-reads
-use Rattle.corner_ends.proofs.below.Reads as below-reads
-use Rattle.corner_bare.proofs.cut_row.Reads as cut-row-reads
-use Rattle.corner_ends.proofs.shorten.Reads as shorten-reads
-use Rattle.corner_ends.proofs.word.Reads as word-reads
 
--- src/lib.rt:105:9
+-- src/lib.rt:98:9
 word-requires : tie.Need-word-requires
 word-requires c κs = search needs
 
--- src/lib.rt:106:15
+-- src/lib.rt:99:15
 add-nul : tie.Need-add-nul
 add-nul c = search needs
 
--- src/lib.rt:107:9
+-- src/lib.rt:100:9
 below-requires : tie.Need-below-requires
 below-requires c κs = search needs
 
--- src/lib.rt:108:5
+-- src/lib.rt:101:5
 shorten-requires : tie.Need-shorten-requires
 shorten-requires c κs = search needs
 
--- src/lib.rt:109:9
+-- src/lib.rt:102:9
 crossing-requires : tie.Need-crossing-requires
 crossing-requires c κs = search needs
 
--- src/lib.rt:110:13
+-- src/lib.rt:103:13
 sub-if1 : tie.Need-sub-if1
 sub-if1 c = search needs
 
--- src/lib.rt:110:13
+-- src/lib.rt:103:13
 add-if1 : tie.Need-add-if1
 add-if1 c = search needs
 
--- src/lib.rt:111:13
+-- src/lib.rt:104:13
 least-requires : tie.Need-least-requires
 least-requires c κs = search needs
 
--- src/lib.rt:113:13
+-- src/lib.rt:106:13
+halted-requires : tie.Need-halted-requires
+halted-requires c κs = search needs
+
+-- src/lib.rt:106:13
 returns : tie.Need-returns
 returns c =
-    let at-least = c .before in
+    let at-if2 = c .before in
+    let at-least = at-if2 .before in
     let at-if1 = at-least .before .before .before in
     let at-crossing = at-if1 .before .before in
     let at-shorten = at-crossing .before .before .before in
@@ -63,25 +71,25 @@ returns c =
     let start = at-word .before in (
       λ side vert hi. near-stuck (start .args .la .now) (start .args .lb .now) (start .args .ids .now) side vert (start .args .half .now) (start .args .s1 .now) (start .args .s2 .now)
           (start .args .d1 .now) (start .args .d2 .now) (start .args .lo .now) hi (start .args .w) (start .args .line) (start .args .x) (start .args .end)
-          (at-word .word .result) _ (at-below .below .result) (at-word .word .ensures .0) refl (at-below .below .ensures) _ _ _ _ _ _ _ _ _ (start .args .w)
-          (at-shorten .shorten .ensures) (at-crossing .crossing .result) (at-crossing .crossing .ensures) (at-if1 .if1 .taken) (at-least .least .result)
-          (at-least .least .ensures) (c .if2 .taken),
-      ((omega (arith, start .pre .6, start .pre .7), start .pre .7, omega arith, omega arith), start .pre .5),
+          (at-word .word .result) _ (at-below .below .result) (at-word .word .ensures .0) refl (at-below .below .ensures) _ _ _ _ _ _ _ _ _ _
+          (at-shorten .shorten .ensures) (at-crossing .crossing .result) (at-crossing .crossing .ensures) (c .halted .ensures) (at-if1 .if1 .taken)
+          (at-least .least .result) (at-least .least .ensures) (at-if2 .if2 .taken),
+      (near-halted (start .args .w) _ (c .halted .ensures) (omega (arith, start .pre .6, start .pre .7)) (start .pre .7), start .pre .5),
     )
 
--- src/lib.rt:122:36
+-- src/lib.rt:108:36
 mul-wide : tie.Need-mul-wide
 mul-wide c = search needs
 
--- src/lib.rt:122:36
+-- src/lib.rt:108:36
 element-copy-out-wide : tie.Need-element-copy-out-wide
 element-copy-out-wide c = search needs
 
--- src/lib.rt:122:17
+-- src/lib.rt:108:17
 wide-requires : tie.Need-wide-requires
 wide-requires c κs = search needs
 
--- src/lib.rt:123:9
+-- src/lib.rt:109:9
 cut-row-requires : tie.Need-cut-row-requires
 cut-row-requires c κs =
     let at-if2 = c .before .before .before .before .before .before .before .before .before .before in
@@ -95,7 +103,7 @@ cut-row-requires c κs =
       start .pre .7,
     )
 
--- src/lib.rt:123:9
+-- src/lib.rt:109:9
 returns-2 : tie.Need-returns-2
 returns-2 c =
     let at-wide = c .before .before .before .before .before .before .before .before .before in
@@ -113,34 +121,39 @@ returns-2 c =
           (at-shorten .shorten .ensures) (at-crossing .crossing .result) (at-crossing .crossing .ensures) (at-if1 .if1 .taken) (at-least .least .result)
           (at-least .least .ensures) (at-if2 .if2 .left) _ (ap (λ z. z % 32) (at-wide .wide .ensures .0)) (c .cut-row .ensures),
       (
-        near-cut-row (start .args .w) _ (c .cut-row .ensures .work-is) (omega (arith, start .pre .6, start .pre .7)) (start .pre .7),
+        near-counted (start .args .w) _ (start .args .w .n + 1) (start .args .w .next + 2) (c .cut-row .ensures .work-is) (omega arith) (omega arith) (omega (arith, start .pre .6, start .pre .7)) (start .pre .7),
         low-cut-row (start .args .ids .now) _ (at-least .least .result) (start .args .w .n) (start .args .w .next) (start .pre .5) (start .pre .1)
             (c .cut-row .ensures .ids-is),
       ),
     )
 
--- src/lib.rt:125:9
+-- src/lib.rt:111:9
 leaving-requires : tie.Need-leaving-requires
 leaving-requires c κs = search needs
 
--- src/lib.rt:126:8
+-- src/lib.rt:112:8
 add-if3 : tie.Need-add-if3
 add-if3 c =
     let start = c .before .before .before .before .before .before .before .before .before .before .before .before in
     omega (arith, c .leaving .ensures, leave-le (start .args .la .now) (start .args .lb .now) (start .args .line) (start .args .w .n))
 
--- src/lib.rt:126:17
+-- src/lib.rt:112:17
 add-if3-2 : tie.Need-add-if3-2
 add-if3-2 c = search needs
 
--- src/lib.rt:127:13
+-- src/lib.rt:113:13
 first-at-requires : tie.Need-first-at-requires
 first-at-requires c κs = search needs
 
--- src/lib.rt:129:13
+-- src/lib.rt:115:13
+halted-requires-2 : tie.Need-halted-requires-2
+halted-requires-2 c κs = search needs
+
+-- src/lib.rt:115:13
 returns-3 : tie.Need-returns-3
 returns-3 c =
-    let at-first-at = c .before in
+    let at-if4 = c .before in
+    let at-first-at = at-if4 .before in
     let at-if3 = at-first-at .before .before .before in
     let at-leaving = at-if3 .before in
     let at-if1 = at-leaving .before .before .before in
@@ -151,21 +164,21 @@ returns-3 c =
     let start = at-word .before in (
       λ side vert hi. nul-stuck (start .args .la .now) (start .args .lb .now) (start .args .ids .now) side vert (start .args .half .now) (start .args .s1 .now) (start .args .s2 .now)
           (start .args .d1 .now) (start .args .d2 .now) (start .args .lo .now) hi (start .args .w) (start .args .line) (start .args .x) (start .args .end)
-          (at-word .word .result) _ (at-below .below .result) (at-word .word .ensures .0) refl (at-below .below .ensures) _ _ _ _ _ _ _ _ _ (start .args .w)
+          (at-word .word .result) _ (at-below .below .result) (at-word .word .ensures .0) refl (at-below .below .ensures) _ _ _ _ _ _ _ _ _ _
           (at-shorten .shorten .ensures) (at-crossing .crossing .result) (at-crossing .crossing .ensures) (at-if1 .if1 .left) (at-leaving .leaving .result)
-          (at-leaving .leaving .ensures) (at-if3 .if3 .taken) (at-first-at .first-at .result) (at-first-at .first-at .ensures) (c .if4 .taken),
-      ((omega (arith, start .pre .6, start .pre .7), start .pre .7, omega arith, omega arith), start .pre .5),
+          (at-leaving .leaving .ensures) (c .halted2 .ensures) (at-if3 .if3 .taken) (at-first-at .first-at .result) (at-first-at .first-at .ensures) (at-if4 .if4 .taken),
+      (near-halted (start .args .w) _ (c .halted2 .ensures) (omega (arith, start .pre .6, start .pre .7)) (start .pre .7), start .pre .5),
     )
 
--- src/lib.rt:138:17
+-- src/lib.rt:117:17
 mul-a : tie.Need-mul-a
 mul-a c = search needs
 
--- src/lib.rt:138:17
+-- src/lib.rt:117:17
 element-copy-out-a : tie.Need-element-copy-out-a
 element-copy-out-a c = search needs
 
--- src/lib.rt:139:9
+-- src/lib.rt:118:9
 cut-row-requires-2 : tie.Need-cut-row-requires-2
 cut-row-requires-2 c κs =
     let at-if4 = c .before .before .before .before .before .before .before .before .before in
@@ -179,7 +192,7 @@ cut-row-requires-2 c κs =
       start .pre .7,
     )
 
--- src/lib.rt:139:9
+-- src/lib.rt:118:9
 returns-4 : tie.Need-returns-4
 returns-4 c =
     let at-if4 = c .before .before .before .before .before .before .before .before .before .before in
@@ -198,28 +211,32 @@ returns-4 c =
           (at-shorten .shorten .ensures) (at-crossing .crossing .result) (at-crossing .crossing .ensures) (at-if1 .if1 .left) (at-leaving .leaving .result)
           (at-leaving .leaving .ensures) (at-if3 .if3 .taken) (at-first-at .first-at .result) (at-first-at .first-at .ensures) (at-if4 .if4 .left) (c .cut-row2 .ensures),
       (
-        near-cut-row (start .args .w) _ (c .cut-row2 .ensures .work-is) (omega (arith, start .pre .6, start .pre .7)) (start .pre .7),
+        near-counted (start .args .w) _ (start .args .w .n + 1) (start .args .w .next + 2) (c .cut-row2 .ensures .work-is) (omega arith) (omega arith) (omega (arith, start .pre .6, start .pre .7)) (start .pre .7),
         low-cut-row (start .args .ids .now) _ (at-first-at .first-at .result) (start .args .w .n) (start .args .w .next) (start .pre .5) (start .pre .1)
             (c .cut-row2 .ensures .ids-is),
       ),
     )
 
--- src/lib.rt:141:5
+-- src/lib.rt:120:5
 add-requires : tie.Need-add-requires
 add-requires c κs = search needs
 
--- src/lib.rt:146:12
-add-t28 : tie.Need-add-t28
-add-t28 c = search needs
+-- src/lib.rt:121:29
+add-counted : tie.Need-add-counted
+add-counted c = search needs
 
--- src/lib.rt:147:15
-add-t67 : tie.Need-add-t67
-add-t67 c = search needs
+-- src/lib.rt:121:36
+add-counted-2 : tie.Need-add-counted-2
+add-counted-2 c = search needs
 
--- src/lib.rt:83:1
+-- src/lib.rt:121:5
+counted-requires : tie.Need-counted-requires
+counted-requires c κs = search needs
+
+-- src/lib.rt:76:1
 returns-5 : tie.Need-returns-5
 returns-5 c =
-    let at-add = c .before in
+    let at-add = c .before .before in
     let at-if3 = at-add .before .before .before .before in
     let at-leaving = at-if3 .before in
     let at-if1 = at-leaving .before .before .before in
@@ -232,9 +249,9 @@ returns-5 c =
           (start .args .d1 .now) (start .args .d2 .now) (start .args .lo .now) hi (start .args .w) (start .args .line) (start .args .x) (start .args .end)
           (at-word .word .result) _ (at-below .below .result) (at-word .word .ensures .0) refl (at-below .below .ensures) _ _ _ _ _ _ _ _ _ _
           (at-shorten .shorten .ensures) (at-crossing .crossing .result) (at-crossing .crossing .ensures) (at-if1 .if1 .left) (at-leaving .leaving .result)
-          (at-leaving .leaving .ensures) (at-if3 .if3 .left) (at-add .add .ensures) refl refl refl refl refl refl,
+          (at-leaving .leaving .ensures) (at-if3 .if3 .left) (at-add .add .ensures) refl refl refl refl refl (c .counted .ensures),
       (
-        (omega (arith, start .pre .6, start .pre .7), start .pre .7, omega arith, omega arith),
+        near-counted (start .args .w) _ (start .args .w .n + 1) (start .args .w .next + 1) (c .counted .ensures) (omega arith) (omega arith) (omega (arith, start .pre .6, start .pre .7)) (start .pre .7),
         rw (at-add .add .ensures .ids-is) (low-set (start .args .ids .now) (start .args .w .n) (start .args .w .next) (start .pre .5) (omega (arith, start .pre .1))),
       ),
     )
@@ -251,6 +268,7 @@ no-end-spec =
     sub-if1
     add-if1
     least-requires
+    halted-requires
     returns
     mul-wide
     element-copy-out-wide
@@ -261,12 +279,14 @@ no-end-spec =
     add-if3
     add-if3-2
     first-at-requires
+    halted-requires-2
     returns-3
     mul-a
     element-copy-out-a
     cut-row-requires-2
     returns-4
     add-requires
-    add-t28
-    add-t67
+    add-counted
+    add-counted-2
+    counted-requires
     returns-5)

@@ -7,31 +7,31 @@ use Rattle.corner_ends.proofs.slide.Lts as lts
 use Rattle.corner_steps.proofs.move_end.Reads as move-end-reads
 use Rattle.corner_steps.proofs.wide.Reads as wide-reads
 
--- src/lib.rt:71:9
+-- src/lib.rt:106:9
 wide-requires : tie.Need-wide-requires
 wide-requires c κs = search needs
 
--- src/lib.rt:72:5
+-- src/lib.rt:107:5
 mul-side : tie.Need-mul-side
 mul-side c = search needs
 
--- src/lib.rt:72:5
+-- src/lib.rt:107:5
 element-write-side : tie.Need-element-write-side
 element-write-side c = search needs
 
--- src/lib.rt:73:5
+-- src/lib.rt:108:5
 mul-vert : tie.Need-mul-vert
 mul-vert c = search needs
 
--- src/lib.rt:73:5
+-- src/lib.rt:108:5
 element-write-vert : tie.Need-element-write-vert
 element-write-vert c = search needs
 
--- src/lib.rt:74:5
+-- src/lib.rt:109:5
 move-end-requires : tie.Need-move-end-requires
 move-end-requires c κs = search needs
 
--- src/lib.rt:56:1
+-- src/lib.rt:91:1
 returns : tie.Need-returns
 returns c = (c .move-end .ensures, (rw (c .before .before .before .wide .ensures .0), rw (c .before .before .before .wide .ensures .0)))
 
