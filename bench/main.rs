@@ -7,21 +7,16 @@
 //! load meets all of them. A ratio is the median of the rounds' ratios.
 
 mod boards;
+#[path = "../editor/cidrask.rs"]
+mod cidrask;
 mod plain;
 
 use boards::{longest, routable, Board, Random};
+use cidrask::{cidrask_judge, cidrask_route};
 use std::hint::black_box;
 use std::io::Write;
 use std::process::{Command, Stdio};
 use std::time::Instant;
-
-#[link(name = "editor", kind = "static")]
-extern "C" {
-    fn cidrask_route(board: *const u8, board_length: usize, buffer: *mut u8, buffer_length: usize, first: *mut u64, second: *mut u64) -> u32;
-    fn cidrask_judge(
-        board: *const u8, board_length: usize, list: *const u8, list_length: usize, first: *mut u64, second: *mut u64, third: *mut u64,
-    ) -> u32;
-}
 
 const ROUNDS: usize = 41;
 /// How long each part of a round takes, in seconds, about.

@@ -6,23 +6,18 @@
 //! Parts: a, boards true and damaged through routing; b, lists true and damaged through judging; c, small boards against the exhaustive router.
 //! The first difference ends the run with status 1 and prints seed, part, case and the input's bytes.
 
+#[path = "../editor/cidrask.rs"]
+mod cidrask;
 mod exhaustive;
 mod generate;
 mod independent;
 
+use cidrask::{cidrask_judge, cidrask_route};
 use exhaustive::Answer;
 use generate::*;
 use independent::*;
 use std::collections::BTreeMap;
 use std::time::Instant;
-
-#[link(name = "editor", kind = "static")]
-extern "C" {
-    fn cidrask_route(board: *const u8, board_length: usize, buffer: *mut u8, buffer_length: usize, first: *mut u64, second: *mut u64) -> u32;
-    fn cidrask_judge(
-        board: *const u8, board_length: usize, list: *const u8, list_length: usize, first: *mut u64, second: *mut u64, third: *mut u64,
-    ) -> u32;
-}
 
 const CASES_A: u64 = 220_000;
 const CASES_B: u64 = 120_000;
