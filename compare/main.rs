@@ -42,6 +42,7 @@ struct Run {
     judged: u64,
     most_words: usize,
     most_nets: usize,
+    large: u64,
     full_cuts: u64,
     knock_knees: u64,
 }
@@ -111,6 +112,7 @@ impl Run {
         self.most_words = self.most_words.max(first as usize);
         if let Ok(b) = &expected {
             self.most_nets = self.most_nets.max(b.nets.len());
+            self.large += (b.rows.len() >= 16 && b.nets.len() >= 16 && b.rows.iter().any(|row| row != &b.rows[0])) as u64;
             self.full_cuts += b.cuts().iter().any(|&cut| b.cut_edges(cut) > 0 && b.margin(cut) == 0) as u64;
         }
         Some(memory[start..start + count].to_vec())
@@ -440,6 +442,7 @@ fn too_little(run: &Run) -> Vec<String> {
     let reached = [
         ("boards through routing", run.boards, 200_000),
         ("routings handed back", run.routed, 50_000),
+        ("routings on large uneven boards", run.large, 400),
         ("routings with a full cut", run.full_cuts, 35_000),
         ("nets on a board that is routed", run.most_nets as u64, 64),
         ("words of the longest routing", run.most_words as u64, 350),
@@ -458,7 +461,8 @@ fn print_run(run: &Run) {
         println!("{count:8} {kind}");
     }
     println!("{} boards through routing, {} lists judged", run.boards, run.judged);
-    println!("{} routings handed back, at most {} nets and {} words, {} with a full cut", run.routed, run.most_nets, run.most_words, run.full_cuts);
+    println!("{} routings handed back, at most {} nets and {} words", run.routed, run.most_nets, run.most_words);
+    println!("of them {} with a full cut, {} on uneven boards with 16 rows and 16 nets or more", run.full_cuts, run.large);
     println!("{} knock-knees in the lists that passed", run.knock_knees);
     REFUSALS.iter().for_each(|&number| println!("refusal {number}: {}", run.refused(number)));
     println!("refusal 22: {} (13 comes before it)", run.refused(22));
