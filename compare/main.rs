@@ -442,7 +442,7 @@ fn too_little(run: &Run) -> Vec<String> {
     let reached = [
         ("boards through routing", run.boards, 200_000),
         ("routings handed back", run.routed, 50_000),
-        ("routings on large uneven boards", run.large, 400),
+        ("routings on large uneven boards", run.large, 500),
         ("routings with a full cut", run.full_cuts, 35_000),
         ("nets on a board that is routed", run.most_nets as u64, 64),
         ("words of the longest routing", run.most_words as u64, 350),
