@@ -52,6 +52,21 @@ impl Run {
         *self.kinds.entry(kind.to_string()).or_insert(0) += 1;
     }
 
+    fn count_refused(&mut self, r: &Refusal) {
+        *self.refusals.entry(r.number).or_insert(0) += 1;
+        if r.number == 33 {
+            self.count(if r.place[0] == 0 { "33 for a row" } else { "33 for a column" });
+        }
+    }
+
+    fn count_routed(&mut self, b: &Board, words: usize) {
+        self.routed += 1;
+        self.most_words = self.most_words.max(words);
+        self.most_nets = self.most_nets.max(b.nets.len());
+        self.large += (b.rows.len() >= 16 && b.nets.len() >= 16 && b.rows.iter().any(|row| row != &b.rows[0])) as u64;
+        self.full_cuts += b.cuts().iter().any(|&cut| b.cut_edges(cut) > 0 && b.margin(cut) == 0) as u64;
+    }
+
     /// How often this refusal was due.
     fn refused(&self, number: u32) -> u64 {
         self.refusals.get(&number).copied().unwrap_or(0)
@@ -89,10 +104,7 @@ impl Run {
             self.difference("routing wrote to what it is not lent for writing", board, &[]);
         }
         if let Some(r) = refused {
-            *self.refusals.entry(r.number).or_insert(0) += 1;
-            if r.number == 33 {
-                self.count(if r.place[0] == 0 { "33 for a row" } else { "33 for a column" });
-            }
+            self.count_refused(&r);
             if (result, first, second) != (r.number, r.place[0] as u64, r.place[1] as u64) {
                 self.difference(&format!("routing: library {result} at {first} {second}, independent {r:?}"), board, &[]);
             }
@@ -108,12 +120,8 @@ impl Run {
         if memory[..start] != before[..start] || memory[start + count..] != before[start + count..] {
             self.difference("routing wrote outside its words", board, &memory[start..end]);
         }
-        self.routed += 1;
-        self.most_words = self.most_words.max(first as usize);
         if let Ok(b) = &expected {
-            self.most_nets = self.most_nets.max(b.nets.len());
-            self.large += (b.rows.len() >= 16 && b.nets.len() >= 16 && b.rows.iter().any(|row| row != &b.rows[0])) as u64;
-            self.full_cuts += b.cuts().iter().any(|&cut| b.cut_edges(cut) > 0 && b.margin(cut) == 0) as u64;
+            self.count_routed(b, first as usize);
         }
         Some(memory[start..start + count].to_vec())
     }
@@ -138,8 +146,8 @@ impl Run {
             self.difference(&format!("judging: library {result} {n:?}, independent {number} {numbers:?}"), board, list);
         }
         self.judged += 1;
-        if number != 0 {
-            *self.refusals.entry(number).or_insert(0) += 1;
+        if let Err(refusal) = &expected {
+            self.count_refused(refusal);
         }
         let report = expected.ok()?;
         self.knock_knees += report.knock_knees as u64;

@@ -79,7 +79,8 @@ uint32_t cidrask_route(const uint8_t *board, size_t board_length, uint8_t *buffe
  * Refused: *first is the place, *second and *third are 0.
  * Order: the board's 10 to 25 as above; the list's 10, 41; each word in turn through 42, 43; then path by path, each run's edges in turn through
  * 44, 45, and 46 after the last run. No other number comes. A word after the end gets 43 whatever it holds. */
-uint32_t cidrask_judge(const uint8_t *board, size_t board_length, const uint8_t *list, size_t list_length, uint64_t *first, uint64_t *second, uint64_t *third);
+uint32_t cidrask_judge(const uint8_t *board, size_t board_length, const uint8_t *list, size_t list_length, uint64_t *first, uint64_t *second,
+                       uint64_t *third);
 
 #ifdef __cplusplus
 }
