@@ -3,7 +3,8 @@
  * Boards. A board is 1 to 31 rows of unit cells, row 0 at the top; a row runs from column left to column right, 0 <= left < right <= 31. The corners
  * of its cells are the vertices and their sides the edges. A vertex is written (line, column); line i is the top of row i. A board is convex when of
  * any two rows one contains the other, and widths never shrink and then grow again from top to bottom. A vertex of degree d has 4 - d pins, and takes
- * as many terminals; it is odd when d plus its terminals is odd. A net has a number from 1 to 64 and a first and a second terminal.
+ * as many terminals; it is odd when d plus its terminals is odd. A net has a number from 1 to 64 and a first and a second terminal. Row i has the
+ * vertical edges of its cells, column j the horizontal edges between columns j and j + 1; a net crosses it when its terminals lie on different sides.
  *
  * Words. A word is four bytes, lowest first; bits not named are 0. A board is a row word for each row from the top, a net word for each net in rising
  * number, and an end word: at most 96 words. A routing is for each net, in rising number, a path word and its run words, then an end word: at most
@@ -22,8 +23,9 @@
  *   - first, second and third each point to a uint64_t that may be written;
  *   - what a call writes to (the buffer and the numbers) overlaps nothing else that the call is lent;
  *   - no other thread writes to what is lent while the call runs;
- *   - there is stack enough. This is not proved: in the library for x86-64, frames times the code's bounds on recursion come to under 480 KiB for
- *     cidrask_route and 17 KiB for cidrask_judge, which does not recurse; at most 49 KiB and 16 KiB were seen in use, over 80,000 large boards.
+ *   - there is stack enough. This is not proved. In the library for x86-64, frames times the code's bounds on recursion come to under 480 KiB for
+ *     cidrask_route, and to under 17 KiB for cidrask_judge, which does not recurse. Seen in use were at most 52 KiB and 16 KiB, over 80,000 random
+ *     large boards and some whose nets were changed step by step to use more.
  *
  * Answers. The result is 0 where the call is accepted, otherwise the number of the first refusal that holds, in the order told at the call.
  * An index counts words from 0. *first is the place; only 32 and 33 have a second number, in *second.
