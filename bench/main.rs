@@ -1,27 +1,23 @@
 //! Times the proved library, over its C interface, beside a plain Rust router that does the same steps.
 //!
 //!     main [SEED]
+//!     main once ROUTER FILE      the router proved, plain or table routes the board of that file, once: for counting instructions
 //!
 //! Before anything is timed, both route every board, and every damaged copy of one, and must answer with the same numbers and the same bytes.
 //! Each figure is the median of many rounds; in a round the sizes, the proved router, the plain one and the judge take turns, so that a change of
 //! load meets all of them. A ratio is the median of the rounds' ratios.
 
 mod boards;
+#[path = "../editor/cidrask.rs"]
+mod cidrask;
 mod plain;
 
 use boards::{longest, routable, Board, Random};
+use cidrask::{cidrask_judge, cidrask_route};
 use std::hint::black_box;
 use std::io::Write;
 use std::process::{Command, Stdio};
 use std::time::Instant;
-
-#[link(name = "editor", kind = "static")]
-extern "C" {
-    fn cidrask_route(board: *const u8, board_length: usize, buffer: *mut u8, buffer_length: usize, first: *mut u64, second: *mut u64) -> u32;
-    fn cidrask_judge(
-        board: *const u8, board_length: usize, list: *const u8, list_length: usize, first: *mut u64, second: *mut u64, third: *mut u64,
-    ) -> u32;
-}
 
 const ROUNDS: usize = 41;
 /// How long each part of a round takes, in seconds, about.
@@ -221,8 +217,33 @@ fn load() -> String {
     text.split(' ').next().unwrap_or("unknown").to_string()
 }
 
+fn once(router: &str, file: &str) {
+    let route = match router {
+        "proved" => proved,
+        "plain" => plain::route,
+        "table" => plain::route_by_table,
+        _ => usage(),
+    };
+    let board = std::fs::read(file).unwrap_or_else(|_| usage());
+    println!("{:?}", route(&board, &mut [0; BUFFER]));
+}
+
+fn usage() -> ! {
+    eprintln!("usage: bench/run [SEED]; target/bench/main once proved|plain|table FILE");
+    std::process::exit(2)
+}
+
 fn main() {
-    let seed = std::env::args().nth(1).map_or(1, |s| s.parse().expect("SEED is a number"));
+    let args: Vec<String> = std::env::args().skip(1).collect();
+    match &args[..] {
+        [] => times(1),
+        [seed] => times(seed.parse().unwrap_or_else(|_| usage())),
+        [word, router, file] if word == "once" => once(router, file),
+        _ => usage(),
+    }
+}
+
+fn times(seed: u64) {
     println!("seed {seed}, load over the last minute {}, {} processors", load(), std::thread::available_parallelism().map_or(0, |n| n.get()));
     let mut random = Random::new(seed);
     let mut groups: Vec<Group> =

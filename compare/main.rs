@@ -1,32 +1,28 @@
 //! Holds the proved library, over its C interface, against the independent side.
 //!
 //!     main [SEED]              all parts
-//!     main SEED PART CASE      one case again (part a or b)
+//!     main SEED PART CASE      one case again
 //!
-//! Parts: a, boards true and damaged through routing; b, lists true and damaged through judging; c, small boards against the exhaustive router.
-//! The first difference ends the run with status 1 and prints seed, part, case and the input's bytes.
+//! Parts: a, boards true and damaged through routing; b, lists true and damaged through judging; c, random small boards against the exhaustive
+//! router; d, every assignment of nets on small boards against it.
+//! The first difference ends the run with status 1 and prints seed, part, case and the input's bytes. So does a run whose inputs reach too little.
 
+#[path = "../editor/cidrask.rs"]
+mod cidrask;
 mod exhaustive;
 mod generate;
 mod independent;
 
+use cidrask::{cidrask_judge, cidrask_route};
 use exhaustive::Answer;
 use generate::*;
 use independent::*;
 use std::collections::BTreeMap;
 use std::time::Instant;
 
-#[link(name = "editor", kind = "static")]
-extern "C" {
-    fn cidrask_route(board: *const u8, board_length: usize, buffer: *mut u8, buffer_length: usize, first: *mut u64, second: *mut u64) -> u32;
-    fn cidrask_judge(
-        board: *const u8, board_length: usize, list: *const u8, list_length: usize, first: *mut u64, second: *mut u64, third: *mut u64,
-    ) -> u32;
-}
-
 const CASES_A: u64 = 220_000;
 const CASES_B: u64 = 120_000;
-const RANDOM_SMALL: u64 = 6_000;
+const CASES_C: u64 = 6_000;
 /// Bytes before and after a buffer that must stay as they are.
 const GUARD: usize = 16;
 
@@ -34,16 +30,19 @@ const GUARD: usize = 16;
 /// already is not above the last one, and gets 13 before any net is added.
 const REFUSALS: [u32; 20] = [10, 11, 12, 13, 14, 15, 16, 21, 23, 24, 25, 31, 32, 33, 41, 42, 43, 44, 45, 46];
 
+#[derive(Default)]
 struct Run {
     seed: u64,
     part: char,
     case: u64,
     kinds: BTreeMap<String, u64>,
     refusals: BTreeMap<u32, u64>,
+    boards: u64,
     routed: u64,
     judged: u64,
     most_words: usize,
     most_nets: usize,
+    large: u64,
     full_cuts: u64,
     knock_knees: u64,
 }
@@ -51,6 +50,26 @@ struct Run {
 impl Run {
     fn count(&mut self, kind: &str) {
         *self.kinds.entry(kind.to_string()).or_insert(0) += 1;
+    }
+
+    fn count_refused(&mut self, r: &Refusal) {
+        *self.refusals.entry(r.number).or_insert(0) += 1;
+        if r.number == 33 {
+            self.count(if r.place[0] == 0 { "33 for a row" } else { "33 for a column" });
+        }
+    }
+
+    fn count_routed(&mut self, b: &Board, words: usize) {
+        self.routed += 1;
+        self.most_words = self.most_words.max(words);
+        self.most_nets = self.most_nets.max(b.nets.len());
+        self.large += (b.rows.len() >= 16 && b.nets.len() >= 16 && b.rows.iter().any(|row| row != &b.rows[0])) as u64;
+        self.full_cuts += b.cuts().iter().any(|&cut| b.cut_edges(cut) > 0 && b.margin(cut) == 0) as u64;
+    }
+
+    /// How often this refusal was due.
+    fn refused(&self, number: u32) -> u64 {
+        self.refusals.get(&number).copied().unwrap_or(0)
     }
 
     fn difference(&self, what: &str, board: &[u8], list: &[u8]) -> ! {
@@ -79,15 +98,13 @@ impl Run {
         let buffer = memory[start..end].as_mut_ptr();
         let [first, second, _] = numbers.lend();
         let result = unsafe { cidrask_route(lent.start(), board.len(), buffer, buffer_length, first, second) };
+        self.boards += 1;
         let [first, second, third] = numbers.taken();
         if !lent.unchanged() || !numbers.guarded() || third != UNTOUCHED {
             self.difference("routing wrote to what it is not lent for writing", board, &[]);
         }
         if let Some(r) = refused {
-            *self.refusals.entry(r.number).or_insert(0) += 1;
-            if r.number == 33 {
-                self.count(if r.place[0] == 0 { "33 for a row" } else { "33 for a column" });
-            }
+            self.count_refused(&r);
             if (result, first, second) != (r.number, r.place[0] as u64, r.place[1] as u64) {
                 self.difference(&format!("routing: library {result} at {first} {second}, independent {r:?}"), board, &[]);
             }
@@ -103,11 +120,8 @@ impl Run {
         if memory[..start] != before[..start] || memory[start + count..] != before[start + count..] {
             self.difference("routing wrote outside its words", board, &memory[start..end]);
         }
-        self.routed += 1;
-        self.most_words = self.most_words.max(first as usize);
         if let Ok(b) = &expected {
-            self.most_nets = self.most_nets.max(b.nets.len());
-            self.full_cuts += b.cuts().iter().any(|&cut| b.cut_edges(cut) > 0 && b.margin(cut) == 0) as u64;
+            self.count_routed(b, first as usize);
         }
         Some(memory[start..start + count].to_vec())
     }
@@ -132,8 +146,8 @@ impl Run {
             self.difference(&format!("judging: library {result} {n:?}, independent {number} {numbers:?}"), board, list);
         }
         self.judged += 1;
-        if number != 0 {
-            *self.refusals.entry(number).or_insert(0) += 1;
+        if let Err(refusal) = &expected {
+            self.count_refused(refusal);
         }
         let report = expected.ok()?;
         self.knock_knees += report.knock_knees as u64;
@@ -206,6 +220,25 @@ impl Run {
             self.count("list for a damaged board");
             self.judge(&damaged, &list);
         }
+    }
+
+    /// A random even board of up to 5 by 5 cells.
+    fn part_c(&mut self, case: u64, found: &mut [u64; 4]) {
+        (self.part, self.case) = ('c', case);
+        let mut random = Random::of_case(self.seed, 'c', case);
+        let size = random.pick(&[3, 3, 4, 5]);
+        let rows = convex_rows(&mut random, size, size);
+        let mend = random.one_in(2);
+        let nets = even_nets(&mut random, &rows, mend);
+        self.small(&mut random, &Board { rows, nets }, 200_000, found);
+    }
+
+    /// These pairs as nets on this board.
+    fn part_d(&mut self, case: u64, bare: &Board, pairs: &[(Vertex, Vertex)], found: &mut [u64; 4]) {
+        (self.part, self.case) = ('d', case);
+        let mut random = Random::of_case(self.seed, 'd', case);
+        let nets = numbered(&mut random, pairs.to_vec());
+        self.small(&mut random, &Board { rows: bare.rows.clone(), nets }, u64::MAX, found);
     }
 
     /// One board with its nets: routing is accepted exactly when the exhaustive router finds paths.
@@ -364,43 +397,40 @@ fn boards_within(rows: usize, columns: usize) -> Vec<Board> {
     boards
 }
 
-fn part_c(run: &mut Run) {
-    run.part = 'c';
-    let mut random = Random::of_case(run.seed, 'c', 0);
-    // Every assignment.
+/// The small boards, those for every assignment of nets and those for every even one.
+fn small_boards() -> (Vec<Board>, Vec<Board>) {
     let mut every = boards_within(2, 2);
     every.extend([Board::bare(&[(0, 3)]), Board::bare(&[(0, 1), (0, 1), (0, 1)])]);
-    let mut only_even: Vec<Board> = boards_within(3, 3);
+    let mut only_even = boards_within(3, 3);
     only_even.retain(|b| !every.contains(b) && b.vertices().iter().map(|&v| b.pins(v)).sum::<usize>() <= 14);
+    (every, only_even)
+}
+
+/// Every assignment on the small boards, or the one of that number alone. Answers with how many there are.
+fn part_d(run: &mut Run, only: Option<u64>) -> u64 {
+    let (every, only_even) = small_boards();
+    let mut case = 0;
     for (boards, even, what) in [(&every, false, "every assignment"), (&only_even, true, "every even assignment")] {
         let (mut found, start) = ([0u64; 4], Instant::now());
         for bare in boards {
             assignments(bare, even, &mut |pairs| {
-                run.case += 1;
-                let nets = numbered(&mut random, pairs.to_vec());
-                run.small(&mut random, &Board { rows: bare.rows.clone(), nets }, u64::MAX, &mut found);
+                if only.is_none_or(|one| one == case) {
+                    run.part_d(case, bare, pairs, &mut found);
+                }
+                case += 1;
             });
         }
-        print_small(&format!("{what} on {} boards", boards.len()), found, start);
+        if only.is_none() {
+            print_small(&format!("{what} on {} boards", boards.len()), found, start);
+        }
     }
-    // Random boards.
-    let (mut found, start) = ([0u64; 4], Instant::now());
-    for case in 0..RANDOM_SMALL {
-        run.case = case;
-        let mut random = Random::of_case(run.seed, 'r', case);
-        let size = random.pick(&[3, 3, 4, 5]);
-        let rows = convex_rows(&mut random, size, size);
-        let mend = random.one_in(2);
-        let nets = even_nets(&mut random, &rows, mend);
-        run.small(&mut random, &Board { rows, nets }, 200_000, &mut found);
-    }
-    print_small("random even boards up to 5 by 5", found, start);
+    case
 }
 
 fn print_small(what: &str, found: [u64; 4], start: Instant) {
     let [paths, none, undecided, odd] = found;
     if paths < 100 || none < 100 || undecided * 20 > paths + none {
-        println!("exhaustive, {what}: too little was decided: {paths} with paths, {none} without, {undecided} not decided");
+        println!("FAILED: exhaustive, {what}: too little was decided: {paths} with paths, {none} without, {undecided} not decided");
         std::process::exit(1);
     }
     let time = start.elapsed().as_secs_f64();
@@ -409,39 +439,89 @@ fn print_small(what: &str, found: [u64; 4], start: Instant) {
 
 // ---------------------------------------------------------------- the whole run
 
-fn main() {
-    let args: Vec<String> = std::env::args().skip(1).collect();
-    let seed = args.first().map_or(1985, |s| s.parse().expect("a seed is a number"));
-    let (kinds, refusals) = (BTreeMap::new(), BTreeMap::new());
-    let mut run = Run { seed, part: ' ', case: 0, kinds, refusals, routed: 0, judged: 0, most_words: 0, most_nets: 0, full_cuts: 0, knock_knees: 0 };
-    println!("seed {seed}");
-    if args.len() == 3 {
-        let case = args[2].parse().expect("a case is a number");
-        match args[1].as_str() {
-            "a" => run.part_a(case),
-            "b" => run.part_b(case),
-            _ => panic!("part a or b"),
-        }
-        return println!("no difference in this case");
+/// Every kind of input.
+fn kinds() -> impl Iterator<Item = &'static str> {
+    let others = ["33 for a row", "33 for a column", "routing from random trails", "list for a damaged board"];
+    BOARD_KINDS.into_iter().chain(LIST_KINDS).chain(others)
+}
+
+/// What parts a and b did not reach. The bounds are two thirds or less of what each of the seeds 1985, 1 and 2 reaches; 64 nets are all there can be.
+fn too_little(run: &Run) -> Vec<String> {
+    let reached = [
+        ("boards through routing", run.boards, 200_000),
+        ("routings handed back", run.routed, 50_000),
+        ("routings on large uneven boards", run.large, 500),
+        ("routings with a full cut", run.full_cuts, 35_000),
+        ("nets on a board that is routed", run.most_nets as u64, 64),
+        ("words of the longest routing", run.most_words as u64, 350),
+        ("lists judged", run.judged, 200_000),
+        ("knock-knees", run.knock_knees, 150_000),
+    ];
+    let mut all: Vec<(String, u64, u64)> = reached.map(|(what, seen, least)| (what.to_string(), seen, least)).into();
+    all.extend(kinds().map(|kind| (format!("inputs of the kind \"{kind}\""), run.kinds.get(kind).copied().unwrap_or(0), 1_000)));
+    all.extend(REFUSALS.map(|number| (format!("refusals by {number}"), run.refused(number), 50)));
+    let short = all.into_iter().filter(|(_, seen, least)| seen < least);
+    short.map(|(what, seen, least)| format!("{what}: {seen}, at least {least} are due")).collect()
+}
+
+fn print_run(run: &Run) {
+    for (kind, count) in &run.kinds {
+        println!("{count:8} {kind}");
     }
+    println!("{} boards through routing, {} lists judged", run.boards, run.judged);
+    println!("{} routings handed back, at most {} nets and {} words", run.routed, run.most_nets, run.most_words);
+    println!("of them {} with a full cut, {} on uneven boards with 16 rows and 16 nets or more", run.full_cuts, run.large);
+    println!("{} knock-knees in the lists that passed", run.knock_knees);
+    REFUSALS.iter().for_each(|&number| println!("refusal {number}: {}", run.refused(number)));
+    println!("refusal 22: {} (13 comes before it)", run.refused(22));
+}
+
+fn whole(run: &mut Run) {
     let start = Instant::now();
     (0..CASES_A).for_each(|case| run.part_a(case));
     println!("part a: {CASES_A} boards, {} routings handed back; {:.1} s", run.routed, start.elapsed().as_secs_f64());
     let start = Instant::now();
     (0..CASES_B).for_each(|case| run.part_b(case));
     println!("part b: {CASES_B} boards, each with 3 lists or more; {:.1} s", start.elapsed().as_secs_f64());
-    part_c(&mut run);
-    for (kind, count) in &run.kinds {
-        println!("{count:8} {kind}");
-    }
-    println!("{} routings handed back, at most {} nets and {} words, {} with a full cut", run.routed, run.most_nets, run.most_words, run.full_cuts);
-    println!("{} lists judged, {} knock-knees in those that passed", run.judged, run.knock_knees);
-    let times = |number: &u32| run.refusals.get(number).copied().unwrap_or(0);
-    REFUSALS.iter().for_each(|number| println!("refusal {number}: {}", times(number)));
-    println!("refusal 22: {} (13 comes before it)", times(&22));
-    if let Some(number) = REFUSALS.iter().find(|number| times(number) < 50) {
-        println!("FAILED: refusal {number} came fewer than 50 times");
+    print_run(run);
+    let short = too_little(run);
+    if !short.is_empty() {
+        println!("FAILED: parts a and b reach too little\n{}", short.join("\n"));
         std::process::exit(1);
     }
+    let (mut found, start) = ([0; 4], Instant::now());
+    (0..CASES_C).for_each(|case| run.part_c(case, &mut found));
+    print_small("random even boards up to 5 by 5", found, start);
+    part_d(run, None);
     println!("no difference");
+}
+
+fn usage() -> ! {
+    eprintln!("usage: compare/run [SEED [PART CASE]], with part a, b, c or d");
+    std::process::exit(2)
+}
+
+fn again(run: &mut Run, part: &str, case: u64) {
+    match part {
+        "a" => run.part_a(case),
+        "b" => run.part_b(case),
+        "c" => run.part_c(case, &mut [0; 4]),
+        "d" if case < part_d(run, Some(case)) => {}
+        _ => usage(),
+    }
+    println!("no difference in this case");
+}
+
+fn main() {
+    let args: Vec<String> = std::env::args().skip(1).collect();
+    let number = |text: &String| text.parse().unwrap_or_else(|_| usage());
+    let mut run = Run { seed: args.first().map_or(1985, number), ..Run::default() };
+    match &args[..] {
+        [] | [_] => {
+            println!("seed {}", run.seed);
+            whole(&mut run);
+        }
+        [_, part, case] => again(&mut run, part, number(case)),
+        _ => usage(),
+    }
 }

@@ -1,37 +1,60 @@
 /* Cidrask for C: routing and judging boards, on bytes.
  *
- * A word is four bytes, lowest first. A board is a list of board words; a routing is a list of routing words.
- * Both functions are proved: they end on every input, read and write nothing but what they are lent, and keep no state between calls.
+ * Boards. A board is 1 to 31 rows of unit cells, row 0 at the top; a row runs from column left to column right, 0 <= left < right <= 31. The corners
+ * of its cells are the vertices and their sides the edges. A vertex is written (line, column); line i is the top of row i. A board is convex when of
+ * any two rows one contains the other, and widths never shrink and then grow again from top to bottom. A vertex of degree d has 4 - d pins, and takes
+ * as many terminals; it is odd when d plus its terminals is odd. A net has a number from 1 to 64 and a first and a second terminal. Row i has the
+ * vertical edges of its cells, column j the horizontal edges between columns j and j + 1; a net crosses it when its terminals lie on different sides.
  *
+ * Words. A word is four bytes, lowest first; bits not named are 0. A board is a row word for each row from the top, a net word for each net in rising
+ * number, and an end word: at most 96 words. A routing is for each net, in rising number, a path word and its run words, then an end word: at most
+ * 2,049 words. A path goes from its net's first terminal to its second, two runs in a row differ in direction, and no edge is used twice.
+ *   row            31-28 = 1, 9-5 left, 4-0 right
+ *   net            31-28 = 2, 27-20 number, 19-15 line and 14-10 column of the first terminal, 9-5 line and 4-0 column of the second
+ *   board's end    31-28 = 15, 15-8 count of rows, 7-0 count of nets
+ *   path           31-28 = 4, 27-20 net number, 10-0 count of run words that follow
+ *   run            31-28 = 5, 27-26 direction (0 up, 1 right, 2 down, 3 left), 4-0 length 1 to 31
+ *   routing's end  31-28 = 14, 7-0 count of paths
+ *
+ * Both functions are proved: they end on every input, read and write nothing but what they are lent, and keep no state between calls.
  * The caller sees to this:
  *   - a pointer to bytes goes with a length, and may be read (or written) for that many bytes; it is not NULL, also where the length is 0,
  *     and no length is above PTRDIFF_MAX;
  *   - first, second and third each point to a uint64_t that may be written;
  *   - what a call writes to (the buffer and the numbers) overlaps nothing else that the call is lent;
- *   - no other thread writes to what is lent while the call runs.
+ *   - no other thread writes to what is lent while the call runs;
+ *   - there is stack enough. This is not proved. In the library for x86-64, frames times the code's bounds on recursion come to under 480 KiB for
+ *     cidrask_route, and to under 17 KiB for cidrask_judge, which does not recurse. Seen in use were at most 52 KiB and 16 KiB, over 80,000 random
+ *     large boards and some whose nets were changed step by step to use more.
  *
- * Answers. The result is 0 where the call is accepted, otherwise the number of the refusal:
- *   10  the count of the board's bytes, or of the list's, is not a multiple of 4      place 0
- *   11  a board's list has no words or more than 96                                   place 0
- *   12  a board word of another kind, or with an unnamed bit set                      place its index
- *   13  a board word out of order (a net's number not above the last one's too), or no
- *       end word (then the list's length)                                             place its index
- *   14  a row whose left is not below its right, or a 32nd row                        place its index
- *   15  the end word's counts differ                                                  place its index
- *   16  the board is not convex                                                       place 0
- *   21  a net's number is not 1 to 64                                                 place its word's index
- *   23  a net's terminal is no vertex                                                 place its word's index
- *   24  both terminals of a net are one vertex                                        place its word's index
- *   25  a terminal's pins are all taken                                               place its word's index
- *   31  the buffer has room for fewer than 2,049 words                                place 0
- *   32  a vertex is odd                                                               place its line, its column
- *   33  a row or column is crossed by more nets than it has edges                     place 0 row or 1 column, its index
- *   41  the list has no words or more than 2,049                                      place 0
- *   42  a routing word of another kind, or badly made                                 place its index
- *   43  a routing word out of order, or the list is over early (then its length)      place its index
- *   44  a run leaves the board's edges                                                place the run's index
- *   45  a run uses an edge again                                                      place the run's index
- *   46  a path does not end at its net's second terminal                              place the path word's index
+ * Answers. The result is 0 where the call is accepted, otherwise the number of the first refusal that holds, in the order told at the call.
+ * An index counts words from 0. *first is the place; only 32 and 33 have a second number, in *second.
+ *   10  the count of the board's bytes, or of the list's, is not a multiple of 4      0
+ *   11  the board has no words or more than 96                                        0
+ *   12  a board word of another kind, or with an unnamed bit set                      its index
+ *   13  the first word is no row, a row comes after a net, a net's number is not
+ *       above the last one's, or a word comes after the end                           its index
+ *       the board is over without an end word                                         count of its words
+ *   14  a row whose left is not below its right, or a 32nd row                        its index
+ *   15  a count of the end word differs                                               its index
+ *   16  the board is not convex                                                       0
+ *   21  a net's number is not 1 to 64                                                 its word's index
+ *   23  a terminal is no vertex                                                       its word's index
+ *   24  both terminals are one vertex                                                 its word's index
+ *   25  a terminal's pins are all taken, by the nets before                           its word's index
+ *   31  the buffer has room for fewer than 2,049 words                                0
+ *   32  a vertex is odd: the first, line by line and column by column                 its line; its column
+ *   33  a row or column is crossed by more nets than it has edges: the first, rows
+ *       from the top, then columns from the left                                      0 row or 1 column; its index
+ *   41  the list has no words or more than 2,049                                      0
+ *   42  a routing word not of the kind due, with an unnamed bit set, of length 0, or
+ *       in the direction of the run before                                            its index
+ *   43  a path not of the next net, an end word before all nets have a path or with
+ *       another count, or a word after the end                                        its index
+ *       the list is over without an end word                                          count of its words
+ *   44  a run leaves the board's edges                                                the run's index
+ *   45  a run uses an edge again                                                      the run's index
+ *   46  a path does not end at its net's second terminal                              the path word's index
  */
 #ifndef CIDRASK_H
 #define CIDRASK_H
@@ -39,23 +62,27 @@
 #include <stddef.h>
 #include <stdint.h>
 
+#define CIDRASK_BOARD_WORDS 96     /* the most words of a board */
+#define CIDRASK_ROUTING_WORDS 2049 /* the most words of a routing, and the least room for one: 4 * 2049 bytes */
+
 #ifdef __cplusplus
 extern "C" {
 #endif
 
-/* Reads a board and routes its nets into a buffer.
- * Accepted: the routing words stand at the start of the buffer; *first is their count, at most 2,049, and *second is 0. The bytes after them
- * are untouched.
- * Refused: *first and *second are the place (*second is 0 where the place is one number); the whole buffer is untouched.
- * The board is read first. The buffer counts as its whole groups of four bytes. */
+/* Reads a board and routes its nets into a buffer, which counts as its whole groups of four bytes.
+ * Accepted: a routing's words stand at the start of the buffer; *first is their count, and *second is 0. The bytes after them are untouched.
+ * Refused: *first and *second are the place, *second 0 where it is one number; the whole buffer is untouched.
+ * Order: 10, 11; each word in turn through 12 to 15; 16; each net in turn through 21, 23, 24, 25; 31, 32, 33. No other number comes. */
 uint32_t cidrask_route(const uint8_t *board, size_t board_length, uint8_t *buffer, size_t buffer_length, uint64_t *first, uint64_t *second);
 
-/* Reads a board and judges a list of routing words against it.
- * Accepted: the list is the routing words of a routing of the board's nets. *first is the count of edges used, *second the count of turns,
- * *third that of knock-knees (vertices where two different nets each turn).
+/* Reads a board and judges a list of routing words against it; the board may be odd or have overfull rows and columns.
+ * Accepted: the list is the words of a routing of the board's nets. *first is the count of edges used, *second the count of turns (changes of
+ * direction along paths), *third that of knock-knees (vertices where two different nets each turn).
  * Refused: *first is the place, *second and *third are 0.
- * The board is read first, then the list's bytes get 10. */
-uint32_t cidrask_judge(const uint8_t *board, size_t board_length, const uint8_t *list, size_t list_length, uint64_t *first, uint64_t *second, uint64_t *third);
+ * Order: the board's 10 to 25 as above; the list's 10, 41; each word in turn through 42, 43; then path by path, each run's edges in turn through
+ * 44, 45, and 46 after the last run. No other number comes. A word after the end gets 43 whatever it holds. */
+uint32_t cidrask_judge(const uint8_t *board, size_t board_length, const uint8_t *list, size_t list_length, uint64_t *first, uint64_t *second,
+                       uint64_t *third);
 
 #ifdef __cplusplus
 }

@@ -1,17 +1,24 @@
-/* A small layout editor: reads a board from a file, has it routed, has the routing judged, and prints a picture of the board.
+/* A small layout editor: reads a board from a file, has it routed, has the routing judged, and prints a picture of the board with the routing.
  *
  *     layout FILE
+ *     layout FILE LIST     judges the routing words in the file LIST, instead of having the board routed
  *
- * Prints "refused", the number and the place, and ends with status 1, where the board is refused; with status 2 where the file cannot be read.
+ * Ends with status 0, or with
+ *   1  the board, or the list, is refused: prints "refused", the number and the place;
+ *   2  a file cannot be read, or the program is called another way;
+ *   3  the routing does not pass the judge.
+ * What belongs to 2 and 3 is told on standard error.
+ *
  * In the picture "+" is a vertex and "o" one with terminals. An edge that a net uses shows the net's sign: 1 to 9, A to Z, a to z, then #, @ and &
  * for nets 1 to 64; an edge that no net uses is drawn thin. */
 #include <stdint.h>
 #include <stdio.h>
+#include <stdlib.h>
 #include <string.h>
 
 #include "cidrask.h"
 
-enum { LINES = 32, WORDS = 2049, LONGEST = 4 * 97 };
+enum { LINES = 32 };
 
 static const char signs[] = "?123456789ABCDEFGHIJKLMNOPQRSTUVWXYZabcdefghijklmnopqrstuvwxyz#@&";
 
@@ -114,40 +121,46 @@ static int refused(uint32_t number, uint64_t first, uint64_t second) {
     return 1;
 }
 
-/* Reads the file's bytes. A file of more than 97 words is refused whatever it holds: of its bytes 97 words are kept, and as many more as tell whether
- * their count is a multiple of 4. */
-static size_t read_board(FILE *f, uint8_t board[LONGEST + 3]) {
-    size_t length = fread(board, 1, LONGEST, f), more = 0;
-    while (length == LONGEST && fgetc(f) != EOF) more++;
-    for (size_t i = 0; i < more % 4; i++) board[length++] = 0;
+/* Reads a file's bytes, where a list of more than `most` words is refused whatever it holds: of a longer file one word more is kept, and as many
+ * bytes as tell whether their count is a multiple of 4. */
+static size_t read_file(const char *name, uint8_t *bytes, size_t most) {
+    FILE *f = fopen(name, "rb");
+    size_t length = f ? fread(bytes, 1, 4 * most + 4, f) : 0, more = 0;
+    while (length == 4 * most + 4 && fgetc(f) != EOF) more++;
+    if (!f || ferror(f)) {
+        fprintf(stderr, "layout: %s cannot be read\n", name);
+        exit(2);
+    }
+    fclose(f);
+    for (size_t i = 0; i < more % 4; i++) bytes[length++] = 0;
     return length;
 }
 
 int main(int argc, char **argv) {
-    static uint8_t board[LONGEST + 3], routing[4 * WORDS];
+    static uint8_t board[4 * CIDRASK_BOARD_WORDS + 7], routing[4 * CIDRASK_ROUTING_WORDS + 7];
     static struct picture p;
-    uint64_t count, second, edges, turns, knocks;
-    FILE *f = argc == 2 ? fopen(argv[1], "rb") : NULL;
-    if (!f) {
-        fprintf(stderr, "usage: layout FILE\n");
+    uint64_t first, second, third;
+    if (argc != 2 && argc != 3) {
+        fprintf(stderr, "usage: layout FILE [LIST]\n");
         return 2;
     }
-    size_t length = read_board(f, board);
-    if (ferror(f)) {
-        fprintf(stderr, "layout: %s cannot be read\n", argv[1]);
-        return 2;
+    size_t length = read_file(argv[1], board, CIDRASK_BOARD_WORDS), listed;
+    if (argc == 3) {
+        listed = read_file(argv[2], routing, CIDRASK_ROUTING_WORDS);
+    } else {
+        uint32_t r = cidrask_route(board, length, routing, sizeof routing, &first, &second);
+        if (r != 0) return refused(r, first, second);
+        listed = 4 * first;
     }
-    fclose(f);
-    uint32_t r = cidrask_route(board, length, routing, sizeof routing, &count, &second);
-    if (r != 0) return refused(r, count, second);
-    r = cidrask_judge(board, length, routing, 4 * count, &edges, &turns, &knocks);
+    uint32_t r = cidrask_judge(board, length, routing, listed, &first, &second, &third);
+    if (r != 0 && argc == 3) return refused(r, first, 0);
     if (r != 0) {
-        fprintf(stderr, "layout: the routing does not pass: ");
-        return refused(r, edges, 0);
+        fprintf(stderr, "layout: the routing does not pass the judge: %u %llu\n", (unsigned)r, (unsigned long long)first);
+        return 3;
     }
     draw_board(&p, board, length / 4);
-    draw_paths(&p, board, length / 4, routing, count);
+    draw_paths(&p, board, length / 4, routing, listed / 4);
     print_picture(&p);
-    printf("%llu edges, %llu turns, %llu knock-knees\n", (unsigned long long)edges, (unsigned long long)turns, (unsigned long long)knocks);
+    printf("%llu edges, %llu turns, %llu knock-knees\n", (unsigned long long)first, (unsigned long long)second, (unsigned long long)third);
     return 0;
 }
