@@ -1,7 +1,7 @@
 //! Times the proved library, over its C interface, beside a plain Rust router that does the same steps.
 //!
 //!     main [SEED]
-//!     main once ROUTER FILE      the router proved, plain or table routes the board of that file, once: for counting instructions
+//!     main once ROUTER FILE      the router proved or plain routes the board of that file, once: for counting instructions
 //!
 //! Before anything is timed, both route every board, and every damaged copy of one, and must answer with the same numbers and the same bytes.
 //! Each figure is the median of many rounds; in a round the sizes, the proved router, the plain one and the judge take turns, so that a change of
@@ -52,13 +52,11 @@ struct Group {
 fn same(board: &[u8]) -> (plain::Answer, Vec<u8>) {
     let mut words = vec![0xA5; BUFFER];
     let answer = proved(board, &mut words);
-    for route in [plain::route, plain::route_by_table] {
-        let mut others = vec![0xA5; BUFFER];
-        let other = route(board, &mut others);
-        if answer != other || words != others {
-            println!("DIFFERENCE: proved {answer:?}, plain {other:?}, on {board:02X?}");
-            std::process::exit(1);
-        }
+    let mut others = vec![0xA5; BUFFER];
+    let other = plain::route(board, &mut others);
+    if answer != other || words != others {
+        println!("DIFFERENCE: proved {answer:?}, plain {other:?}, on {board:02X?}");
+        std::process::exit(1);
     }
     (answer, words)
 }
@@ -125,11 +123,10 @@ fn seconds(times: usize, mut call: impl FnMut()) -> f64 {
 enum Call {
     Proved,
     Plain,
-    Table,
     Judge,
 }
 
-const CALLS: [Call; 4] = [Call::Proved, Call::Plain, Call::Table, Call::Judge];
+const CALLS: [Call; 3] = [Call::Proved, Call::Plain, Call::Judge];
 
 /// One call on each board of a group.
 fn pass(group: &Group, call: Call, buffer: &mut [u8]) {
@@ -138,26 +135,25 @@ fn pass(group: &Group, call: Call, buffer: &mut [u8]) {
         match call {
             Call::Proved => _ = black_box(proved(board, buffer)),
             Call::Plain => _ = black_box(plain::route(board, buffer)),
-            Call::Table => _ = black_box(plain::route_by_table(board, buffer)),
             Call::Judge => _ = black_box(judged(board, black_box(list))),
         }
     }
 }
 
 /// Seconds a call in each round, by group and by what is called.
-struct Rounds(Vec<Vec<[f64; 4]>>);
+struct Rounds(Vec<Vec<[f64; 3]>>);
 
 impl Rounds {
     fn new(groups: &[Group]) -> Rounds {
         let mut buffer = vec![0; BUFFER];
-        let often: Vec<[usize; 4]> = groups.iter().map(|g| CALLS.map(|call| turns(|| pass(g, call, &mut buffer)))).collect();
-        let mut one = |g: &Group, often: &[usize; 4]| {
+        let often: Vec<[usize; 3]> = groups.iter().map(|g| CALLS.map(|call| turns(|| pass(g, call, &mut buffer)))).collect();
+        let mut one = |g: &Group, often: &[usize; 3]| {
             CALLS.map(|call| seconds(often[call as usize], || pass(g, call, &mut buffer)) / g.cases.len() as f64)
         };
         Rounds((0..ROUNDS).map(|_| groups.iter().zip(&often).map(|(g, o)| one(g, o)).collect()).collect())
     }
 
-    fn median(&self, figure: impl Fn(&[[f64; 4]]) -> f64) -> f64 {
+    fn median(&self, figure: impl Fn(&[[f64; 3]]) -> f64) -> f64 {
         median(self.0.iter().map(|round| figure(round)).collect())
     }
 
@@ -172,20 +168,19 @@ impl Rounds {
 
     /// The time a vertex of the group `large` over that of the group `small`.
     fn growth(&self, groups: &[Group], call: Call, small: usize, large: usize) -> f64 {
-        let time = |round: &[[f64; 4]], g: usize| round[g][call as usize] / groups[g].vertices;
+        let time = |round: &[[f64; 3]], g: usize| round[g][call as usize] / groups[g].vertices;
         self.median(|round| time(round, large) / time(round, small))
     }
 }
 
 fn print_rounds(groups: &[Group], rounds: &Rounds) {
-    println!("\n                          routes a second                    ns a vertex      judgements  proved over plain");
-    println!("boards    vertices  nets   proved    plain  proved:plain   proved    plain    a second    with a table");
+    println!("\n                          routes a second                    ns a vertex      judgements");
+    println!("boards    vertices  nets   proved    plain  proved:plain   proved    plain    a second");
     for (i, g) in groups.iter().enumerate() {
         let (proved, plain, judge) = (rounds.time(i, Call::Proved), rounds.time(i, Call::Plain), rounds.time(i, Call::Judge));
         let ratio = rounds.ratio(i, Call::Plain);
         print!("{:9} {:8.0} {:5.0} {:8.0} {:8.0} {:13.2}", g.name, g.vertices, g.nets, 1.0 / proved, 1.0 / plain, ratio);
-        let table = rounds.ratio(i, Call::Table);
-        println!(" {:8.0} {:8.0} {:11.0} {:15.2}", 1e9 * proved / g.vertices, 1e9 * plain / g.vertices, 1.0 / judge, table);
+        println!(" {:8.0} {:8.0} {:11.0}", 1e9 * proved / g.vertices, 1e9 * plain / g.vertices, 1.0 / judge);
     }
     let [proved, plain] = [Call::Proved, Call::Plain].map(|call| rounds.growth(groups, call, 0, 3));
     println!("time a vertex, 31 by 31 over 4 by 4: proved {proved:.2}, plain {plain:.2}");
@@ -221,7 +216,6 @@ fn once(router: &str, file: &str) {
     let route = match router {
         "proved" => proved,
         "plain" => plain::route,
-        "table" => plain::route_by_table,
         _ => usage(),
     };
     let board = std::fs::read(file).unwrap_or_else(|_| usage());
@@ -229,7 +223,7 @@ fn once(router: &str, file: &str) {
 }
 
 fn usage() -> ! {
-    eprintln!("usage: bench/run [SEED]; target/bench/main once proved|plain|table FILE");
+    eprintln!("usage: bench/run [SEED]; target/bench/main once proved|plain FILE");
     std::process::exit(2)
 }
 

@@ -244,30 +244,21 @@ fn is_sound(board: &Board, nets: &Nets) -> bool {
 }
 
 fn first_odd(board: &Board, nets: &Nets) -> Option<Vertex> {
-    for line in 0..=board.rows.len() as u8 {
-        for column in 0..32 {
-            let v = Vertex { line, column };
-            let around = board.around(v);
-            if around.any() && (around.degree() + terminals_at(nets, v)) % 2 == 1 {
-                return Some(v);
-            }
-        }
-    }
-    None
-}
-
-/// The same by one table of all terminals, which is not how the proved router goes about it.
-fn first_odd_by_table(board: &Board, nets: &Nets) -> Option<Vertex> {
     let mut terminals = [0; 1024];
     for p in nets.iter().flatten() {
         terminals[spot(p.first) as usize] += 1;
         terminals[spot(p.second) as usize] += 1;
     }
-    let mut vertices = (0..=board.rows.len() as u8).flat_map(|line| (0..32).map(move |column| Vertex { line, column }));
-    vertices.find(|&v| {
-        let around = board.around(v);
-        around.any() && (around.degree() + terminals[spot(v) as usize]) % 2 == 1
-    })
+    for line in 0..=board.rows.len() as u8 {
+        for column in 0..32 {
+            let v = Vertex { line, column };
+            let around = board.around(v);
+            if around.any() && (around.degree() + terminals[spot(v) as usize]) % 2 == 1 {
+                return Some(v);
+            }
+        }
+    }
+    None
 }
 
 fn row_overfull(board: &Board, nets: &Nets, i: u8) -> bool {
@@ -583,7 +574,8 @@ impl Router {
     }
 }
 
-fn route_with(board: &[u8], buffer: &mut [u8], first_odd: fn(&Board, &Nets) -> Option<Vertex>) -> Answer {
+/// Reads a board and routes its nets into the buffer, as `cidrask_route` does.
+pub fn route(board: &[u8], buffer: &mut [u8]) -> Answer {
     let (board, nets) = read(board)?;
     if !is_sound(&board, &nets) {
         return refuse(20, 0, 0);
@@ -604,14 +596,4 @@ fn route_with(board: &[u8], buffer: &mut [u8], first_odd: fn(&Board, &Nets) -> O
         bytes.copy_from_slice(&w.to_le_bytes());
     }
     Ok(words.len())
-}
-
-/// Reads a board and routes its nets into the buffer, as `cidrask_route` does.
-pub fn route(board: &[u8], buffer: &mut [u8]) -> Answer {
-    route_with(board, buffer, first_odd)
-}
-
-/// The same with a table of terminals, to show what the step by step search for an odd vertex costs.
-pub fn route_by_table(board: &[u8], buffer: &mut [u8]) -> Answer {
-    route_with(board, buffer, first_odd_by_table)
 }

@@ -1,3 +1,4 @@
 pub mod Terminals
 pub mod View
 pub mod Same
+pub mod Grid

@@ -13,6 +13,7 @@ use Rattle.board.specs.declared.Direction.the-variants.{Up, Right, Down, Left}
 use Rattle.words.specs.declared.Run.{Run}
 use Rattle.shape.specs.declared.Last.{Last}
 use Rattle.shape.specs.declared.Last.the-variants.{Nothing, Was}
+use Rattle.net.specs.Grid.{changedAt}
 use Rattle.report.specs.declared.Trace.{Trace}
 
 -- ── a run ──
@@ -67,8 +68,8 @@ begin v = record { line = v .line; column = v .column; last = Nothing; edges = 0
 abbrev pub marked : (m k : ℕ) → ℕ
 marked m k = cond (eqb m 0) k (cond (eqb m k) k 128)
 
-unfoldable pub markAt : (line column k : ℕ) → List ℕ → List ℕ
-markAt l c k a = cond (ltb l 32) (cond (ltb c 32) (set a (l * 32 + c) (marked (getD a (l * 32 + c) 0) k)) a) a
+abbrev pub markAt : (line column k : ℕ) → List ℕ → List ℕ
+markAt l c k a = changedAt (λ m. marked m k) l c a
 
 unfoldable pub markRun : ℕ → Trace → Run → List ℕ → List ℕ
 markRun k t r a = cond (eqb (turnBy (t .last) r) 1) (markAt (t .line) (t .column) k a) a

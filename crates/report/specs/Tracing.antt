@@ -23,6 +23,7 @@ use Rattle.words.specs.declared.Run.{Run}
 use Rattle.calls.specs.Report.{turnsAt}
 use Rattle.shape.specs.declared.Last.{Last}
 use Rattle.shape.specs.declared.Last.the-variants.{Nothing, Was}
+use Rattle.net.specs.Grid.{length-changed, changed-same, changed-other}
 use Rattle.report.specs.Traces.{turnBy, traceRun, begin, marked, markAt, markRun}
 use Rattle.report.specs.Directions.{dirsOf, edges-run, turnsAfter, turns-run, turnsFrom, from-run}
 use Rattle.report.specs.Codes.{Coding, before, code-turn, code-done, Says}
@@ -37,40 +38,13 @@ turn-one (Was e) r = go (ltb 0 (r .length) && not (eqb (number e) (number (r .di
     go true = inr refl
     go false = inl refl
 
-length-mark : (l c k : ℕ) (a : List ℕ) → length (markAt l c k a) ≡ length a
-unfolding markAt
-length-mark l c k a = go (ltb l 32) (ltb c 32)
-  where
-    go : (s t : Bool) → length (cond s (cond t (set a (l * 32 + c) (marked (getD a (l * 32 + c) 0) k)) a) a) ≡ length a
-    go true true = length-set a (l * 32 + c) (marked (getD a (l * 32 + c) 0) k)
-    go true false = refl
-    go false t = refl
-
 length-mark-run : (k : ℕ) (t : Trace) (r : Run) (a : List ℕ) → length (markRun k t r a) ≡ length a
 unfolding markRun
 length-mark-run k t r a = go (eqb (turnBy (t .last) r) 1)
   where
     go : (s : Bool) → length (cond s (markAt (t .line) (t .column) k a) a) ≡ length a
-    go true = length-mark (t .line) (t .column) k a
+    go true = length-changed (λ m. marked m k) (t .line) (t .column) a
     go false = refl
-
-mark-same : (k l c : ℕ) (a : List ℕ) → length a ≡ 1024 → l < 32 → c < 32 → getD (markAt l c k a) (l * 32 + c) 0 ≡ marked (getD a (l * 32 + c) 0) k
-unfolding markAt
-mark-same k l c a e p q = rw (lt-ltb l 32 p, lt-ltb c 32 q) (getD-set-same a (l * 32 + c) (marked (getD a (l * 32 + c) 0) k) 0 (omega arith))
-
-mark-other : (k l c m d : ℕ) (a : List ℕ) → same (at l c) (at m d) ≡ false → d < 32 → getD (markAt l c k a) (m * 32 + d) 0 ≡ getD a (m * 32 + d) 0
-unfolding markAt
-mark-other k l c m d a s p = elim (bool (ltb l 32)) [
-  | inl t ↦ elim (bool (ltb c 32)) [
-    | inl u ↦
-        let n : m * 32 + d ≡ l * 32 + c → ⊥ = λ e.
-        let x = digits-apart m d l c p (ltb-true c 32 u) e in
-        clash (same-exact (at l c) (at m d) .1 (rw (x .0, x .1) refl)) s in
-        rw (t, u) (getD-set-other a (l * 32 + c) (m * 32 + d) (marked (getD a (l * 32 + c) 0) k) 0 n)
-    | inr u ↦ rw (t, u) refl
-  ]
-  | inr t ↦ rw t refl
-]
 
 -- the mark of the vertex (m, d), with the turns of net k there so far
 mark-run : {k n x : ℕ} → 0 < k → k ≤ 64 → (t : Trace) (r : Run) (a : List ℕ) (m d : ℕ) → length a ≡ 1024 → m < 32 → d < 32
@@ -85,10 +59,10 @@ mark-run {k} {n} {x} kp kq t r a m d e p q h = elim (turn-one (t .last) r) [
         let ul : t .line ≡ m = ap (λ (v : Vertex). v .line) u in
         let uc : t .column ≡ d = ap (λ (v : Vertex). v .column) u in
         let y : x + 1 ≡ suc x = omega arith in
-        rw (s, z, y, ul, uc, mark-same k m d a e p q) (code-turn kp kq h)
+        rw (s, z, y, ul, uc, changed-same (λ m. marked m k) m d a e p q) (code-turn kp kq h)
     | inr s ↦
         let y : x + 0 ≡ x = omega arith in
-        rw (s, z, y, mark-other k (t .line) (t .column) m d a s q) h
+        rw (s, z, y, changed-other (λ m. marked m k) (t .line) (t .column) m d a s q) h
   ]
 ]
   where

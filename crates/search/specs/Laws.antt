@@ -3,18 +3,20 @@
 use mathlib.Core.Path.{_≡_, refl}
 use mathlib.Core.List.{List, [], _∷_, _++_, head?}
 use mathlib.Core.Option.{Option, none, some}
-use Prim.Native.Nat.{ℕ}
+use Prim.Native.Nat.{ℕ, _+_, _*_, _<_}
+use lib.ListN.{getD}
 use native.Mathlib.Omega.{arith}
 use Rattle.count.specs.Lists.{select-append, head-none}
-use Rattle.board.specs.Board.{Board, Within, IsVertex}
+use Rattle.board.specs.Board.{Board, Within, IsVertex, at}
 use Rattle.board.specs.declared.Vertex.{Vertex}
 use Rattle.net.specs.declared.Pair.{Pair}
 use Rattle.cut.specs.Cut.{Overfull, overfull?, cuts, overfullCuts}
-use Rattle.cut.specs.Odd.{oddVertices}
+use Rattle.cut.specs.Odd.{odd?, oddVertices}
 use Rattle.cut.specs.Order.{IsCut, FirstOverfull, Even, FirstOdd}
 use Rattle.cut.specs.First.{no-overfull, first-overfull, no-odd, first-odd}
 use Rattle.cut.specs.declared.Cut.{Cut}
-use Rattle.search.specs.Found.{overfullRows, overfullColumns, foundCut, foundVertex}
+use Rattle.terminal_counts.specs.Counts.{Counts}
+use Rattle.search.specs.Found.{overfullRows, overfullColumns, foundCut, oddWith, foundVertex}
 use Rattle.search.specs.declared.FoundCut as code-cut
 use Rattle.search.specs.declared.FoundVertex as code-vertex
 use Rattle.search.specs.declared.FoundCut.the-variants.{At, Nothing}
@@ -74,3 +76,9 @@ module _ (b : Board) (ps : List Pair) (W : Within b) where
 
   pub odd-nothing : code-vertex.the-variants.Nothing ≡ foundVertex (head? (oddVertices b ps)) → (v : Vertex) → IsVertex b v → Even b ps v
   odd-nothing e = no-odd b ps W .0 (head-none (oddVertices b ps) .0 (vertex-none (head? (oddVertices b ps)) e))
+
+-- ── odd by the count of terminals ──
+pub odd-counted : (b : Board) (ps : List Pair) (a : List ℕ) → Counts ps a → (l c : ℕ) → l < 32 → c < 32
+    → oddWith b (getD a (l * 32 + c) 0) (at l c) ≡ odd? b ps (at l c)
+unfolding odd?
+odd-counted b ps a C l c p q = rw (C .here l c p q) refl

@@ -4,8 +4,8 @@ ghost use mathlib.Core.List.{head?};
 ghost use Rattle.board.specs.View.{boardOf};
 ghost use Rattle.net.specs.View.{pairsOf};
 ghost use Rattle.cut.specs.Cut.{overfullCuts};
-ghost use Rattle.cut.specs.Odd.{odd?, oddVertices};
-ghost use Rattle.search.specs.Found.{overfullRows, overfullColumns, overfullAmong, foundCut, foundVertex};
+ghost use Rattle.cut.specs.Odd.{oddVertices};
+ghost use Rattle.search.specs.Found.{overfullRows, overfullColumns, overfullAmong, foundCut, oddWith, foundVertex};
 use board::Board;
 use board::Vertex;
 use cut::Cut;
@@ -70,12 +70,18 @@ pub fn first_overfull(b: Board, nets: [Place; 64]) -> FoundCut
     }
 }
 
-// Is v a vertex whose degree plus its terminals is odd?
-pub fn is_odd(b: Board, nets: [Place; 64], v: Vertex) -> bool
-    ensures { λ r. ⌜ r ≡ odd? (boardOf b) (pairsOf nets) v ⌝ }
+fn wide(x: u8) -> usize
+    ensures { λ r. ⌜ r ≡ x ⌝ }
+{
+    x as usize
+}
+
+// Is v a vertex whose degree plus this count of terminals is odd?
+fn is_odd(b: Board, terminals: u8, v: Vertex) -> bool
+    ensures { λ r. ⌜ r ≡ oddWith (boardOf b) terminals v ⌝ }
 {
     if board::is_vertex(b, v) {
-        (board::degree_of(b, v) + net::terminals_at(nets, v)) % 2 == 1
+        (board::degree_of(b, v) + terminals % 2) % 2 == 1
     } else {
         false
     }
@@ -85,12 +91,14 @@ pub fn is_odd(b: Board, nets: [Place; 64], v: Vertex) -> bool
 pub fn first_odd(b: Board, nets: [Place; 64]) -> FoundVertex
     ensures { λ r. ⌜ r ≡ foundVertex (head? (oddVertices (boardOf b) (pairsOf nets))) ⌝ }
 {
+    let counts = terminal_counts::count_terminals(nets);
     let mut line: u8 = 0;
     let mut column: u8 = 0;
     let mut found = false;
     'lines: for l in 0..32 {
         for c in 0..32 {
-            if is_odd(b, nets, Vertex { line: l, column: c }) {
+            let terminals = counts[wide(l) * 32 + wide(c)];
+            if is_odd(b, terminals, Vertex { line: l, column: c }) {
                 line = l;
                 column = c;
                 found = true;

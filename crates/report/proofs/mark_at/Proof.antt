@@ -1,7 +1,7 @@
 -- `mark_at` marks a vertex within lines and columns 0 to 31, and no other.
 use mathlib.Core.Path.{refl}
 use borrow.Author.Tests.{lt-ltb, le-ltb}
-use Rattle.report.specs.Traces.{markAt}
+use Rattle.net.specs.Grid.{changedAt}
 use borrow.Author.Needs.{needs}
 use Rattle.report.proofs.mark_at.Statement.{statement}
 use Rattle.report.proofs.mark_at.Tie as tie
@@ -25,15 +25,15 @@ element-write-marks : tie.Need-element-write-marks
 element-write-marks c = search needs
 
 returns : tie.Need-returns
-unfolding markAt
+unfolding changedAt
 returns c = rw (lt-ltb _ _ (c .before .before .before .before .if1 .taken), lt-ltb _ _ (c .before .before .before .if2 .taken), c .mark-after .ensures, c .before .before .index .ensures) refl
 
 returns-2 : tie.Need-returns-2
-unfolding markAt
+unfolding changedAt
 returns-2 c = rw (lt-ltb _ _ (c .before .if1 .taken), le-ltb _ _ (c .if2 .left)) refl
 
 returns-3 : tie.Need-returns-3
-unfolding markAt
+unfolding changedAt
 returns-3 c = rw (le-ltb _ _ (c .if1 .left)) refl
 
 pub mark-at-spec : {M : Type 1} → statement M
