@@ -476,7 +476,18 @@ fn print_run(run: &Run) {
     println!("refusal 22: {} (13 comes before it)", run.refused(22));
 }
 
+/// Parts c and d: small boards through the exhaustive router.
+fn exhaustive(run: &mut Run) {
+    let (mut found, start) = ([0; 4], Instant::now());
+    (0..CASES_C).for_each(|case| run.part_c(case, &mut found));
+    print_small("random even boards up to 5 by 5", found, start);
+    part_d(run, None);
+}
+
+/// All parts; the small boards on a thread of their own.
 fn whole(run: &mut Run) {
+    let mut other = Run { seed: run.seed, ..Run::default() };
+    let small = std::thread::spawn(move || exhaustive(&mut other));
     let start = Instant::now();
     (0..CASES_A).for_each(|case| run.part_a(case));
     println!("part a: {CASES_A} boards, {} routings handed back; {:.1} s", run.routed, start.elapsed().as_secs_f64());
@@ -489,10 +500,10 @@ fn whole(run: &mut Run) {
         println!("FAILED: parts a and b reach too little\n{}", short.join("\n"));
         std::process::exit(1);
     }
-    let (mut found, start) = ([0; 4], Instant::now());
-    (0..CASES_C).for_each(|case| run.part_c(case, &mut found));
-    print_small("random even boards up to 5 by 5", found, start);
-    part_d(run, None);
+    if small.join().is_err() {
+        println!("FAILED: the small boards were broken off");
+        std::process::exit(1);
+    }
     println!("no difference");
 }
 

@@ -5,7 +5,7 @@ ghost use lib.ListN.{getD};
 ghost use Rattle.count.specs.Truth.{one, Decides};
 ghost use Rattle.board.specs.Board.{noRow, IsVertex, IsEdge};
 ghost use Rattle.board.specs.Path.{along};
-ghost use Rattle.board.specs.Degree.{cell?, belowRight, belowLeft, aboveRight, aboveLeft, vertex?, edge?, degree, pins};
+ghost use Rattle.board.specs.Degree.{cell?, belowRight, belowLeft, aboveRight, aboveLeft, vertex?, edge?};
 ghost use Rattle.board.specs.View.{boardOf};
 
 // A row of unit cells, from column left to column right.
@@ -75,25 +75,26 @@ fn is_cell(b: Board, i: u8, j: u8) -> bool
     (i < b.count) & ((row.left <= j) & (j < row.right))
 }
 
-fn below_right(b: Board, v: Vertex) -> bool
+// The four cells round v: is the one below right of it there, and so on?
+pub fn below_right(b: Board, v: Vertex) -> bool
     ensures { λ r. ⌜ r ≡ belowRight (boardOf b) v ⌝ }
 {
     is_cell(b, v.line, v.column)
 }
 
-fn below_left(b: Board, v: Vertex) -> bool
+pub fn below_left(b: Board, v: Vertex) -> bool
     ensures { λ r. ⌜ r ≡ belowLeft (boardOf b) v ⌝ }
 {
     (0 < v.column) & is_cell(b, v.line, before(v.column))
 }
 
-fn above_right(b: Board, v: Vertex) -> bool
+pub fn above_right(b: Board, v: Vertex) -> bool
     ensures { λ r. ⌜ r ≡ aboveRight (boardOf b) v ⌝ }
 {
     (0 < v.line) & is_cell(b, before(v.line), v.column)
 }
 
-fn above_left(b: Board, v: Vertex) -> bool
+pub fn above_left(b: Board, v: Vertex) -> bool
     ensures { λ r. ⌜ r ≡ aboveLeft (boardOf b) v ⌝ }
 {
     ((0 < v.line) & (0 < v.column)) & is_cell(b, before(v.line), before(v.column))
@@ -115,28 +116,5 @@ pub fn is_edge(b: Board, d: Direction, v: Vertex) -> bool
         Direction::Right => above_right(b, v) | below_right(b, v),
         Direction::Down => below_left(b, v) | below_right(b, v),
         Direction::Left => above_left(b, v) | below_left(b, v),
-    }
-}
-
-// The count of edges at v.
-pub fn degree_of(b: Board, v: Vertex) -> u8
-    ensures { λ r. ⌜ r ≡ degree (boardOf b) v ⌝ }
-    ensures { λ r. ⌜ r ≤ 4 ⌝ }
-{
-    let al = above_left(b, v);
-    let ar = above_right(b, v);
-    let bl = below_left(b, v);
-    let br = below_right(b, v);
-    (bit(al | ar) + bit(ar | br)) + (bit(bl | br) + bit(al | bl))
-}
-
-// The count of pins at v; a place that is no vertex has none.
-pub fn pins_of(b: Board, v: Vertex) -> u8
-    ensures { λ r. ⌜ r ≡ pins (boardOf b) v ⌝ }
-{
-    if is_vertex(b, v) {
-        4 - degree_of(b, v)
-    } else {
-        0
     }
 }

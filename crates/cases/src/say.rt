@@ -91,7 +91,7 @@ pub fn first_overfull(b: Board, nets: [Place; 64]) {
 pub fn pins_at(b: Board, v: Vertex) {
     vertex(v);
     io::write_all(1, b" has pins: ");
-    number(board::pins_of(b, v));
+    number(degree::pins_of(b, v));
 }
 
 // The next part of a line, and the end of one.

@@ -14,7 +14,7 @@ ghost use Rattle.checking.specs.Lines.{checkOf};
 fn is_full(b: Board, nets: [Place; 64], v: Vertex) -> bool
     ensures { λ r. ⌜ r ≡ full (boardOf b) (netsOf nets) v ⌝ }
 {
-    board::pins_of(b, v) <= net::terminals_at(nets, v)
+    degree::pins_of(b, v) <= net::terminals_at(nets, v)
 }
 
 // What adding the net answers: the first condition that holds, in the order of the table.

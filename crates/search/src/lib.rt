@@ -81,7 +81,7 @@ fn is_odd(b: Board, terminals: u8, v: Vertex) -> bool
     ensures { λ r. ⌜ r ≡ oddWith (boardOf b) terminals v ⌝ }
 {
     if board::is_vertex(b, v) {
-        (board::degree_of(b, v) + terminals % 2) % 2 == 1
+        (degree::degree_of(b, v) + terminals % 2) % 2 == 1
     } else {
         false
     }

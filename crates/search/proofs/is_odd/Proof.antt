@@ -7,7 +7,7 @@ use Rattle.search.proofs.is_odd.Statement.{statement}
 use Rattle.search.proofs.is_odd.Tie as tie
 use Rattle.search.proofs.is_odd.Reads as reads
 use Rattle.search.proofs.is_odd.Lts as lts
-use Rattle.board.proofs.degree_of.Reads as degree-of-reads
+use Rattle.degree.proofs.degree_of.Reads as degree-of-reads
 use Rattle.board.proofs.is_vertex.Reads as is-vertex-reads
 
 -- src/lib.rt:83:8

@@ -1,12 +1,12 @@
 use mathlib.Core.Path.{refl}
 use Rattle.board.specs.Degree.{pins}
 use borrow.Author.Needs.{needs}
-use Rattle.board.proofs.pins_of.Statement.{statement}
-use Rattle.board.proofs.pins_of.Tie as tie
-use Rattle.board.proofs.pins_of.Reads as reads
-use Rattle.board.proofs.pins_of.Lts as lts
-use Rattle.board.proofs.degree_of.Reads as degree-of-reads
+use Rattle.degree.proofs.pins_of.Statement.{statement}
+use Rattle.degree.proofs.pins_of.Tie as tie
+use Rattle.degree.proofs.pins_of.Reads as reads
+use Rattle.degree.proofs.pins_of.Lts as lts
+use Rattle.degree.proofs.degree_of.Reads as degree-of-reads
 use Rattle.board.proofs.is_vertex.Reads as is-vertex-reads
 
 -- src/lib.rt:132:8
 is-vertex-requires : tie.Need-is-vertex-requires

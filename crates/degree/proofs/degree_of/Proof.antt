@@ -1,15 +1,15 @@
 use native.Mathlib.Omega.{arith}
 use Rattle.board.specs.Degree.{edge?, degree}
 use borrow.Author.Needs.{needs}
-use Rattle.board.proofs.degree_of.Statement.{statement}
-use Rattle.board.proofs.degree_of.Tie as tie
-use Rattle.board.proofs.degree_of.Reads as reads
-use Rattle.board.proofs.degree_of.Lts as lts
+use Rattle.degree.proofs.degree_of.Statement.{statement}
+use Rattle.degree.proofs.degree_of.Tie as tie
+use Rattle.degree.proofs.degree_of.Reads as reads
+use Rattle.degree.proofs.degree_of.Lts as lts
 use Rattle.board.proofs.above_left.Reads as above-left-reads
 use Rattle.board.proofs.above_right.Reads as above-right-reads
 use Rattle.board.proofs.below_left.Reads as below-left-reads
 use Rattle.board.proofs.below_right.Reads as below-right-reads
 use Rattle.board.proofs.bit.Reads as bit-reads
 
 -- src/lib.rt:121:9
 above-left-requires : tie.Need-above-left-requires
