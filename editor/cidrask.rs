@@ -1,6 +1,6 @@
 //! The two calls of cidrask.h, declared for the programs in Rust that link the library.
 
-#[link(name = "editor", kind = "static")]
+#[link(name = "cidrask", kind = "static")]
 extern "C" {
     pub fn cidrask_route(board: *const u8, board_length: usize, buffer: *mut u8, buffer_length: usize, first: *mut u64, second: *mut u64) -> u32;
     pub fn cidrask_judge(

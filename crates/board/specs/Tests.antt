@@ -97,7 +97,14 @@ above-left b v = (
       let k = and-true (ltb 0 (v .line) && ltb 0 (v .column)) (cell? b (v .line - 1) (v .column - 1)) e in
       let m = and-true (ltb 0 (v .line)) (ltb 0 (v .column)) (k .0) in
       let h = ltb-true 0 (v .line) (m .0) in let g = ltb-true 0 (v .column) (m .1) in
-      record { i = v .line - 1; j = v .column - 1; cell = cell-exact b (v .line - 1) (v .column - 1) .0 (k .1); line = omega arith; column = omega arith },
+      record {
+        i = v .line - 1;
+        j = v .column - 1;
+        cell = cell-exact b (v .line - 1) (v .column - 1) .0 (k .1);
+        line = omega arith;
+        column =
+            omega arith;
+      },
   λ h.
       let p : v .line - 1 ≡ h .i = omega (arith, h .line) in let q : v .column - 1 ≡ h .j = omega (arith, h .column) in
       and-yes (ltb 0 (v .line) && ltb 0 (v .column)) (cell? b (v .line - 1) (v .column - 1))
@@ -141,10 +148,14 @@ vertex-exact b v = (
     ]
   ],
   λ (i, j, c, k). elim (corner-meets c v k) [
-    | inl (inl h) ↦ or-right (aboveLeft b v || aboveRight b v) (belowLeft b v || belowRight b v) (or-right (belowLeft b v) (belowRight b v) (below-right b v .1 h))
-    | inl (inr h) ↦ or-right (aboveLeft b v || aboveRight b v) (belowLeft b v || belowRight b v) (or-left (belowLeft b v) (belowRight b v) (below-left b v .1 h))
-    | inr (inl h) ↦ or-left (aboveLeft b v || aboveRight b v) (belowLeft b v || belowRight b v) (or-right (aboveLeft b v) (aboveRight b v) (above-right b v .1 h))
-    | inr (inr h) ↦ or-left (aboveLeft b v || aboveRight b v) (belowLeft b v || belowRight b v) (or-left (aboveLeft b v) (aboveRight b v) (above-left b v .1 h))
+    | inl (inl h) ↦ or-right (aboveLeft b v || aboveRight b v) (belowLeft b v || belowRight b v)
+        (or-right (belowLeft b v) (belowRight b v) (below-right b v .1 h))
+    | inl (inr h) ↦ or-right (aboveLeft b v || aboveRight b v) (belowLeft b v || belowRight b v)
+        (or-left (belowLeft b v) (belowRight b v) (below-left b v .1 h))
+    | inr (inl h) ↦ or-left (aboveLeft b v || aboveRight b v) (belowLeft b v || belowRight b v)
+        (or-right (aboveLeft b v) (aboveRight b v) (above-right b v .1 h))
+    | inr (inr h) ↦ or-left (aboveLeft b v || aboveRight b v) (belowLeft b v || belowRight b v)
+        (or-left (aboveLeft b v) (aboveRight b v) (above-left b v .1 h))
   ],
 )
 
@@ -189,8 +200,20 @@ module _ (b : Board) (v : Vertex) where
       ]
     ],
     λ h. elim h [
-      | inl m ↦ (m .i, m .j, m .cell, side-down (m .i) (m .j) (v .line - 1) (v .line) (v .column) (omega (arith, m .line)) (omega (arith, m .line)) (inr (omega (arith, m .column))))
-      | inr m ↦ (m .i, m .j, m .cell, side-down (m .i) (m .j) (v .line - 1) (v .line) (v .column) (omega (arith, m .line)) (omega (arith, m .line)) (inl (omega (arith, m .column))))
+      | inl m ↦ (
+        m .i,
+        m .j,
+        m .cell,
+        side-down (m .i) (m .j) (v .line - 1) (v .line) (v .column) (omega (arith, m .line)) (omega (arith, m .line))
+            (inr (omega (arith, m .column))),
+      )
+      | inr m ↦ (
+        m .i,
+        m .j,
+        m .cell,
+        side-down (m .i) (m .j) (v .line - 1) (v .line) (v .column) (omega (arith, m .line)) (omega (arith, m .line))
+            (inl (omega (arith, m .column))),
+      )
     ],
   )
 
@@ -204,8 +227,20 @@ module _ (b : Board) (v : Vertex) where
       | inr d ↦ absurd (omega (arith, d .plumb))
     ],
     λ h. elim h [
-      | inl m ↦ (m .i, m .j, m .cell, side-across (m .i) (m .j) (v .line) (v .column) (suc (v .column)) (omega (arith, m .column)) (omega (arith, m .column)) (inr (omega (arith, m .line))))
-      | inr m ↦ (m .i, m .j, m .cell, side-across (m .i) (m .j) (v .line) (v .column) (suc (v .column)) (omega (arith, m .column)) (omega (arith, m .column)) (inl (omega (arith, m .line))))
+      | inl m ↦ (
+        m .i,
+        m .j,
+        m .cell,
+        side-across (m .i) (m .j) (v .line) (v .column) (suc (v .column)) (omega (arith, m .column))
+            (omega (arith, m .column)) (inr (omega (arith, m .line))),
+      )
+      | inr m ↦ (
+        m .i,
+        m .j,
+        m .cell,
+        side-across (m .i) (m .j) (v .line) (v .column) (suc (v .column)) (omega (arith, m .column))
+            (omega (arith, m .column)) (inl (omega (arith, m .line))),
+      )
     ],
   )
 
@@ -219,8 +254,20 @@ module _ (b : Board) (v : Vertex) where
       ]
     ],
     λ h. elim h [
-      | inl m ↦ (m .i, m .j, m .cell, side-down (m .i) (m .j) (v .line) (suc (v .line)) (v .column) (omega (arith, m .line)) (omega (arith, m .line)) (inr (omega (arith, m .column))))
-      | inr m ↦ (m .i, m .j, m .cell, side-down (m .i) (m .j) (v .line) (suc (v .line)) (v .column) (omega (arith, m .line)) (omega (arith, m .line)) (inl (omega (arith, m .column))))
+      | inl m ↦ (
+        m .i,
+        m .j,
+        m .cell,
+        side-down (m .i) (m .j) (v .line) (suc (v .line)) (v .column) (omega (arith, m .line)) (omega (arith, m .line))
+            (inr (omega (arith, m .column))),
+      )
+      | inr m ↦ (
+        m .i,
+        m .j,
+        m .cell,
+        side-down (m .i) (m .j) (v .line) (suc (v .line)) (v .column) (omega (arith, m .line)) (omega (arith, m .line))
+            (inl (omega (arith, m .column))),
+      )
     ],
   )
 
@@ -234,8 +281,20 @@ module _ (b : Board) (v : Vertex) where
       | inr d ↦ absurd (omega (arith, d .start, d .end))
     ],
     λ h. elim h [
-      | inl m ↦ (m .i, m .j, m .cell, side-across (m .i) (m .j) (v .line) (v .column - 1) (v .column) (omega (arith, m .column)) (omega (arith, m .column)) (inr (omega (arith, m .line))))
-      | inr m ↦ (m .i, m .j, m .cell, side-across (m .i) (m .j) (v .line) (v .column - 1) (v .column) (omega (arith, m .column)) (omega (arith, m .column)) (inl (omega (arith, m .line))))
+      | inl m ↦ (
+        m .i,
+        m .j,
+        m .cell,
+        side-across (m .i) (m .j) (v .line) (v .column - 1) (v .column) (omega (arith, m .column))
+            (omega (arith, m .column)) (inr (omega (arith, m .line))),
+      )
+      | inr m ↦ (
+        m .i,
+        m .j,
+        m .cell,
+        side-across (m .i) (m .j) (v .line) (v .column - 1) (v .column) (omega (arith, m .column))
+            (omega (arith, m .column)) (inl (omega (arith, m .line))),
+      )
     ],
   )
 

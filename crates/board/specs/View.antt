@@ -62,6 +62,8 @@ module _ (b : code.Board) (r : Row) (h : b .count < length (b .rows)) where
   pub board-more : boardOf (record { count = b .count + 1; rows = set (b .rows) (b .count) r }) ≡ record { rows = boardOf b .rows ++ (r ∷ []) }
   unfolding boardOf now-row
   board-more =
-      let e : map now-row (upTo (b .count + 1)) ≡ map now-row (upTo (b .count)) ++ (now-row (0 + b .count) ∷ []) = rw add-one (rising-snoc now-row 0 (b .count)) in
-      let f : map now-row (upTo (b .count)) ++ (now-row (0 + b .count) ∷ []) ≡ map (λ i. getD (b .rows) i noRow) (upTo (b .count)) ++ (r ∷ []) = rw (kept-rows, new-row) refl in
+      let e : map now-row (upTo (b .count + 1)) ≡ map now-row (upTo (b .count)) ++ (now-row (0 + b .count) ∷ []) =
+      rw add-one (rising-snoc now-row 0 (b .count)) in
+      let f : map now-row (upTo (b .count)) ++ (now-row (0 + b .count) ∷ []) ≡ map (λ i. getD (b .rows) i noRow) (upTo (b .count)) ++ (r ∷ []) =
+      rw (kept-rows, new-row) refl in
       ap (λ (rs : List Row). record { rows = rs }) (e ∙ f)

@@ -7,6 +7,8 @@ ghost use Rattle.board.specs.Board.{noRow, IsVertex, IsEdge};
 ghost use Rattle.board.specs.Path.{along};
 ghost use Rattle.board.specs.Degree.{cell?, belowRight, belowLeft, aboveRight, aboveLeft, vertex?, edge?};
 ghost use Rattle.board.specs.View.{boardOf};
+use numbers::before;
+use numbers::wide;
 
 // A row of unit cells, from column left to column right.
 pub struct Row {
@@ -31,19 +33,6 @@ pub enum Direction {
     Right,
     Down,
     Left,
-}
-
-fn wide(x: u8) -> usize
-    ensures { λ r. ⌜ r ≡ x ⌝ }
-{
-    x as usize
-}
-
-// n - 1, and 0 for 0.
-fn before(n: u8) -> u8
-    ensures { λ r. ⌜ r ≡ n - 1 ⌝ }
-{
-    if 0 < n { n - 1 } else { 0 }
 }
 
 // 1 for true, 0 for false.

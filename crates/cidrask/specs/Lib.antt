@@ -1,2 +1,2 @@
-pub mod Demands
+pub mod Told
 pub mod Laws

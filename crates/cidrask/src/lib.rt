@@ -1,112 +1,149 @@
-// Cidrask's calls in one place, each with its promise: what specs/Demands.antt speaks of.
+// The layout editor's two calls, for programs in C. editor/cidrask.h tells a caller how to use them.
 ghost use mathlib.Core.Path.{_≡_};
-ghost use Rattle.count.specs.Truth.{Decides};
-ghost use Rattle.board.specs.Board.{Within};
-ghost use Rattle.board.specs.Path.{Convex};
-ghost use Rattle.board.specs.View.{boardOf};
-ghost use Rattle.convex.specs.Test.{isConvex};
-ghost use Rattle.session.specs.View.{sessionOf};
-ghost use Rattle.session.specs.Promise.{FreshPromise, AddPromise, WithdrawPromise, TakeBackPromise};
-ghost use Rattle.calls.specs.Reading.{readWords, readBytes};
-ghost use Rattle.calls.specs.Judge.{judgeWords, judgeBytes, compareWords};
-ghost use Rattle.calls.specs.Route.{Routes, RoutesBytes};
-ghost use Rattle.reading.specs.Promise.{ReadPromise};
-ghost use Rattle.writing.specs.Promise.{WritePromise};
-ghost use Rattle.judging.specs.Answers.{judgementOf, likenessOf};
-ghost use Rattle.wiring.specs.Answers.{routeAnswer};
-use board::Board;
-use judging::Judgement;
-use judging::Likeness;
-use net::Net;
-use reading::AfterRead;
-use session::AfterAdd;
-use session::AfterTakeBack;
-use session::AfterWithdraw;
-use session::Session;
-use wiring::RouteAnswer;
-use writing::WriteAnswer;
+ghost use Rattle.session_rules.specs.Refusal.{refusal};
+ghost use Rattle.call_rules.specs.Route.{overfullRefusal};
+ghost use Rattle.call_rules.specs.Editor.{editorJudge};
+ghost use Rattle.route_call.specs.Answers.{routeAnswer};
+ghost use Rattle.judge_call.specs.Answers.{judgementOf};
+ghost use Rattle.cidrask.specs.Told.{refusedTold, routeTold, judgeTold, RoutePromise, JudgePromise};
+ghost use Rattle.cidrask.specs.Laws.{RoutedAs};
+use board_reading::ReadAnswer;
+use cut::Cut;
+use judge_call::Judgement;
+use route_call::RouteAnswer;
 
-// Is the board within the limits and convex?
-pub fn is_convex(b: Board) -> bool
-    ensures { λ r. ⌜ Decides r (isConvex (boardOf b)) (Within (boardOf b) × Convex (boardOf b)) ⌝ }
-{
-    convex::is_convex(b)
+// The numbers by which a caller is told what came out.
+pub struct Told {
+    pub number: u32,
+    pub first: u64,
+    pub second: u64,
+    pub third: u64,
 }
 
-// A session on the board, with no nets and an empty pile.
-pub fn fresh(b: Board) -> Session
-    ensures { λ r. ⌜ FreshPromise b r ⌝ }
+// A refusal with a place of one number.
+fn refused(number: u8, place: usize) -> Told
+    ensures { λ r. ⌜ r ≡ refusedTold (refusal number place) ⌝ }
 {
-    session::fresh(b)
+    Told {
+        number: number as u32,
+        first: place as u64,
+        second: 0,
+        third: 0,
+    }
 }
 
-pub fn add(s: Session, net: Net) -> AfterAdd
-    ensures { λ r. ⌜ AddPromise s net r ⌝ }
+fn cut_told(x: Cut) -> Told
+    ensures { λ r. ⌜ r ≡ refusedTold (overfullRefusal x) ⌝ }
 {
-    s.add(net)
+    match x {
+        Cut::Row(i) => Told {
+            number: 33,
+            first: 0,
+            second: i as u64,
+            third: 0,
+        },
+        Cut::Column(j) => Told {
+            number: 33,
+            first: 1,
+            second: j as u64,
+            third: 0,
+        },
+    }
 }
 
-pub fn withdraw(s: Session, number: u8) -> AfterWithdraw
-    ensures { λ r. ⌜ WithdrawPromise s number r ⌝ }
+fn route_told(answer: RouteAnswer) -> Told
+    ensures { λ r. ⌜ r ≡ routeTold (routeAnswer answer) ⌝ }
 {
-    s.withdraw(number)
+    match answer {
+        RouteAnswer::Routed(count) => Told {
+            number: 0,
+            first: count as u64,
+            second: 0,
+            third: 0,
+        },
+        RouteAnswer::Unsound => refused(20, 0),
+        RouteAnswer::ShortBuffer => refused(31, 0),
+        RouteAnswer::Odd(v) => Told {
+            number: 32,
+            first: v.line as u64,
+            second: v.column as u64,
+            third: 0,
+        },
+        RouteAnswer::Overfull(x) => cut_told(x),
+    }
 }
 
-pub fn take_back(s: Session) -> AfterTakeBack
-    ensures { λ r. ⌜ TakeBackPromise s r ⌝ }
+fn judge_told(judgement: Judgement) -> Told
+    ensures { λ r. ⌜ r ≡ judgeTold (judgementOf judgement) ⌝ }
 {
-    s.take_back()
+    match judgement {
+        Judgement::Passed(report) => Told {
+            number: 0,
+            first: report.edges as u64,
+            second: report.turns as u64,
+            third: report.knocks as u64,
+        },
+        Judgement::Unsound => refused(20, 0),
+        Judgement::UnevenBytes => refused(10, 0),
+        Judgement::Refused(r) => refused(r.number, r.place as usize),
+    }
 }
 
-// A session from a board's words, or bytes.
-pub fn read_words(words: &[u32]) -> AfterRead
-    ensures { λ r. ⌜ ReadPromise (readWords (now (words .entry))) r ⌝ }
+// The board is read first; a board that is refused leaves the buffer untouched.
+fn routed(board: &[u8], buffer: &mut [u8]) -> Told
+    ensures { λ r. ⌜ RoutedAs (now (board .entry)) (now (buffer .entry)) r (now (buffer .exit)) ⌝ }
 {
-    reading::read_words(words)
+    let after = board_reading::read_bytes(board);
+    let answer = after.answer;
+    match answer {
+        ReadAnswer::Refused(number, place) => refused(number, place),
+        ReadAnswer::Accepted => route_told(route_call::route_bytes(after.session, buffer)),
+    }
 }
 
-pub fn read_bytes(bytes: &[u8]) -> AfterRead
-    ensures { λ r. ⌜ ReadPromise (readBytes (now (bytes .entry))) r ⌝ }
+fn judged(board: &[u8], list: &[u8]) -> Told
+    ensures { λ r. ⌜ r ≡ judgeTold (editorJudge (now (board .entry)) (now (list .entry))) ⌝ }
 {
-    reading::read_bytes(bytes)
+    let after = board_reading::read_bytes(board);
+    let answer = after.answer;
+    match answer {
+        ReadAnswer::Refused(number, place) => refused(number, place),
+        ReadAnswer::Accepted => judge_told(judge_call::judge_bytes(after.session, list)),
+    }
 }
 
-// A session's board and nets as words.
-pub fn write_board(s: Session, out: &mut [u32]) -> WriteAnswer
-    ensures { λ r. ⌜ WritePromise (sessionOf s) (now (out .entry)) r (now (out .exit)) ⌝ }
+// Reads a board and routes its nets into the buffer. Answers 0 or the refusal's number; the other two numbers are the count of words and 0,
+// or the place.
+#[no_mangle]
+pub extern "C" fn cidrask_route(
+    board: &[u8],
+    buffer: &mut [u8],
+    first: &mut u64,
+    second: &mut u64,
+) -> u32
+    ensures { λ r. ⌜ RoutePromise (now (board .entry)) (now (buffer .entry)) r (now (first .exit)) (now (second .exit)) (now (buffer .exit)) ⌝ }
 {
-    writing::write_board(s, out)
+    let answer = routed(board, buffer);
+    *first = answer.first;
+    *second = answer.second;
+    answer.number
 }
 
-// The report on a list of routing words, given as words or bytes.
-pub fn judge_words(s: Session, words: &[u32]) -> Judgement
-    ensures { λ r. ⌜ judgementOf r ≡ judgeWords (sessionOf s) (now (words .entry)) ⌝ }
+// Reads a board and judges a list of routing words against it. Answers 0 or the refusal's number; the other three numbers are the report's, or
+// the place.
+#[no_mangle]
+pub extern "C" fn cidrask_judge(
+    board: &[u8],
+    list: &[u8],
+    first: &mut u64,
+    second: &mut u64,
+    third: &mut u64,
+) -> u32
+    ensures { λ r. ⌜ JudgePromise (now (board .entry)) (now (list .entry)) r (now (first .exit)) (now (second .exit)) (now (third .exit)) ⌝ }
 {
-    judging::judge_words(s, words)
-}
-
-pub fn judge_bytes(s: Session, bytes: &[u8]) -> Judgement
-    ensures { λ r. ⌜ judgementOf r ≡ judgeBytes (sessionOf s) (now (bytes .entry)) ⌝ }
-{
-    judging::judge_bytes(s, bytes)
-}
-
-// Are two routings alike?
-pub fn compare_words(s: Session, first: &[u32], second: &[u32]) -> Likeness
-    ensures { λ r. ⌜ likenessOf r ≡ compareWords (sessionOf s) (now (first .entry)) (now (second .entry)) ⌝ }
-{
-    judging::compare_words(s, first, second)
-}
-
-// A routing of a session's nets, into words or bytes.
-pub fn route(s: Session, out: &mut [u32]) -> RouteAnswer
-    ensures { λ r. ⌜ Routes (sessionOf s) (now (out .entry)) (routeAnswer r) (now (out .exit)) ⌝ }
-{
-    wiring::route(s, out)
-}
-
-pub fn route_bytes(s: Session, out: &mut [u8]) -> RouteAnswer
-    ensures { λ r. ⌜ RoutesBytes (sessionOf s) (now (out .entry)) (routeAnswer r) (now (out .exit)) ⌝ }
-{
-    wiring::route_bytes(s, out)
+    let told = judged(board, list);
+    *first = told.first;
+    *second = told.second;
+    *third = told.third;
+    told.number
 }

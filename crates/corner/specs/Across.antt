@@ -22,7 +22,8 @@ use Rattle.corner.specs.UpperLeft.{upper-left}
 use Rattle.corner.specs.LowerRight.{lower-right}
 use Rattle.corner.specs.CutEdges.{cap-col, cap-row}
 
-across-one : (u x u' x' : Bool) → one (((u && not x) && (not u' && x')) || ((u' && not x') && (not u && x))) ≤ one ((not x && x') && u) + one ((not x' && x) && u')
+across-one : (u x u' x' : Bool) → one (((u && not x) && (not u' && x')) || ((u' && not x') && (not u && x))) ≤ one ((not x && x') && u) + one
+    ((not x' && x) && u')
 across-one true true true true = omega arith
 across-one true true true false = omega arith
 across-one true true false true = omega arith
@@ -43,7 +44,8 @@ across-one false false false false = omega arith
 pub across-between : (x r : ℕ) (ps : List Pair)
     → between (λ v. leb (v .line) r && not (leb (v .column) x)) (λ v. not (leb (v .line) r) && leb (v .column) x) ps ≤ hits (across x r) ps
 unfolding between hits
-across-between x r ps = tally-le (λ v. Unit {0}) _ _ (λ u v i j. across-one (leb (u .line) r) (leb (u .column) x) (leb (v .line) r) (leb (v .column) x)) ps (all-unit ps)
+across-between x r ps = tally-le (λ v. Unit {0}) _ _ (λ u v i j. across-one (leb (u .line) r) (leb (u .column) x) (leb (v .line) r)
+    (leb (v .column) x)) ps (all-unit ps)
 
 across-mono-bit : (b c d : Bool) → one c ≤ one d → one (b && c) ≤ one (b && d)
 across-mono-bit true c d h = h
@@ -66,7 +68,8 @@ across-all-one false false = omega arith
 -- every crossing pair is met at the last line
 pub across-all : (x n : ℕ) (ps : List Pair) → All (λ v. v .line ≤ n) ps → leaving (side (Column x)) ps ≤ hits (across x n) ps
 unfolding leaving hits
-across-all x n ps a = tally-le (λ v. v .line ≤ n) _ _ (λ u v i j. rw (le-leb (u .line) n i, le-leb (v .line) n j) (across-all-one (leb (u .column) x) (leb (v .column) x))) ps a
+across-all x n ps a = tally-le (λ v. v .line ≤ n) _ _
+    (λ u v i j. rw (le-leb (u .line) n i, le-leb (v .line) n j) (across-all-one (leb (u .column) x) (leb (v .column) x))) ps a
 
 across-none : (x m r : ℕ) (u v : Vertex) → r < m → (x < u .column → v .column ≤ x → m ≤ u .line) → one (across x r u v) ≡ 0
 across-none x m r u v l h = elim (le-case (u .column) x) [
@@ -93,4 +96,12 @@ module _ (S : Shape) (ps : List Pair) (G : Good S ps) (T : Top S) (wide : start 
       → Full S ps (leftCut S)
       → between (λ v. leb (v .line) r && not (leb (v .column) (start S))) (λ v. not (leb (v .line) r) && leb (v .column) (start S)) ps ≡ 0
       → Roomy S ps (Row r)
-  uncross r t d z c0 b0 = omega (arith, G .cuts (Row r) .1, quarters (side (Row r)) (side (leftCut S)) ps, upper-left S ps G T wide r t d z, lower-right S ps G T wide r t d, cap-row S (G .shaped) T r t d, cap-col S (G .shaped) T wide)
+  uncross r t d z c0 b0 = omega (
+    arith,
+    G .cuts (Row r) .1,
+    quarters (side (Row r)) (side (leftCut S)) ps,
+    upper-left S ps G T wide r t d z,
+    lower-right S ps G T wide r t d,
+    cap-row S (G .shaped) T r t d,
+    cap-col S (G .shaped) T wide,
+  )

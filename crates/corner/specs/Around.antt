@@ -28,8 +28,10 @@ meets x (f ∷ es) = one (same x (lo f)) + one (same x (hi f)) + meets x es
 walk-meets : (x u w : Vertex) (es : List Link) → Walk u es w → Even (meets x es + one (same x u) + one (same x w))
 unfolding meets
 walk-meets x u w [] h = (one (same x u), omega (arith, ap (λ v. one (same x v)) h))
-walk-meets x u w (e ∷ es) (inl h) = let k = walk-meets x (hi e) w es (h .1) in (k .0 + one (same x (lo e)), omega (arith, k .1, ap (λ v. one (same x v)) (h .0)))
-walk-meets x u w (e ∷ es) (inr h) = let k = walk-meets x (lo e) w es (h .1) in (k .0 + one (same x (hi e)), omega (arith, k .1, ap (λ v. one (same x v)) (h .0)))
+walk-meets x u w (e ∷ es) (inl h) = let k = walk-meets x (hi e) w es (h .1) in
+    (k .0 + one (same x (lo e)), omega (arith, k .1, ap (λ v. one (same x v)) (h .0)))
+walk-meets x u w (e ∷ es) (inr h) = let k = walk-meets x (lo e) w es (h .1) in
+    (k .0 + one (same x (hi e)), omega (arith, k .1, ap (λ v. one (same x v)) (h .0)))
 
 -- a sum over the four unit edges at (l, c)
 abbrev pub prior : (ℕ → ℕ) → ℕ → ℕ

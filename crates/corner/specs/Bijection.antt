@@ -12,7 +12,7 @@ use Rattle.board.specs.declared.Vertex.{Vertex}
 use Rattle.board.specs.declared.Direction.{Direction}
 use Rattle.net.specs.declared.Pair.{Pair}
 use Rattle.net.specs.Terminals.{same}
-use Rattle.routing.specs.Routing.{Routing, Routable}
+use Rattle.routing_rules.specs.Routing.{Routing, Routable}
 use Rattle.corner.specs.Pairs.{maps}
 use Rattle.corner.specs.Problem.{Joined, KeepsEdges}
 use Rattle.net.specs.Same.{same-true, same-self}
@@ -38,12 +38,20 @@ differ-column l m c d h = not-true (same (at l c) (at m d)) (λ e. h (ap (λ (v 
 between-to : (f : Link) → linkBetween (lo f) (hi f) ≡ f
 unfolding linkBetween
 between-to (hor l c) = rw (same-self (at l (suc c))) refl
-between-to (ver l c) = rw (differ-line (suc l) l c (suc c) (λ e. omega arith), differ-line l (suc l) c (suc c) (λ e. omega arith), same-self (at (suc l) c)) refl
+between-to (ver l c) = rw (
+  differ-line (suc l) l c (suc c) (λ e. omega arith),
+  differ-line l (suc l) c (suc c) (λ e. omega arith),
+  same-self (at (suc l) c),
+) refl
 
 between-fro : (f : Link) → linkBetween (hi f) (lo f) ≡ f
 unfolding linkBetween
 between-fro (hor l c) = rw (differ-column l l c (suc (suc c)) (λ e. omega arith), same-self (at l (suc c))) refl
-between-fro (ver l c) = rw (differ-line l (suc l) c (suc c) (λ e. omega arith), differ-line (suc l) l c (suc c) (λ e. omega arith), differ-line l (suc (suc l)) c c (λ e. omega arith)) refl
+between-fro (ver l c) = rw (
+  differ-line l (suc l) c (suc c) (λ e. omega arith),
+  differ-line (suc l) l c (suc c) (λ e. omega arith),
+  differ-line l (suc (suc l)) c c (λ e. omega arith),
+) refl
 
 between-ends : (u v : Vertex) (f : Link) → Ends u v f → linkBetween u v ≡ f
 between-ends u v f (inl h) = ap₂ linkBetween (h .0) (h .1) ∙ between-to f
@@ -80,5 +88,6 @@ module _ (b b' : Board) (g h : Vertex → Vertex) (K : KeepsEdges b b' g h) wher
 
   pub carried : (ps : List Pair) → Routable b ps → (dss : List (List Direction)) × Routing b' (maps g ps) dss
   carried ps R =
-      let C = carry (onBoard b') (onBoard b) g there again (λ e o. lands e o .0) (λ e o. lands e o .1) undone ps (tidy (onBoard b) ps (routable-disjoint b ps R)) in
+      let C = carry (onBoard b') (onBoard b) g there again (λ e o. lands e o .0) (λ e o. lands e o .1) undone ps
+      (tidy (onBoard b) ps (routable-disjoint b ps R)) in
       (pathsOf (maps g ps) (C .trails), routed-routing b' (maps g ps) C)

@@ -13,10 +13,10 @@ use Rattle.net.specs.declared.Pair.{Pair}
 use Rattle.net.specs.Terminals.{same, terminals}
 use Rattle.cut.specs.Cut.{overfullCuts}
 use Rattle.cut.specs.Odd.{oddVertices}
-use Rattle.routing.specs.Routing.{Routing}
+use Rattle.routing_rules.specs.Routing.{Routing}
 use Rattle.corner.specs.Pairs.{standing}
-use Rattle.convex.specs.Form.{Nested, NeverRegrow}
-use Rattle.convex.specs.Lemma1.{lemma-1}
+use Rattle.board_convex.specs.Form.{Nested, NeverRegrow}
+use Rattle.board_convex.specs.Lemma1.{lemma-1}
 use Rattle.corner.specs.Problem.{Problem, NoneOverfull}
 use Rattle.corner.specs.Tallies.{all-map}
 use Rattle.corner.specs.Shape.{present, Here, deg, Shaped, Good}
@@ -51,7 +51,8 @@ module _ (b : Board) (ps : List Pair) (P : Problem b ps) where
   problem-here v h = vertex-here b (P .within) nested regrow v h
 
   -- degree and terminals of a vertex, in the two ways
-  pub problem-count : (qs : List Pair) (v : Vertex) → Here (linesOf b) v → deg (present (linesOf b)) (v .line) (v .column) + standing (same v) qs ≡ degree b v + terminals qs v
+  pub problem-count : (qs : List Pair) (v : Vertex) → Here (linesOf b) v
+      → deg (present (linesOf b)) (v .line) (v .column) + standing (same v) qs ≡ degree b v + terminals qs v
   problem-count qs v h = omega (arith, deg-degree b (P .within) nested regrow v (problem-vertex v h), terminals-standing qs v)
 
   pub problem-loose : Loose (linesOf b) ps

@@ -65,13 +65,17 @@ module _ (J J' : Link → Bool) (g : Vertex → Vertex) (k j : Link → Link)
   )
 
   trails-on : (ps : List Pair) (ts : Trails ps) → ((e : Link) → total e ps ts ≤ one (J' e))
-      → (us : Trails (maps g ps)) × ((e : Link) → total e (maps g ps) us ≤ total (j e) ps ts) × ((e : Link) → J e ≡ false → total e (maps g ps) us ≡ 0)
+      → (us : Trails (maps g ps)) × ((e : Link) → total e (maps g ps) us ≤ total (j e) ps ts)
+      × ((e : Link) → J e ≡ false → total e (maps g ps) us ≡ 0)
   unfolding total
   trails-on [] ts h = (tt, (λ e. omega arith), λ e n. refl)
   trails-on (p ∷ ps) ts h =
       let r = trails-on ps (ts .1) (λ e. omega (arith, h e)) in
-      let a = every-there J' (ts .0 .0) (λ e. omega (arith, h e)) in
-      (((carried (ts .0 .0), walk-on (p .first) (p .second) (ts .0 .0) a (ts .0 .1)), r .0), (λ e. omega (arith, r .1 e, used-on e (ts .0 .0) a)), λ e n. omega (arith, r .2 e n, used-none e n (ts .0 .0) a))
+      let a = every-there J' (ts .0 .0) (λ e. omega (arith, h e)) in (
+        ((carried (ts .0 .0), walk-on (p .first) (p .second) (ts .0 .0) a (ts .0 .1)), r .0),
+        (λ e. omega (arith, r .1 e, used-on e (ts .0 .0) a)),
+        λ e n. omega (arith, r .2 e n, used-none e n (ts .0 .0) a),
+      )
 
   pub carry : (ps : List Pair) → Routed J' ps → Routed J (maps g ps)
   carry ps R = let t = trails-on ps (R .trails) (R .once) in

@@ -111,7 +111,8 @@ module _ (L C : Vertex → ℕ) (ps : List Pair) (top bottom q x : ℕ) (a : ℕ
   strip l k v = eqb (L v) l && (leb q (C v) && leb (suc (C v)) k)
 
   strip-up : (l k : ℕ) → q ≤ k → standing (strip l (suc k)) ps ≡ standing (strip l k) ps + standing (spot L C l k) ps
-  strip-up l k h = standing-add (Stands L C top bottom a) (strip l (suc k)) (strip l k) (spot L C l k) (λ u s. strip-bit q k (C u) (eqb (L u) l) h) ps stands
+  strip-up l k h = standing-add (Stands L C top bottom a) (strip l (suc k)) (strip l k) (spot L C l k)
+      (λ u s. strip-bit q k (C u) (eqb (L u) l) h) ps stands
 
   strip-base : (l k : ℕ) → k ≤ max q (a l) → standing (strip l k) ps ≡ 0
   strip-base l k h = standing-none (Stands L C top bottom a) (strip l k) (λ u s. one-false _ (λ e. go u s e)) ps stands
@@ -168,7 +169,8 @@ module _ (L C : Vertex → ℕ) (ps : List Pair) (top bottom q x : ℕ) (a : ℕ
   first-law pin f g =
       let i = standing-le (Stands L C top bottom a) (box L C q x top) (strip top (suc x))
       (λ u st. first-bit (L u) top (leb q (C u) && leb (suc (C u)) (suc x)) (st .0)) ps stands in
-      line-end (max q (a top)) (suc x) _ _ (suc x) x (let k = line-law top (suc x) x pin (omega arith) (omega arith) in omega arith) (omega arith) (omega arith)
+      line-end (max q (a top)) (suc x) _ _ (suc x) x (let k = line-law top (suc x) x pin (omega arith) (omega arith) in omega arith) (omega arith)
+      (omega arith)
 
   -- ── the lines from the corner's down to l, s terminals fewer than there could be on the first ──
   module _ (s : ℕ) (base : standing (box L C q x top) ps + s + max q (a top) ≤ one (leb q (a top)) + suc x)
@@ -176,7 +178,8 @@ module _ (L C : Vertex → ℕ) (ps : List Pair) (top bottom q x : ℕ) (a : ℕ
       (pins : (l : ℕ) → top ≤ l → l < r → Pin (suc l) (a l))
       (falls : (l : ℕ) → top ≤ l → l < r → max q (a (suc l)) ≤ max q (a l))
       (reach : (l : ℕ) → top ≤ l → l ≤ r → a l ≤ x) where
-    box-first : (l : ℕ) → l ≡ top → l ≤ r → standing (box L C q x l) ps + sum (suc l) (reaches top bottom a q) + s + (top + max q (a l)) ≤ suc l + suc x
+    box-first : (l : ℕ) → l ≡ top → l ≤ r → standing (box L C q x l) ps + sum (suc l) (reaches top bottom a q) + s +
+        (top + max q (a l)) ≤ suc l + suc x
     box-first l e h = rw e (
         let i = reaches-none top bottom a q top (omega arith) in
         let j = reaches-or top bottom a q top (omega arith) (omega arith) in
@@ -189,12 +192,14 @@ module _ (L C : Vertex → ℕ) (ps : List Pair) (top bottom q x : ℕ) (a : ℕ
         let i = standing-add (Stands L C top bottom a) (box L C q x (suc l)) (box L C q x l) (strip (suc l) (suc x))
         (λ u st. box-bit (L u) l (leb q (C u) && leb (suc (C u)) (suc x))) ps stands in
         let f = falls l t h in
-        let k = line-end (max q (a (suc l))) (max q (a l)) _ _ _ x (line-law (suc l) (a l) x (pins l t h) (omega arith) (omega (arith, reach (suc l) (omega arith) h)))
+        let k = line-end (max q (a (suc l))) (max q (a l)) _ _ _ x
+        (line-law (suc l) (a l) x (pins l t h) (omega arith) (omega (arith, reach (suc l) (omega arith) h)))
         f (omega (arith, reach l t (omega arith))) in
         let j = reaches-or top bottom a q (suc l) (omega arith) (omega arith) in
         omega (arith, sum-suc (suc l) (reaches top bottom a q))
 
-    pub box-law : (l : ℕ) → top ≤ l → l ≤ r → standing (box L C q x l) ps + sum (suc l) (reaches top bottom a q) + s + (top + max q (a l)) ≤ suc l + suc x
+    pub box-law : (l : ℕ) → top ≤ l → l ≤ r → standing (box L C q x l) ps + sum (suc l) (reaches top bottom a q) + s +
+        (top + max q (a l)) ≤ suc l + suc x
     box-law zero t h = box-first 0 (omega arith) h
     box-law (suc l) t h = elim (le-or-lt top l) [
       | inl b ↦ box-step l b h (box-law l b (omega arith))
@@ -221,14 +226,20 @@ pub corner-law : (L C : Vertex → ℕ) (ps : List Pair) (top bottom x : ℕ) (a
     → ((i j k : ℕ) → top ≤ i → i < j → j < k → k ≤ bottom → a j ≤ max (a i) (a k))
     → (q : ℕ) → q ≡ max (a r) (a (suc r))
     → (((c : ℕ) → q ≤ c → a top ≤ c → a (suc top) ≤ c) → standing (box L C q x top) ps + s + max q (a top) ≤ one (leb q (a top)) + suc x)
-    → ((l c : ℕ) → top ≤ l → suc l ≤ r → a (suc l) ≤ c → c ≤ x → a (suc (suc l)) ≤ c → standing (spot L C (suc l) c) ps ≤ one (leb c (a (suc l))) + one (leb (suc c) (a l)))
+    → ((l c : ℕ) → top ≤ l → suc l ≤ r → a (suc l) ≤ c → c ≤ x → a (suc (suc l)) ≤ c
+    → standing (spot L C (suc l) c) ps ≤ one (leb c (a (suc l))) + one (leb (suc c) (a l)))
     → leaving (λ v. leb (suc (C v)) q) ps ≤ sum n (reaches top bottom a q)
     → leaving (λ v. leb (L v) r && leb (C v) x) ps + s + (top + q) ≤ suc r + suc x
 corner-law L C ps top bottom x a stands s r n t d bn reach n1 q eq base pins left =
     elim (search-below a q top (suc r)) [
-      | inl h ↦ law 0 (omega (arith, leaving-none (Stands L C top bottom a) (λ v. leb (L v) r && leb (suc (C v)) q) (λ u st. one-false _ (λ e. early h u st e)) ps stands)) (omega arith)
+      | inl h ↦ law 0 (omega (
+        arith,
+        leaving-none (Stands L C top bottom a) (λ v. leb (L v) r && leb (suc (C v)) q)
+            (λ u st. one-false _ (λ e. early h u st e)) ps stands,
+      )) (omega arith)
       | inr h ↦
-          let c1 = leaving-ext (Stands L C top bottom a) (λ v. leb (L v) r && leb (suc (C v)) q) (λ v. leb (suc (C v)) q) (λ u st. late (after h) u st) ps stands in
+          let c1 = leaving-ext (Stands L C top bottom a) (λ v. leb (L v) r && leb (suc (C v)) q) (λ v. leb (suc (C v)) q)
+          (λ u st. late (after h) u st) ps stands in
           let c2 = sum-tail (suc r) (n - suc r) (reaches top bottom a q) (λ i g. none (after h) i g) in
           let c3 : n - suc r + suc r ≡ n = omega arith in
           let c4 : sum n (reaches top bottom a q) ≡ sum (suc r) (reaches top bottom a q) = rw c3 at c2 in
@@ -249,7 +260,8 @@ corner-law L C ps top bottom x a stands s r n t d bn reach n1 q eq base pins lef
 
     law : (w : ℕ) → leaving (λ v. leb (L v) r && leb (suc (C v)) q) ps ≤ w → w ≤ sum (suc r) (reaches top bottom a q)
         → leaving (λ v. leb (L v) r && leb (C v) x) ps + s + (top + q) ≤ suc r + suc x
-    law w i j = box-corner L C ps top bottom q x a stands s (base (λ c i j. next top c (omega arith) t i j)) r (omega arith) (omega (arith, reach r t (omega arith), reach (suc r) (omega arith) d))
+    law w i j = box-corner L C ps top bottom q x a stands s (base (λ c i j. next top c (omega arith) t i j)) r (omega arith)
+        (omega (arith, reach r t (omega arith), reach (suc r) (omega arith) d))
         (λ l h k c b e f. pins l c h k e f (next (suc l) c (omega arith) k b e)) fall (λ l h k. reach l h (omega arith)) w t (omega arith) i j
 
     early : ((l : ℕ) → top ≤ l → l < suc r → q ≤ a l) → (u : Vertex) → Stands L C top bottom a u → one (leb (L u) r && leb (suc (C u)) q) ≡ 1 → ⊥
@@ -270,12 +282,18 @@ corner-law L C ps top bottom x a stands s r n t d bn reach n1 q eq base pins lef
             ]
         | inr e ↦ elim (eq-case k (suc r)) [
           | inl f ↦ omega (arith, ap a (f .2), h .3, n1 (h .0) r k (h .1) (omega (arith, e .2, h .2)) i j)
-          | inr f ↦ omega (arith, h .3, n1 (h .0) r k (h .1) (omega (arith, e .2, h .2)) i j, n1 (h .0) (suc r) k (h .1) (h .2) (omega (arith, f .2)) j)
+          | inr f ↦ omega (
+            arith,
+            h .3,
+            n1 (h .0) r k (h .1) (omega (arith, e .2, h .2)) i j,
+            n1 (h .0) (suc r) k (h .1) (h .2) (omega (arith, f .2)) j,
+          )
         ]
       ]
     ]
 
-    late : ((k : ℕ) → r < k → k ≤ bottom → q ≤ a k) → (u : Vertex) → Stands L C top bottom a u → (leb (L u) r && leb (suc (C u)) q) ≡ leb (suc (C u)) q
+    late : ((k : ℕ) → r < k → k ≤ bottom → q ≤ a k) → (u : Vertex) → Stands L C top bottom a u
+        → (leb (L u) r && leb (suc (C u)) q) ≡ leb (suc (C u)) q
     late h u st = elim (le-case (L u) r) [
       | inl e ↦ rw (e .0)
       | inr e ↦ rw (e .0, lt-leb (suc (C u)) q (omega (arith, st .2, e .2, h (L u) (e .2) (st .1))))

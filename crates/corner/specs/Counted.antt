@@ -53,6 +53,7 @@ pins-stand b (p ∷ ps) h = (
 )
 
 -- and it has no more than 4 minus its degree
-pub pins-room : (b : Board) (ps : List Pair) → ((v : Vertex) → terminals ps v ≤ pins b v) → (v : Vertex) → IsVertex b v → terminals ps v ≤ 4 - degree b v
+pub pins-room : (b : Board) (ps : List Pair) → ((v : Vertex) → terminals ps v ≤ pins b v) → (v : Vertex) → IsVertex b v
+    → terminals ps v ≤ 4 - degree b v
 unfolding pins
 pins-room b ps h v k = let e : pins b v ≡ 4 - degree b v = rw (vertex-exact b v .1 k) refl in omega (arith, h v)

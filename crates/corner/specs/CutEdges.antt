@@ -18,7 +18,8 @@ module _ (S : Shape) (G : Shaped S) (T : Top S) where
   cap-col wide = let k1 = G .low in omega (
     arith,
     sum-interval size (S .top) (suc (S .bottom)) (λ l. one (present S l (start S) && present S l (suc (start S))))
-        (λ l h k. let t = T l (omega arith) in let e1 = present-one S l (start S) h (omega arith) (omega arith) (omega arith) in let e2 = present-one S l (suc (start S)) h (omega arith) (omega arith) (omega arith) in
+        (λ l h k. let t = T l (omega arith) in let e1 = present-one S l (start S) h (omega arith) (omega arith) (omega arith) in
+        let e2 = present-one S l (suc (start S)) h (omega arith) (omega arith) (omega arith) in
         omega (arith, and-bit (present S l (start S)) (present S l (suc (start S)))))
         (λ l h. rw (present-no S l (start S) (λ k. omega (arith, k .low))))
         (λ l h. rw (present-no S l (start S) (λ k. omega (arith, k .high)))),
@@ -32,11 +33,13 @@ module _ (S : Shape) (G : Shaped S) (T : Top S) where
       omega (
         arith,
         sum-interval size (max (S .a r) (S .a (suc r))) (suc (min (S .b r) (S .b (suc r)))) (λ c. one (present S r c && present S (suc r) c))
-            (λ c h k. let e1 = present-one S r c t (omega arith) (omega arith) (omega arith) in let e2 = present-one S (suc r) c (omega arith) d (omega arith) (omega arith) in
+            (λ c h k. let e1 = present-one S r c t (omega arith) (omega arith) (omega arith) in
+            let e2 = present-one S (suc r) c (omega arith) d (omega arith) (omega arith) in
             omega (arith, and-bit (present S r c) (present S (suc r) c)))
             (λ c h. out c (λ p q. omega (arith, p .from, q .from)))
             (λ c h. out c (λ p q. omega (arith, p .to, q .to))),
       )
     where
       out : (c : ℕ) → (At S r c → At S (suc r) c → ⊥) → one (present S r c && present S (suc r) c) ≡ 0
-      out c f = ap one (not-true (present S r c && present S (suc r) c) (λ e. let k = and-true (present S r c) (present S (suc r) c) e in f (present-true S r c (k .0)) (present-true S (suc r) c (k .1))))
+      out c f = ap one (not-true (present S r c && present S (suc r) c)
+          (λ e. let k = and-true (present S r c) (present S (suc r) c) e in f (present-true S r c (k .0)) (present-true S (suc r) c (k .1))))

@@ -56,7 +56,14 @@ module _ (p : ℕ → ℕ → Bool) (ps : List Pair)
 
   line-even : (l k : ℕ) → Even (Line-sum l k)
   unfolding deg sum
-  line-even l zero = (0, omega (arith, standing-none (In p) (part l 0) (λ u h. not-true _ (λ g. omega (arith, leb-true (suc (u .column)) 0 (and-true (eqb l (u .line)) (leb (suc (u .column)) 0) g .1)))) ps stand))
+  line-even l zero = (
+    0,
+    omega (
+      arith,
+      standing-none (In p) (part l 0)
+          (λ u h. not-true _ (λ g. omega (arith, leb-true (suc (u .column)) 0 (and-true (eqb l (u .line)) (leb (suc (u .column)) 0) g .1)))) ps stand,
+    ),
+  )
   line-even l (suc k) = let ih = line-even l k in elim (bool (p l k)) [
     | inl e ↦
         let f = even l k e in
@@ -75,13 +82,15 @@ module _ (p : ℕ → ℕ → Bool) (ps : List Pair)
 
   -- a whole line
   whole : (l : ℕ) → standing (part l size) ps ≡ standing (λ v. eqb (v .line) l) ps
-  whole l = standing-ext (In p) (part l size) (λ v. eqb (v .line) l) (λ u h. rw (le-leb (suc (u .column)) size (frame (u .line) (u .column) h), eqb-sym l (u .line)) (go (eqb (u .line) l))) ps stand
+  whole l = standing-ext (In p) (part l size) (λ v. eqb (v .line) l)
+      (λ u h. rw (le-leb (suc (u .column)) size (frame (u .line) (u .column) h), eqb-sym l (u .line)) (go (eqb (u .line) l))) ps stand
     where
       go : (b : Bool) → b && true ≡ b
       go true = refl
       go false = refl
 
-  line-total : (l : ℕ) → Even (standing (λ v. eqb (v .line) l) ps + sum size (λ c. one (p l c && up l c)) + sum size (λ c. one (p l c && p (suc l) c)))
+  line-total : (l : ℕ) → Even (standing (λ v. eqb (v .line) l) ps + sum size (λ c. one (p l c && up l c)) + sum size
+      (λ c. one (p l c && p (suc l) c)))
   line-total l = let k = line-even l size in
       let z : one (behind (p l) size && p l size) ≡ 0 = rw (not-true (p l size) (λ e. omega (arith, frame l size e))) (and-off (behind (p l) size)) in
       (k .0, omega (arith, k .1, whole l))
@@ -90,12 +99,15 @@ module _ (p : ℕ → ℕ → Bool) (ps : List Pair)
   unfolding cap
   rows-even zero =
       let k = line-total 0 in
-      let e = standing-ext (In p) (λ v. leb (v .line) 0) (λ v. eqb (v .line) 0) (λ u h. bool-eq _ _ (λ g. eq-eqb (u .line) 0 (omega (arith, leb-true (u .line) 0 g))) (λ g. le-leb (u .line) 0 (omega (arith, eqb-true (u .line) 0 g)))) ps stand in
+      let e = standing-ext (In p) (λ v. leb (v .line) 0) (λ v. eqb (v .line) 0)
+      (λ u h. bool-eq _ _ (λ g. eq-eqb (u .line) 0 (omega (arith, leb-true (u .line) 0 g)))
+      (λ g. le-leb (u .line) 0 (omega (arith, eqb-true (u .line) 0 g)))) ps stand in
       let z = sum-none size (λ c. one (p 0 c && false)) (λ c h. and-off (p 0 c)) in
       (k .0, omega (arith, k .1))
   rows-even (suc r) =
       let i = rows-even r in let k = line-total (suc r) in
-      let e = standing-add (In p) (λ v. leb (v .line) (suc r)) (λ v. leb (v .line) r) (λ v. eqb (v .line) (suc r)) (λ u h. le-suc-bit (u .line) r) ps stand in
+      let e = standing-add (In p) (λ v. leb (v .line) (suc r)) (λ v. leb (v .line) r) (λ v. eqb (v .line) (suc r))
+      (λ u h. le-suc-bit (u .line) r) ps stand in
       let c = sum-eq size (λ c. one (p (suc r) c && p r c)) (λ c. one (p r c && p (suc r) c)) (λ c h. ap one (and-comm (p (suc r) c) (p r c))) in
       (i .0 + k .0 - sum size (λ c. one (p r c && p (suc r) c)), omega (arith, i .1, k .1))
 
@@ -118,7 +130,8 @@ pub parity : (p : ℕ → ℕ → Bool) (ps : List Pair) → ((l c : ℕ) → p 
     → ((l c : ℕ) → p l c ≡ true → Even (deg p l c + standing (same (at l c)) ps)) → (X : Cut) → Even (cap p X + leaving (side X) ps)
 parity p ps frame stand even (Row r) = row-parity p ps (λ l c h. frame l c h .1) stand even r
 parity p ps frame stand even (Column x) =
-    let k = row-parity (λ c l. p l c) (maps swap ps) (λ c l h. frame l c h .0) (all-maps swap (In p) (In (λ c l. p l c)) (λ v h. h) ps stand) turned x in
+    let k = row-parity (λ c l. p l c) (maps swap ps) (λ c l h. frame l c h .0)
+    (all-maps swap (In p) (In (λ c l. p l c)) (λ v h. h) ps stand) turned x in
     (k .0, omega (arith, k .1, leaving-maps swap (side (Row x)) ps, cap-swap p x))
   where
     turned : (c l : ℕ) → p l c ≡ true → Even (deg (λ c l. p l c) c l + standing (same (at c l)) (maps swap ps))

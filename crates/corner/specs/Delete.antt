@@ -22,7 +22,8 @@ use Rattle.corner.specs.Shape.{size, Shape, present, At, vertices, behin
 use Rattle.corner.specs.Presence.{present-yes, present-no, present-eq, corner-at, at-corner, less-same, touch}
 
 -- where a line of the narrowed shape starts
-narrow-starts : (S : Shape) (l : ℕ) → ((l ≡ S .top) × (S .a l + one (eqb l (S .top)) ≡ suc (start S))) ⊎ ((l ≡ S .top → ⊥) × (S .a l + one (eqb l (S .top)) ≡ S .a l))
+narrow-starts : (S : Shape) (l : ℕ) → ((l ≡ S .top) × (S .a l + one (eqb l (S .top)) ≡ suc (start S))) ⊎
+    ((l ≡ S .top → ⊥) × (S .a l + one (eqb l (S .top)) ≡ S .a l))
 narrow-starts S l = elim (eq-case l (S .top)) [
   | inl e ↦ inl (e .2, omega (arith, ap (S .a) (e .2), e .1))
   | inr e ↦ inr (e .2, omega (arith, e .1))
@@ -73,7 +74,11 @@ narrow-less S G w = record {
         low = h .low;
         high = h .high;
         from = elim (narrow-starts S l) [
-          | inl f ↦ elim (eq-case c (start S)) [ inl g ↦ absurd (clash (at-corner S (at l c) (f .0) (g .2)) e) | inr g ↦ omega (arith, g .2, h .from, ap (S .a) (f .0)) ]
+          | inl f ↦ elim (eq-case c (start S)) [
+            | inl g ↦ absurd (clash (at-corner S (at l c) (f .0) (g .2)) e)
+            | inr g ↦
+                omega (arith, g .2, h .from, ap (S .a) (f .0))
+          ]
           | inr f ↦ omega (arith, h .from)
         ];
         to = h .to;

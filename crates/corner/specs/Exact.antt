@@ -7,7 +7,25 @@ use Prim.Native.Nat.{ℕ, suc, _-_}
 use native.Mathlib.Omega.{arith}
 use lib.Dec.{ltb}
 use borrow.Author.Tests.{lt-ltb}
-use Rattle.board.specs.Board.{Board, Cell, at, Edge, edge, Corner, Side, IsVertex, IsEdge, top-left, top-right, bottom-left, bottom-right, top-side, bottom-side, left-side, right-side}
+use Rattle.board.specs.Board.{
+  Board,
+  Cell,
+  at,
+  Edge,
+  edge,
+  Corner,
+  Side,
+  IsVertex,
+  IsEdge,
+  top-left,
+  top-right,
+  bottom-left,
+  bottom-right,
+  top-side,
+  bottom-side,
+  left-side,
+  right-side,
+}
 use Rattle.board.specs.Degree.{cell?, belowRight, belowLeft, aboveRight, aboveLeft, edge?}
 use Rattle.board.specs.Tests.{edge-exact}
 use Rattle.board.specs.declared.Vertex.{Vertex}
@@ -16,7 +34,8 @@ use Rattle.board.specs.declared.Direction.the-variants.{Up, Right, Down, Left}
 -- ── edges ──
 -- which side of its cell an edge is
 pub side-case : (i j : ℕ) (e : Edge) → Side i j e
-    → ((e ≡ edge (at i j) (at i (suc j))) ⊎ (e ≡ edge (at (suc i) j) (at (suc i) (suc j)))) ⊎ ((e ≡ edge (at i j) (at (suc i) j)) ⊎ (e ≡ edge (at i (suc j)) (at (suc i) (suc j))))
+    → ((e ≡ edge (at i j) (at i (suc j))) ⊎ (e ≡ edge (at (suc i) j) (at (suc i) (suc j)))) ⊎
+    ((e ≡ edge (at i j) (at (suc i) j)) ⊎ (e ≡ edge (at i (suc j)) (at (suc i) (suc j))))
 side-case i j e top-side = inl (inl refl)
 side-case i j e bottom-side = inl (inr refl)
 side-case i j e left-side = inr (inl refl)

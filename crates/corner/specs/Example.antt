@@ -16,10 +16,10 @@ use Rattle.net.specs.declared.Pair.{Pair}
 use Rattle.net.specs.Terminals.{terminals}
 use Rattle.cut.specs.Cut.{edges, crosses, crossing, margin, overfull?, cuts, overfullCuts}
 use Rattle.cut.specs.Odd.{odd?, oddVertices}
-use Rattle.routing.specs.Routing.{Routing}
+use Rattle.routing_rules.specs.Routing.{Routing}
 use Rattle.corner.specs.Pairs.{pair}
-use Rattle.convex.specs.Form.{Nested, NeverRegrow}
-use Rattle.convex.specs.Lemma1.{lemma-1}
+use Rattle.board_convex.specs.Form.{Nested, NeverRegrow}
+use Rattle.board_convex.specs.Lemma1.{lemma-1}
 use Rattle.corner.specs.Problem.{Problem}
 use Rattle.corner.specs.Exact.{Near, vertex-cell}
 use Rattle.corner.specs.Theorem.{routing}

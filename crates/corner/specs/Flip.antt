@@ -50,12 +50,14 @@ flip-shaped S G = record {
   thin = λ l h. G .thin (last - l) (line l h);
   between-left = λ i j k h1 h2 h3 h4. omega (
     arith,
-    G .between-left (last - k) (last - j) (last - i) (line k (omega arith, h4) .0) (omega (arith, line k (omega arith, h4))) (omega (arith, line k (omega arith, h4))) (line i (h1, omega arith) .1),
+    G .between-left (last - k) (last - j) (last - i) (line k (omega arith, h4) .0) (omega (arith, line k (omega arith, h4)))
+        (omega (arith, line k (omega arith, h4))) (line i (h1, omega arith) .1),
     max-sym (S .a (last - k)) (S .a (last - i)),
   );
   between-right = λ i j k h1 h2 h3 h4. omega (
     arith,
-    G .between-right (last - k) (last - j) (last - i) (line k (omega arith, h4) .0) (omega (arith, line k (omega arith, h4))) (omega (arith, line k (omega arith, h4))) (line i (h1, omega arith) .1),
+    G .between-right (last - k) (last - j) (last - i) (line k (omega arith, h4) .0) (omega (arith, line k (omega arith, h4)))
+        (omega (arith, line k (omega arith, h4))) (line i (h1, omega arith) .1),
     min-sym (S .b (last - k)) (S .b (last - i)),
   );
   nested = λ i j h k. G .nested (last - i) (last - j) (line i h) (line j k);
@@ -118,7 +120,8 @@ flip-deg S G l m c e = omega (arith, ap one (flip-mirror S G l m (suc c) e), dow
 
 flip-row : (S : Shape) → Shaped S → (r m : ℕ) → suc (r + m) ≡ last → cap (present (flip S)) (Row r) ≡ cap (present S) (Row m)
 unfolding cap
-flip-row S G r m e = sum-eq size _ _ (λ c h. ap one (ap₂ _&&_ (flip-mirror S G r (suc m) c (omega arith)) (flip-mirror S G (suc r) m c (omega arith)) ∙ and-comm (present S (suc m) c) (present S m c)))
+flip-row S G r m e = sum-eq size _ _ (λ c h. ap one (ap₂ _&&_ (flip-mirror S G r (suc m) c (omega arith)) (flip-mirror S G (suc r) m c (omega arith))
+    ∙ and-comm (present S (suc m) c) (present S m c)))
 
 flip-row-out : (S : Shape) → Shaped S → (r : ℕ) → last ≤ r → cap (present (flip S)) (Row r) ≡ 0
 unfolding cap
@@ -126,7 +129,8 @@ flip-row-out S G r e = sum-none size _ (λ c h. rw (flip-out S G (suc r) c (omeg
 
 flip-col : (S : Shape) → Shaped S → (y : ℕ) → cap (present (flip S)) (Column y) ≡ cap (present S) (Column y)
 unfolding cap
-flip-col S G y = sum-reverse size _ _ (λ i j e. let k = last-suc in ap one (ap₂ _&&_ (flip-mirror S G i j y (omega arith)) (flip-mirror S G i j (suc y) (omega arith))))
+flip-col S G y = sum-reverse size _ _ (λ i j e. let k = last-suc in
+    ap one (ap₂ _&&_ (flip-mirror S G i j y (omega arith)) (flip-mirror S G i j (suc y) (omega arith))))
 
 pub flip-vertices : (S : Shape) → Shaped S → vertices (flip S) ≡ vertices S
 unfolding vertices
@@ -136,7 +140,9 @@ flip-vertices S G = sum-reverse size _ _ (λ i j e. let k = last-suc in sum-eq s
 pub flip-good : (S : Shape) (ps : List Pair) → Good S ps → Good (flip S) (flips ps)
 flip-good S ps G = record {
   shaped = flip-shaped S (G .shaped);
-  stand = all-maps over (Here S) (Here (flip S)) (λ v h. present-true (flip S) (last - v .line) (v .column) (flip-mirror S (G .shaped) (last - v .line) (v .line) (v .column) (omega (arith, inn v h)) ∙ present-yes S (v .line) (v .column) h)) ps (G .stand);
+  stand = all-maps over (Here S) (Here (flip S)) (λ v h. present-true (flip S) (last - v .line) (v .column)
+      (flip-mirror S (G .shaped) (last - v .line) (v .line) (v .column) (omega (arith, inn v h)) ∙ present-yes S (v .line) (v .column) h)) ps
+      (G .stand);
   even = λ l c h. even l c (last - l) (omega (arith, h .high)) h;
   cuts = cuts;
 }
@@ -148,7 +154,8 @@ flip-good S ps G = record {
     even l c m e h =
         let k = G .even m c (present-true S m c (sym (flip-mirror S (G .shaped) l m c e) ∙ present-yes (flip S) l c h)) in
         let f = standing-ext (Here S) (λ v. same (at l c) (over v)) (same (at m c)) (λ v g. ap (λ b. b && eqb c (v .column))
-        (bool-eq (eqb l (last - v .line)) (eqb m (v .line)) (λ i. eq-eqb m (v .line) (omega (arith, eqb-true l (last - v .line) i, inn v g))) (λ i. eq-eqb l (last - v .line) (omega (arith, eqb-true m (v .line) i, inn v g))))) ps (G .stand) in
+        (bool-eq (eqb l (last - v .line)) (eqb m (v .line)) (λ i. eq-eqb m (v .line) (omega (arith, eqb-true l (last - v .line) i, inn v g)))
+        (λ i. eq-eqb l (last - v .line) (omega (arith, eqb-true m (v .line) i, inn v g))))) ps (G .stand) in
         (k .0, omega (arith, k .1, flip-deg S (G .shaped) l m c e, standing-maps over (same (at l c)) ps), k .2)
 
     turn : (r m : ℕ) → suc (r + m) ≡ last → (k : ℕ) × (cap (present (flip S)) (Row r) ≡ leaving (side (Row r)) (flips ps) + 2 * k)
@@ -162,7 +169,15 @@ flip-good S ps G = record {
 
     cuts : (X : Cut) → (k : ℕ) × (cap (present (flip S)) X ≡ leaving (side X) (flips ps) + 2 * k)
     cuts (Row r) = elim (le-or-lt last r) [
-      | inl h ↦ (0, omega (arith, flip-row-out S (G .shaped) r h, leaving-maps over (side (Row r)) ps, leaving-const (Here S) (λ v. leb (last - v .line) r) true (λ v g. le-leb (last - v .line) r (omega arith)) ps (G .stand)))
+      | inl h ↦ (
+        0,
+        omega (
+          arith,
+          flip-row-out S (G .shaped) r h,
+          leaving-maps over (side (Row r)) ps,
+          leaving-const (Here S) (λ v. leb (last - v .line) r) true (λ v g. le-leb (last - v .line) r (omega arith)) ps (G .stand),
+        ),
+      )
       | inr h ↦ turn r (last - suc r) (omega arith)
     ]
     cuts (Column y) = let k = G .cuts (Column y) in (k .0, omega (arith, k .1, flip-col S (G .shaped) y, leaving-maps over (side (Column y)) ps))
@@ -187,7 +202,8 @@ module _ (S : Shape) (G : Shaped S) where
   turn-joined (hor l c) j = let k = and-true (present (flip S) l c) (present (flip S) l (suc c)) j in let i = in-hor l c j in
       and-yes _ _ (sym (flip-mirror S G l (last - l) c (omega arith)) ∙ k .0) (sym (flip-mirror S G l (last - l) (suc c) (omega arith)) ∙ k .1)
   turn-joined (ver l c) j = let k = and-true (present (flip S) l c) (present (flip S) (suc l) c) j in let i = in-ver l c j in
-      and-yes _ _ (sym (flip-mirror S G (suc l) (last - suc l) c (omega arith)) ∙ k .1) (sym (flip-mirror S G l (suc (last - suc l)) c (omega arith)) ∙ k .0)
+      and-yes _ _ (sym (flip-mirror S G (suc l) (last - suc l) c (omega arith)) ∙ k .1)
+      (sym (flip-mirror S G l (suc (last - suc l)) c (omega arith)) ∙ k .0)
 
   turn-twice : (e : Link) → In e → flipLink (flipLink e) ≡ e
   turn-twice (hor l c) j = let i = in-hor l c j in ap (λ k. hor k c) (omega arith)
@@ -206,7 +222,8 @@ module _ (S : Shape) (G : Shaped S) where
 
 pub flip-lift : (S : Shape) (ps : List Pair) → Good S ps → Routed (joined (flip S)) (flips ps) → Routed (joined S) ps
 flip-lift S ps G R = subst (λ qs. Routed (joined S) qs) (maps-twice S (G .shaped) ps (G .stand))
-    (carry (joined S) (joined (flip S)) over flipLink flipLink (turn-joined S (G .shaped)) (turn-ends S (G .shaped)) (turn-twice S (G .shaped)) (flips ps) R)
+    (carry (joined S) (joined (flip S)) over flipLink flipLink (turn-joined S (G .shaped)) (turn-ends S (G .shaped)) (turn-twice S (G .shaped))
+    (flips ps) R)
 
 pub flip-proper : (S : Shape) → Shaped S → (ps : List Pair) → All (Here S) ps → Proper ps → Proper (flips ps)
 flip-proper S G [] a pr = tt

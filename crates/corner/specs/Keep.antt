@@ -29,19 +29,26 @@ Margin e d = (k : ℕ) × (e ≡ d + 2 * k)
 pub move-cut : (u w s : Bool) (E E' D k : ℕ) → E ≡ E' + apart u w → E ≡ apart u s + D + 2 * k → astray u w s ≤ k → Margin E' (apart w s + D)
 move-cut u w s E E' D k h i j = (k - astray u w s, omega (arith, detour u w s))
 
-pub split-cut : (u n d s t : Bool) (E E' D k : ℕ) → E ≡ E' + apart u n + apart u d → E ≡ apart u s + (apart u t + D) + 2 * k → astray u n s + astray u d t ≤ k
+pub split-cut : (u n d s t : Bool) (E E' D k : ℕ) → E ≡ E' + apart u n + apart u d → E ≡ apart u s + (apart u t + D) + 2 * k
+    → astray u n s + astray u d t ≤ k
     → Margin E' (apart n s + (apart d t + D))
 split-cut u n d s t E E' D k h i j = (k - (astray u n s + astray u d t), omega (arith, detour u n s, detour u d t))
 
-pub helper-cut : (u n d : Bool) (E E' D k : ℕ) → E ≡ E' + apart u n + apart u d → E ≡ D + 2 * k → apart n d + astray n u d ≤ k → Margin E' (apart n d + D)
+pub helper-cut : (u n d : Bool) (E E' D k : ℕ) → E ≡ E' + apart u n + apart u d → E ≡ D + 2 * k → apart n d + astray n u d ≤ k
+    → Margin E' (apart n d + D)
 helper-cut u n d E E' D k h i j = (k - (apart n d + astray n u d), omega (arith, detour n u d, apart-sym u n))
 
-pub divide-cut : (u n d p q : Bool) (E E' D k : ℕ) → E ≡ E' + apart u n + apart u d → E ≡ apart p q + D + 2 * k → astray p n u + astray p u d + astray p d q ≤ k
+pub divide-cut : (u n d p q : Bool) (E E' D k : ℕ) → E ≡ E' + apart u n + apart u d → E ≡ apart p q + D + 2 * k
+    → astray p n u + astray p u d + astray p d q ≤ k
     → Margin E' (apart p n + (apart d q + D))
-divide-cut u n d p q E E' D k h i j = (k - (astray p n u + astray p u d + astray p d q), omega (arith, detour p n u, detour p u d, detour p d q, apart-sym u n))
+divide-cut u n d p q E E' D k h i j = (
+  k - (astray p n u + astray p u d + astray p d q),
+  omega (arith, detour p n u, detour p u d, detour p d q, apart-sym u n),
+)
 
 pub keep : (S S' : Shape) (ps ps' : List Pair) → Good S ps → Shaped S' → Less S S' (UL S) → All (Here S') ps'
-    → ((l c : ℕ) → At S l c → same (at l c) (UL S) ≡ false → standing (same (at l c)) ps' ≡ standing (same (at l c)) ps + (one (same (at l c) (NUL S)) + one (same (at l c) (BUL S))))
+    → ((l c : ℕ) → At S l c → same (at l c) (UL S) ≡ false
+    → standing (same (at l c)) ps' ≡ standing (same (at l c)) ps + (one (same (at l c) (NUL S)) + one (same (at l c) (BUL S))))
     → ((X : Cut) → Margin (cap (present S') X) (leaving (side X) ps')) → Good S' ps'
 keep S S' ps ps' G H L st en cu = record {
   shaped = H;
@@ -54,7 +61,8 @@ keep S S' ps ps' G H L st en cu = record {
     go l c h =
         let p = present-yes S' l c h in
         let h' : At S l c = present-true S l c (less-still S S' (UL S) L l c p) in
-        let f : same (at l c) (UL S) ≡ false = one-false (same (at l c) (UL S)) (λ e. omega (arith, ap one p, ap one (present-yes S l c h'), less-bit S S' (UL S) L l c, ap one (same-sym (at l c) (UL S)))) in
+        let f : same (at l c) (UL S) ≡ false = one-false (same (at l c) (UL S))
+        (λ e. omega (arith, ap one p, ap one (present-yes S l c h'), less-bit S S' (UL S) L l c, ap one (same-sym (at l c) (UL S)))) in
         let k = G .even l c h' in
         (k .0, omega (arith, k .1, deg-less S S' (UL S) L l c, touch-corner S l c h', en l c h' f), k .2)
 

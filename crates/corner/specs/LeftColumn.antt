@@ -53,11 +53,20 @@ module _ (S : Shape) (ps : List Pair) (G : Good S ps) (T : Top S) (wide : start 
   column-part m e =
       let st = stands S ps G T wide in
       let f = first-law line-of column-of ps (S .top) (S .bottom) (start S) (start S) (S .a) st
-      (λ c i j k. omega (arith, spot-same S ps G T wide (S .top) c, pin-top S ps G T wide deep c j (omega arith), ap one (le-leb (suc c) (suc (start S)) (omega arith)))) (omega arith) (omega arith) in
+      (λ c i j k. omega (
+        arith,
+        spot-same S ps G T wide (S .top) c,
+        pin-top S ps G T wide deep c j (omega arith),
+        ap one (le-leb (suc c) (suc (start S)) (omega arith)),
+      )) (omega arith) (omega arith) in
       omega (
         arith,
         box-law line-of column-of ps (S .top) (S .bottom) (start S) (start S) (S .a) st 0 (omega arith) m (omega arith) (omega arith)
-            (λ l h k c i j n. omega (arith, spot-same S ps G T wide (suc l) c, pin-in S ps G T wide l c h (omega arith) j (omega arith) (omega (arith, T (suc (suc l)) (omega arith)))))
+            (λ l h k c i j n. omega (
+              arith,
+              spot-same S ps G T wide (suc l) c,
+              pin-in S ps G T wide l c h (omega arith) j (omega arith) (omega (arith, T (suc (suc l)) (omega arith))),
+            ))
             (λ l h k. omega (arith, T l (omega arith), T (suc l) (omega arith)))
             (λ l h k. T l (omega arith) .0) m (omega arith) (omega arith),
       )
@@ -87,12 +96,14 @@ module _ (S : Shape) (ps : List Pair) (G : Good S ps) (T : Top S) (wide : start 
           let i = standing-add (Here S) (box line-of column-of (start S) (start S) (suc m)) (box line-of column-of (start S) (start S) m)
           (λ v. eqb (v .line) (suc m) && (leb (start S) (v .column) && leb (suc (v .column)) (suc (start S))))
           (λ u h. box-bit (u .line) m (leb (start S) (u .column) && leb (suc (u .column)) (suc (start S)))) ps (G .stand) in
-          let j = standing-le (Here S) (λ v. eqb (v .line) (suc m) && (leb (start S) (v .column) && leb (suc (v .column)) (suc (start S)))) (same (at (suc m) (start S)))
+          let j = standing-le (Here S) (λ v. eqb (v .line) (suc m) && (leb (start S) (v .column) && leb (suc (v .column)) (suc (start S))))
+          (same (at (suc m) (start S)))
           (λ u h. one-imply _ _ (λ g.
           let k2 = and-true (eqb (u .line) (suc m)) (leb (start S) (u .column) && leb (suc (u .column)) (suc (start S))) g in
           let k3 = and-true (leb (start S) (u .column)) (leb (suc (u .column)) (suc (start S))) (k2 .1) in
           and-yes _ _ (eq-eqb (suc m) (u .line) (sym (eqb-true (u .line) (suc m) (k2 .0))))
-          (eq-eqb (start S) (u .column) (omega (arith, leb-true (start S) (u .column) (k3 .0), leb-true (suc (u .column)) (suc (start S)) (k3 .1)))))) ps (G .stand) in
+          (eq-eqb (start S) (u .column) (omega (arith, leb-true (start S) (u .column) (k3 .0), leb-true (suc (u .column)) (suc (start S)) (k3 .1))))))
+          ps (G .stand) in
           let w : standing Col ps ≡ standing (box line-of column-of (start S) (start S) (suc m)) ps = rw e refl in
           let t = sum-tail (suc (suc m)) (size - suc (suc m)) f (λ n h. omega (
             arith,
@@ -106,7 +117,8 @@ module _ (S : Shape) (ps : List Pair) (G : Good S ps) (T : Top S) (wide : start 
 
   -- pairs left of the cut with an end in the column
   abbrev left : Vertex → Vertex → ℕ
-  left u v = one ((leb (u .column) (start S) && leb (v .column) (start S)) && not (leb (suc (u .column)) (start S) && leb (suc (v .column)) (start S)))
+  left u v = one ((leb (u .column) (start S) && leb (v .column) (start S))
+      && not (leb (suc (u .column)) (start S) && leb (suc (v .column)) (start S)))
 
   column-bit : (u : Vertex) → Here S u → one (leb (u .column) (start S)) ≡ one (leb (suc (u .column)) (start S)) + one (Col u)
   column-bit u h =
@@ -134,13 +146,17 @@ module _ (S : Shape) (ps : List Pair) (G : Good S ps) (T : Top S) (wide : start 
   )
 
   left-sym : (u v : Vertex) → left u v ≡ left v u
-  left-sym u v = rw (and-comm (leb (u .column) (start S)) (leb (v .column) (start S)), and-comm (leb (suc (u .column)) (start S)) (leb (suc (v .column)) (start S)))
+  left-sym u v = rw (
+    and-comm (leb (u .column) (start S)) (leb (v .column) (start S)),
+    and-comm (leb (suc (u .column)) (start S)) (leb (suc (v .column)) (start S)),
+  )
 
   left-here : (s : Vertex) → s .column ≤ start S → left (UL S) s ≡ 1
   left-here s h = rw (le-leb (start S) (start S) (omega arith), le-leb (s .column) (start S) h, lt-leb (suc (start S)) (start S) (omega arith))
 
   -- the split step at the column cut
-  pub room-left : (s t : Vertex) (rest1 rest : List Pair) → Take (UL S) s ps rest1 → Take (UL S) t rest1 rest → s .column ≤ start S → t .column ≤ start S → Roomy S ps (leftCut S)
+  pub room-left : (s t : Vertex) (rest1 rest : List Pair) → Take (UL S) s ps rest1 → Take (UL S) t rest1 rest → s .column ≤ start S
+      → t .column ≤ start S → Roomy S ps (leftCut S)
   room-left s t rest1 rest t1 t2 hs ht =
       let i1 = tally-take left left-sym (UL S) s t1 in let i2 = tally-take left left-sym (UL S) t t2 in
       let e = left-here s hs in let f = left-here t ht in

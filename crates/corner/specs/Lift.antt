@@ -14,7 +14,8 @@ use Rattle.corner.specs.Trails.{Link, lo, hi, joined, used, Trail, total
 use Rattle.corner.specs.TrailLaws.{link-sym, used-join, walk-join, put, put-total, link-one, link-two}
 
 -- one edge
-pub lift-move : (S S' : Shape) → Less S S' (UL S) → (ps rest : List Pair) (f : Link) (s : Vertex) → Take (lo f) s ps rest → lo f ≡ UL S → joined S f ≡ true
+pub lift-move : (S S' : Shape) → Less S S' (UL S) → (ps rest : List Pair) (f : Link) (s : Vertex) → Take (lo f) s ps rest → lo f ≡ UL S
+    → joined S f ≡ true
     → Routed (joined S') (pair (hi f) s ∷ rest) → Routed (joined S) ps
 unfolding total used
 lift-move S S' L ps rest f s tk p was R = record {
@@ -55,7 +56,8 @@ module _ (S S' : Shape) (L : Less S S' (UL S)) (jn : joined S (rightLink S) ≡ 
     once = λ e. omega (arith, R .once e, link-two S S' L e jn jb);
   }
 
-  pub lift-divide : (p q : Vertex) (rest : List Pair) → Take p q ps rest → Routed (joined S') (pair p (NUL S) ∷ pair (BUL S) q ∷ rest) → Routed (joined S) ps
+  pub lift-divide : (p q : Vertex) (rest : List Pair) → Take p q ps rest → Routed (joined S') (pair p (NUL S) ∷ pair (BUL S) q ∷ rest)
+      → Routed (joined S) ps
   unfolding total used
   lift-divide p q rest k R = record {
     trails = put p q k t (R .trails .1 .1);
@@ -73,5 +75,6 @@ module _ (S S' : Shape) (L : Less S S' (UL S)) (jn : joined S (rightLink S) ≡ 
       t : Trail p q
       t = (
         R .trails .0 .0 ++ (rightLink S ∷ downLink S ∷ R .trails .1 .0 .0),
-        walk-join p (NUL S) q (R .trails .0 .0) (rightLink S ∷ downLink S ∷ R .trails .1 .0 .0) (R .trails .0 .1) (inr (refl, inl (refl, R .trails .1 .0 .1))),
+        walk-join p (NUL S) q (R .trails .0 .0) (rightLink S ∷ downLink S ∷ R .trails .1 .0 .0) (R .trails .0 .1)
+            (inr (refl, inl (refl, R .trails .1 .0 .1))),
       )

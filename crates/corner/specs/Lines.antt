@@ -14,7 +14,7 @@ use Rattle.board.specs.declared.Vertex.{Vertex}
 use Rattle.board.specs.declared.Direction.the-variants.{Right, Down}
 use Rattle.cut.specs.declared.Cut.{Cut}
 use Rattle.cut.specs.Cut.{edges}
-use Rattle.convex.specs.Form.{Nested, width, NeverRegrow}
+use Rattle.board_convex.specs.Form.{Nested, width, NeverRegrow}
 use Rattle.corner.specs.Shape.{last, Shape, present, Here, deg, cap, Shaped}
 use Rattle.corner.specs.Presence.{present-yes, present-true}
 use Rattle.corner.specs.Trails.{Link, hor, ver, joined}
@@ -88,7 +88,8 @@ module _ (b : Board) (W : Within b) (N : Nested b) (M : NeverRegrow b) where
       (λ e.
       let k = and-true (present (linesOf b) l c) (present (linesOf b) l (suc c)) e in
       let r = horizontal (pred (height b)) (left b) (right b) stack l c (k .0) (k .1) in
-      right-exact b l c .1 (level-edge b l c (r .0) (near l (r .0) (r .2) (r .3)) (record { row = omega (arith, r .1, W .some); from = r .4; to = r .5 })))
+      right-exact b l c .1 (level-edge b l c (r .0) (near l (r .0) (r .2) (r .3))
+      (record { row = omega (arith, r .1, W .some); from = r .4; to = r .5 })))
       (λ e.
       let k = level b l c (right-exact b l c .0 e) in
       let r = horizontal-back (pred (height b)) (left b) (right b) stack (k .0) l c (omega (arith, k .2 .row)) (k .1) (k .2 .from) (k .2 .to) in
@@ -107,7 +108,8 @@ module _ (b : Board) (W : Within b) (N : Nested b) (M : NeverRegrow b) where
   upright-joined : (l c : ℕ) → joined (linesOf b) (ver l c) ≡ edge? b Down (at l c)
   upright-joined l c = elim (le-or-lt (height b) l) [
     | inl h ↦ not-true (joined (linesOf b) (ver l c)) (λ e.
-        let k = present-true (linesOf b) (suc l) c (and-true (present (linesOf b) l c) (present (linesOf b) (suc l) c) e .1) in omega (arith, k .high, W .some))
+        let k = present-true (linesOf b) (suc l) c (and-true (present (linesOf b) l c) (present (linesOf b) (suc l) c) e .1) in
+        omega (arith, k .high, W .some))
         ∙ sym (not-true (edge? b Down (at l c)) (λ e. omega (arith, upright b l c (down-exact b l c .0 e) .2 .row)))
     | inr h ↦ vertical (pred (height b)) (left b) (right b) stack l c (omega (arith, W .some)) ∙ row-column l c h
   ]

@@ -17,13 +17,25 @@ use Rattle.net.specs.Terminals.{same}
 use Rattle.cut.specs.declared.Cut.{Cut}
 use Rattle.cut.specs.declared.Cut.the-variants.{Row, Column}
 use Rattle.cut.specs.Cut.{edges}
-use Rattle.routing.specs.Routing.{sameEdge}
+use Rattle.routing_rules.specs.Routing.{sameEdge}
 use Rattle.net.specs.Same.{same-true, same-self}
 use Rattle.corner.specs.Shape.{size}
 use Rattle.corner.specs.Trails.{Link, hor, ver, lo, hi, Ends, sameLink, capOf, InFrame}
 use Rattle.corner.specs.TrailLaws.{link-self, link-true}
 use Rattle.corner.specs.Around.{prior, around}
-use Rattle.corner.specs.Exact.{side-case, level, upright, no-loop, right-exact, down-exact, up-down, left-right, up-none, left-none, cell-vertex}
+use Rattle.corner.specs.Exact.{
+  side-case,
+  level,
+  upright,
+  no-loop,
+  right-exact,
+  down-exact,
+  up-down,
+  left-right,
+  up-none,
+  left-none,
+  cell-vertex,
+}
 use Rattle.corner.specs.Links.{onBoard, edgeOf, linkOf, forward, backward}
 
 pub on-exact : (b : Board) (e : Link) → (onBoard b e ≡ true) ↔ IsEdge b (edgeOf e)
@@ -88,9 +100,12 @@ link-case g = elim (bool (same (g .to) (at (g .from .line) (suc (g .from .column
   ]
 ]
   where
-    neither : (f : Link) → g ≡ edgeOf f → same (g .to) (at (g .from .line) (suc (g .from .column))) ≡ false → same (g .to) (at (suc (g .from .line)) (g .from .column)) ≡ false → ⊥
-    neither (hor m d) q h k = clash (subst (λ (e : Edge). same (e .to) (at (e .from .line) (suc (e .from .column))) ≡ true) (sym q) (same-self (at m (suc d)))) h
-    neither (ver m d) q h k = clash (subst (λ (e : Edge). same (e .to) (at (suc (e .from .line)) (e .from .column)) ≡ true) (sym q) (same-self (at (suc m) d))) k
+    neither : (f : Link) → g ≡ edgeOf f → same (g .to) (at (g .from .line) (suc (g .from .column))) ≡ false
+        → same (g .to) (at (suc (g .from .line)) (g .from .column)) ≡ false → ⊥
+    neither (hor m d) q h k = clash (subst (λ (e : Edge). same (e .to) (at (e .from .line) (suc (e .from .column))) ≡ true) (sym q)
+        (same-self (at m (suc d)))) h
+    neither (ver m d) q h k = clash (subst (λ (e : Edge). same (e .to) (at (suc (e .from .line)) (e .from .column)) ≡ true) (sym q)
+        (same-self (at (suc m) d))) k
 
 -- the edges of a board are unit edges, and their ends are vertices
 pub edge-unit : (b : Board) (e : Edge) → IsEdge b e → (f : Link) × (e ≡ edgeOf f)

@@ -26,7 +26,8 @@ use Rattle.corner.specs.CornerLaw.{Stands, spot, box, reaches, first-law
 use Rattle.corner.specs.UpperLeft.{room-at}
 
 -- ── numbers and truth values, turned ──
-lower-arith : (D r x bottom b0 b1 q0 q1 : ℕ) → D + 0 + (last - bottom + max q0 q1) ≤ suc (last - suc r) + suc (last - suc x) → suc r ≤ last → bottom ≤ last → suc x ≤ last
+lower-arith : (D r x bottom b0 b1 q0 q1 : ℕ) → D + 0 + (last - bottom + max q0 q1) ≤ suc (last - suc r) + suc (last - suc x) → suc r ≤ last
+    → bottom ≤ last → suc x ≤ last
     → q0 + b1 ≡ last → q1 + b0 ≡ last → D + r + x ≤ bottom + min b0 b1
 lower-arith D r x bottom b0 b1 q0 q1 h1 h2 h3 h4 h5 h6 = omega arith
 
@@ -94,7 +95,8 @@ module _ (S : Shape) (ps : List Pair) (G : Good S ps) (T : Top S) (wide : start 
       (λ g. let k = and-true (eqb (L' u) l) (eqb (C' u) c) g in
       and-yes _ _ (eq-eqb i (u .line) (omega (arith, eqb-true (L' u) l (k .0)))) (eq-eqb j (u .column) (omega (arith, eqb-true (C' u) c (k .1)))))
       (λ g. let k = and-true (eqb i (u .line)) (eqb j (u .column)) g in
-      and-yes _ _ (eq-eqb (L' u) l (omega (arith, eqb-true i (u .line) (k .0)))) (eq-eqb (C' u) c (omega (arith, eqb-true j (u .column) (k .1)))))) ps (G .stand)
+      and-yes _ _ (eq-eqb (L' u) l (omega (arith, eqb-true i (u .line) (k .0)))) (eq-eqb (C' u) c (omega (arith, eqb-true j (u .column) (k .1))))))
+      ps (G .stand)
 
   stands' : All (Stands L' C' (last - S .bottom) (last - S .top) a') ps
   stands' = all-map (λ v h.
@@ -111,7 +113,8 @@ module _ (S : Shape) (ps : List Pair) (G : Good S ps) (T : Top S) (wide : start 
       (λ g.
       let k = present-true S i (suc (last - q)) (and-true (present S i (last - q)) (present S i (suc (last - q))) g .1) in
       let k3 = k .low in let k4 = k .high in let k5 = k .to in let k6 = G .shaped .thin i (k3, k4) in
-      and-yes _ _ (and-yes _ _ (le-leb (last - S .bottom) j (omega arith)) (le-leb j (last - S .top) (omega arith))) (le-leb (suc (a' j)) q (omega arith)))
+      and-yes _ _ (and-yes _ _ (le-leb (last - S .bottom) j (omega arith)) (le-leb j (last - S .top) (omega arith)))
+      (le-leb (suc (a' j)) q (omega arith)))
       (λ g.
       let j1 = and-true (leb (last - S .bottom) j && leb j (last - S .top)) (leb (suc (a' j)) q) g in
       let j2 = and-true (leb (last - S .bottom) j) (leb j (last - S .top)) (j1 .0) in
@@ -137,7 +140,8 @@ module _ (S : Shape) (ps : List Pair) (G : Good S ps) (T : Top S) (wide : start 
             | inr e ↦ rw (e .0) (le-leb (suc (C' u)) q (omega arith))
           ]
 
-  pin-far : (l c l0 c0 : ℕ) → suc (suc l0) + l ≡ last → suc c0 + c ≡ last → S .top ≤ l0 → suc (suc l0) ≤ S .bottom → a' (suc l) ≤ c → start S ≤ c0 → a' (suc (suc l)) ≤ c
+  pin-far : (l c l0 c0 : ℕ) → suc (suc l0) + l ≡ last → suc c0 + c ≡ last → S .top ≤ l0 → suc (suc l0) ≤ S .bottom → a' (suc l) ≤ c → start S ≤ c0
+      → a' (suc (suc l)) ≤ c
       → standing (spot L' C' (suc l) c) ps ≤ one (leb c (a' (suc l))) + one (leb (suc c) (a' l))
   pin-far l c l0 c0 e f h1 h2 h3 h4 h5 =
       let i0 : last - suc (suc l) ≡ l0 = omega arith in
@@ -146,7 +150,8 @@ module _ (S : Shape) (ps : List Pair) (G : Good S ps) (T : Top S) (wide : start 
       let e0 = ap (S .b) i0 in let e1 = ap (S .b) i1 in let e2 = ap (S .b) i2 in
       let p = pin-out l0 c0 h1 h2 h4 (omega arith) (omega arith) in
       let z = spot-turned (suc l) c (suc l0) (suc c0) (omega arith) f in
-      pin-arith (standing (spot L' C' (suc l) c) ps) (leb (S .b (suc l0)) (suc c0)) (leb (suc (S .b (suc (suc l0)))) (suc c0)) (leb c (a' (suc l))) (leb (suc c) (a' l)) (omega arith)
+      pin-arith (standing (spot L' C' (suc l) c) ps) (leb (S .b (suc l0)) (suc c0)) (leb (suc (S .b (suc (suc l0)))) (suc c0)) (leb c (a' (suc l)))
+      (leb (suc c) (a' l)) (omega arith)
       (λ g. let w = leb-true (S .b (suc l0)) (suc c0) g in le-leb c (a' (suc l)) (omega arith))
       (λ g. let w = leb-true (suc (S .b (suc (suc l0)))) (suc c0) g in le-leb (suc c) (a' l) (omega arith))
 
@@ -154,11 +159,14 @@ module _ (S : Shape) (ps : List Pair) (G : Good S ps) (T : Top S) (wide : start 
       → leaving (λ v. not (leb (v .line) r) && not (leb (v .column) (start S))) ps + r + start S ≤ S .bottom + min (S .b r) (S .b (suc r))
   lower-right r t d =
       let k1 = G .shaped .low in let k2 = last-suc in
-      let e = leaving-ext (Here S) (λ v. not (leb (v .line) r) && not (leb (v .column) (start S))) (λ v. leb (L' v) (last - suc r) && leb (C' v) (last - suc (start S)))
+      let e = leaving-ext (Here S) (λ v. not (leb (v .line) r) && not (leb (v .column) (start S)))
+      (λ v. leb (L' v) (last - suc r) && leb (C' v) (last - suc (start S)))
       (λ u h. turned u h) ps (G .stand) in
-      let c = corner-law L' C' ps (last - S .bottom) (last - S .top) (last - suc (start S)) a' stands' 0 (last - suc r) size (omega arith) (omega arith) (omega arith)
+      let c = corner-law L' C' ps (last - S .bottom) (last - S .top) (last - suc (start S)) a' stands' 0 (last - suc r) size (omega arith)
+      (omega arith) (omega arith)
       reach n1 q refl base pin (right-law q fit) in
-      lower-arith _ r (start S) (S .bottom) (S .b r) (S .b (suc r)) (a' (last - suc r)) (a' (suc (last - suc r))) (omega arith) (omega arith) (omega arith)
+      lower-arith _ r (start S) (S .bottom) (S .b r) (S .b (suc r)) (a' (last - suc r)) (a' (suc (last - suc r))) (omega arith) (omega arith)
+      (omega arith)
       (omega (arith, wide, G .shaped .thin (S .top) (omega (arith, G .shaped .order))))
       (omega (arith, bq, G .shaped .thin (suc r) (omega arith))) (omega (arith, br, G .shaped .thin r (omega arith)))
     where
@@ -172,7 +180,8 @@ module _ (S : Shape) (ps : List Pair) (G : Good S ps) (T : Top S) (wide : start 
       br = ap (S .b) (omega (arith, G .shaped .low, last-suc))
 
       reach : (l : ℕ) → last - S .bottom ≤ l → l ≤ last - S .top → a' l ≤ last - suc (start S)
-      reach l h k = let k1 = G .shaped .low in let k2 = last-suc in let k3 = G .shaped .order in omega (arith, T (last - l) (omega arith, omega arith), wide)
+      reach l h k = let k1 = G .shaped .low in let k2 = last-suc in let k3 = G .shaped .order in
+          omega (arith, T (last - l) (omega arith, omega arith), wide)
 
       fit : q ≤ last - suc (start S)
       fit = let k1 = G .shaped .low in let k2 = last-suc in
@@ -180,7 +189,8 @@ module _ (S : Shape) (ps : List Pair) (G : Good S ps) (T : Top S) (wide : start 
 
       n1 : (i j k : ℕ) → last - S .bottom ≤ i → i < j → j < k → k ≤ last - S .top → a' j ≤ max (a' i) (a' k)
       n1 i j k h1 h2 h3 h4 = let k1 = G .shaped .low in let k2 = last-suc in let k3 = G .shaped .order in
-          n1-arith (S .b (last - i)) (S .b (last - j)) (S .b (last - k)) (G .shaped .between-right (last - k) (last - j) (last - i) (omega arith) (omega arith) (omega arith) (omega arith))
+          n1-arith (S .b (last - i)) (S .b (last - j)) (S .b (last - k))
+          (G .shaped .between-right (last - k) (last - j) (last - i) (omega arith) (omega arith) (omega arith) (omega arith))
 
       first : (c : ℕ) → a' (last - S .bottom) ≤ c → c ≤ last - suc (start S) → a' (suc (last - S .bottom)) ≤ c
           → standing (spot L' C' (last - S .bottom) c) ps ≤ one (leb c (a' (last - S .bottom))) + one (leb (suc c) (suc (last - suc (start S))))
@@ -199,7 +209,8 @@ module _ (S : Shape) (ps : List Pair) (G : Good S ps) (T : Top S) (wide : start 
           ]
 
       base : ((c : ℕ) → q ≤ c → a' (last - S .bottom) ≤ c → a' (suc (last - S .bottom)) ≤ c)
-          → standing (box L' C' q (last - suc (start S)) (last - S .bottom)) ps + 0 + max q (a' (last - S .bottom)) ≤ one (leb q (a' (last - S .bottom))) + suc (last - suc (start S))
+          → standing (box L' C' q (last - suc (start S)) (last - S .bottom)) ps + 0 + max q (a' (last - S .bottom)) ≤ one
+          (leb q (a' (last - S .bottom))) + suc (last - suc (start S))
       base nx =
           let k1 = G .shaped .low in let k2 = last-suc in let k3 = G .shaped .order in
           omega (
@@ -215,8 +226,10 @@ module _ (S : Shape) (ps : List Pair) (G : Good S ps) (T : Top S) (wide : start 
           let k4 = G .shaped .thin (S .top) (omega arith, omega arith) in
           pin-far l c (last - suc (suc l)) (last - suc c) (omega arith) (omega arith) (omega arith) (omega arith) h3 (omega arith) h5
 
-      turned : (u : Vertex) → Here S u → (not (leb (u .line) r) && not (leb (u .column) (start S))) ≡ (leb (L' u) (last - suc r) && leb (C' u) (last - suc (start S)))
+      turned : (u : Vertex) → Here S u → (not (leb (u .line) r) && not (leb (u .column) (start S)))
+          ≡ (leb (L' u) (last - suc r) && leb (C' u) (last - suc (start S)))
       turned u h =
-          let k1 = G .shaped .low in let k2 = last-suc in let k3 = h .high in let k4 = h .to in let k5 = G .shaped .thin (u .line) (h .low, h .high) in
+          let k1 = G .shaped .low in let k2 = last-suc in let k3 = h .high in let k4 = h .to in
+          let k5 = G .shaped .thin (u .line) (h .low, h .high) in
           let k6 = G .shaped .thin (S .top) (omega (arith, G .shaped .order)) in
           ap₂ _&&_ (turn-bit (u .line) r (omega arith) (omega arith)) (turn-bit (u .column) (start S) (omega arith) (omega arith))

@@ -16,12 +16,32 @@ use Rattle.cut.specs.declared.Cut.{Cut}
 use Rattle.cut.specs.Cut.{edges, side}
 use Rattle.count.specs.Bits.{leb-next}
 use Rattle.corner.specs.Pairs.{pair, apart, All, leaving, standing, Proper, Take}
-use Rattle.convex.specs.Form.{width}
+use Rattle.board_convex.specs.Form.{width}
 use Rattle.net.specs.Same.{same-true, same-self}
 use Rattle.corner.specs.Apart.{astray-start, astray-end}
 use Rattle.corner.specs.Tallies.{all-zip, standing-cons, leaving-cons, all-out, leaving-ext}
 use Rattle.corner.specs.Taking.{all-take, leaving-take, standing-take, pick, proper-take, proper-leaving}
-use Rattle.corner.specs.Shape.{Shape, present, At, Here, deg, cap, Shaped, Good, start, finish, Top, UL, NUL, BUL, topCut, leftCut, narrow, lower, Less}
+use Rattle.corner.specs.Shape.{
+  Shape,
+  present,
+  At,
+  Here,
+  deg,
+  cap,
+  Shaped,
+  Good,
+  start,
+  finish,
+  Top,
+  UL,
+  NUL,
+  BUL,
+  topCut,
+  leftCut,
+  narrow,
+  lower,
+  Less,
+}
 use Rattle.corner.specs.Presence.{present-no, present-one, behind-above, behind-before, corner-at, off-corner, corner-here, kept}
 use Rattle.corner.specs.Delete.{narrow-shaped, lower-shaped, narrow-less, lower-less, cap-less}
 use Rattle.corner.specs.CutEdges.{cap-col, cap-row}
@@ -72,11 +92,13 @@ module _ (S S' : Shape) (w : Vertex) (X : Cut) (O : OneEdge S S' w X) (ps : List
   move-good s rest tk = keep S S' ps (pair w s ∷ rest) G (O .shaped) (O .less) (
     O .stays,
     kept S S' (UL S) (O .less) (s .line) (s .column) (a .1) p,
-    all-zip (λ v h e. kept S S' (UL S) (O .less) (v .line) (v .column) h e) rest (a .2) (all-out (same (UL S)) rest (omega (arith, one-terminal, standing-take (same (UL S)) (UL S) s tk, ap one (same-self (UL S))))),
+    all-zip (λ v h e. kept S S' (UL S) (O .less) (v .line) (v .column) h e) rest (a .2)
+        (all-out (same (UL S)) rest (omega (arith, one-terminal, standing-take (same (UL S)) (UL S) s tk, ap one (same-self (UL S))))),
   )
       (λ l c h e. omega (arith, standing-cons (same (at l c)) w s rest, standing-take (same (at l c)) (UL S) s tk, ap one e, O .neighbour l c h))
       (λ Y.
-      let m = move-cut (side Y (UL S)) (side Y w) (side Y s) _ _ (leaving (side Y) rest) (G .cuts Y .0) (O .edges Y) (omega (arith, G .cuts Y .1, leaving-take (side Y) (UL S) s tk))
+      let m = move-cut (side Y (UL S)) (side Y w) (side Y s) _ _ (leaving (side Y) rest) (G .cuts Y .0) (O .edges Y)
+      (omega (arith, G .cuts Y .1, leaving-take (side Y) (UL S) s tk))
       (elim (far-side s (a .1) p Y) [
         | inl e ↦ omega (arith, astray-start (side Y (UL S)) (side Y w) (side Y s) e)
         | inr e ↦ omega (arith, astray-end (side Y (UL S)) (side Y w) (side Y s) e)
@@ -102,11 +124,13 @@ pub right-edge : (S : Shape) → Shaped S → Top S → start S < finish S → S
 right-edge S H T wide flat = record {
   shaped = narrow-shaped S H T wide;
   less = narrow-less S H wide;
-  stays = kept S (narrow S) (UL S) (narrow-less S H wide) (S .top) (suc (start S)) (record { low = omega arith; high = omega arith; from = omega arith; to = wide }) (off-corner S (NUL S) (λ p q. omega arith));
+  stays = kept S (narrow S) (UL S) (narrow-less S H wide) (S .top) (suc (start S))
+      (record { low = omega arith; high = omega arith; from = omega arith; to = wide }) (off-corner S (NUL S) (λ p q. omega arith));
   neighbour = λ l c h. omega (arith, gone-bit S l c (BUL S) h (λ j. omega (arith, j .high)));
   single = omega (arith, right, down);
   edges = λ Y. omega (arith, cap-less S (narrow S) H (narrow-less S H wide) Y 1 0 right down);
-  elsewhere = by-cut S (λ Y. (Y ≡ leftCut S) ⊎ (side Y (UL S) ≡ side Y (NUL S))) (inr refl) (λ r e. inr refl) (inl refl) (λ y e. inr (leb-next (start S) y e));
+  elsewhere = by-cut S (λ Y. (Y ≡ leftCut S) ⊎ (side Y (UL S) ≡ side Y (NUL S))) (inr refl) (λ r e. inr refl) (inl refl)
+      (λ y e. inr (leb-next (start S) y e));
   width = omega (arith, cap-col S H T wide);
   corner = le-leb (start S) (start S) (omega arith);
   neighbour-side = lt-leb (suc (start S)) (start S) (omega arith);
@@ -127,11 +151,13 @@ pub down-edge : (S : Shape) → Shaped S → Top S → start S ≡ finish S → 
 down-edge S H T thin deep = record {
   shaped = lower-shaped S H deep;
   less = lower-less S H thin;
-  stays = kept S (lower S) (UL S) (lower-less S H thin) (suc (S .top)) (start S) (record { low = omega arith; high = omega arith; from = below .0; to = omega (arith, below) }) (off-corner S (BUL S) (λ p q. omega arith));
+  stays = kept S (lower S) (UL S) (lower-less S H thin) (suc (S .top)) (start S)
+      (record { low = omega arith; high = omega arith; from = below .0; to = omega (arith, below) }) (off-corner S (BUL S) (λ p q. omega arith));
   neighbour = λ l c h. omega (arith, gone-bit S l c (NUL S) h (λ j. omega (arith, j .to)));
   single = omega (arith, right, down);
   edges = λ Y. omega (arith, cap-less S (lower S) H (lower-less S H thin) Y 0 1 right down);
-  elsewhere = by-cut S (λ Y. (Y ≡ topCut S) ⊎ (side Y (UL S) ≡ side Y (BUL S))) (inl refl) (λ r e. inr (leb-next (S .top) r e)) (inr refl) (λ y e. inr refl);
+  elsewhere = by-cut S (λ Y. (Y ≡ topCut S) ⊎ (side Y (UL S) ≡ side Y (BUL S))) (inl refl) (λ r e. inr (leb-next (S .top) r e)) (inr refl)
+      (λ y e. inr refl);
   width = omega (arith, cap-row S H T (S .top) (omega arith) deep, below);
   corner = le-leb (S .top) (S .top) (omega arith);
   neighbour-side = lt-leb (suc (S .top)) (S .top) (omega arith);

@@ -69,10 +69,16 @@ joined-frame S G (ver l c) j =
     (omega (arith, k .high, G .low), omega (arith, k .to, G .thin l (k .low, k .high)))
 
 -- a unit edge over the cut is one of the cut's
-over-slot : (X : Cut) (e : Link) → (lo e .line < size) × (lo e .column < size) → (side X (lo e) ≡ side X (hi e) → ⊥) → (i : ℕ) × (i < size) × (e ≡ slot X i)
+over-slot : (X : Cut) (e : Link) → (lo e .line < size) × (lo e .column < size) → (side X (lo e) ≡ side X (hi e) → ⊥)
+    → (i : ℕ) × (i < size) × (e ≡ slot X i)
 over-slot (Row r) (hor l c) f d = absurd (d refl)
 over-slot (Row r) (ver l c) f d = (c, f .1, elim (eq-case r l) [ inl e ↦ ap (λ m. ver m c) (sym (e .2)) | inr e ↦ absurd (d (leb-next l r (e .2))) ])
-over-slot (Column x) (hor l c) f d = (l, f .0, elim (eq-case x c) [ inl e ↦ ap (λ m. hor l m) (sym (e .2)) | inr e ↦ absurd (d (leb-next c x (e .2))) ])
+over-slot (Column x) (hor l c) f d = (
+  l,
+  f .0,
+  elim (eq-case x c)
+      [ inl e ↦ ap (λ m. hor l m) (sym (e .2)) | inr e ↦ absurd (d (leb-next c x (e .2))) ],
+)
 over-slot (Column x) (ver l c) f d = absurd (d refl)
 
 module _ (J : Link → Bool) (F : InFrame J) (X : Cut) where
@@ -99,7 +105,11 @@ module _ (J : Link → Bool) (F : InFrame J) (X : Cut) where
 
   pub cut-needed : (ps : List Pair) → Disjoint J ps → leaving (side X) ps ≤ capOf J X
   unfolding capOf
-  cut-needed ps D = omega (arith, all-trails ps (D .trails) (D .once), sum-le size (λ i. sharers (slot X i) ps (D .trails)) (λ i. one (J (slot X i))) (λ i h. D .once (slot X i)))
+  cut-needed ps D = omega (
+    arith,
+    all-trails ps (D .trails) (D .once),
+    sum-le size (λ i. sharers (slot X i) ps (D .trails)) (λ i. one (J (slot X i))) (λ i h. D .once (slot X i)),
+  )
 
 -- on a shape
 pub cuts-needed : (S : Shape) (ps : List Pair) → Shaped S → Disjoint (joined S) ps → CutCondition S ps

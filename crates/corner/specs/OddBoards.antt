@@ -10,7 +10,7 @@ use Rattle.board.specs.declared.Vertex.{Vertex}
 use Rattle.board.specs.declared.Direction.{Direction}
 use Rattle.net.specs.declared.Pair.{Pair}
 use Rattle.cut.specs.Odd.{odd?}
-use Rattle.routing.specs.Routing.{Routing, Routable}
+use Rattle.routing_rules.specs.Routing.{Routing, Routable}
 use Rattle.count.specs.Parity.{oddNumber}
 use Rattle.corner.specs.Problem.{Problem, Helpers, Paired}
 use Rattle.corner.specs.Tallies.{all-map, all-append}
@@ -23,7 +23,16 @@ use Rattle.corner.specs.Lines.{linesOf}
 use Rattle.corner.specs.Counted.{terminals-standing}
 use Rattle.corner.specs.Overfull.{none-overfull, overfull-none}
 use Rattle.corner.specs.Even.{odd-at}
-use Rattle.corner.specs.Boards.{problem-vertex, problem-here, problem-count, problem-loose, shape-cuts, board-cuts, shape-disjoint, shape-routing}
+use Rattle.corner.specs.Boards.{
+  problem-vertex,
+  problem-here,
+  problem-count,
+  problem-loose,
+  shape-cuts,
+  board-cuts,
+  shape-disjoint,
+  shape-routing,
+}
 
 module _ (b : Board) (ps : List Pair) (P : Problem b ps) where
   odd-one : (v : Vertex) → Here (linesOf b) v → one (oddAt (linesOf b) ps v) ≡ one (odd? b ps v)

@@ -26,7 +26,12 @@ good-same S ps qs e G = record {
   stand = all-map (λ v h. present-true S (v .line) (v .column) (not-false (present S (v .line) (v .column)) h)) qs (all-out absent qs (
       sym (e (λ u v. one (absent u) + one (absent v)) (λ u v. omega arith))
       ∙ standing-none (Here S) absent (λ u h. ap not (present-yes S (u .line) (u .column) h)) ps (G .stand)));
-  even = λ l c h. let k = G .even l c h in (k .0, omega (arith, k .1, e (λ u v. one (same (at l c) u) + one (same (at l c) v)) (λ u v. omega arith)), k .2);
+  even = λ l c h. let k = G .even l c h in (
+    k .0,
+    omega
+        (arith, k .1, e (λ u v. one (same (at l c) u) + one (same (at l c) v)) (λ u v. omega arith)),
+    k .2,
+  );
   cuts = λ X. let k = G .cuts X in (k .0, omega (arith, k .1, e (λ u v. apart (side X u) (side X v)) (λ u v. apart-sym (side X u) (side X v))));
 }
   where
@@ -37,7 +42,11 @@ pub good-drop : (S : Shape) (v : Vertex) (ps : List Pair) → Good S (pair v v �
 good-drop S v ps G = record {
   shaped = G .shaped;
   stand = G .stand .2;
-  even = λ l c h. let k = G .even l c h in (k .0 - one (same (at l c) v), omega (arith, k .1, standing-cons (same (at l c)) v v ps), omega (arith, k .2));
+  even = λ l c h. let k = G .even l c h in (
+    k .0 - one (same (at l c) v),
+    omega (arith, k .1, standing-cons (same (at l c)) v v ps),
+    omega (arith, k .2),
+  );
   cuts = λ X. let k = G .cuts X in (k .0, omega (arith, k .1, leaving-cons (side X) v v ps, apart-same (side X v) (side X v) refl));
 }
 

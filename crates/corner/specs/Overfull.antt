@@ -92,9 +92,11 @@ overfull-none b ps W st e X = go X
     go : (Y : Cut) → crossing Y ps ≤ edges b Y
     go (Row i) = elim (le-or-lt (height b) i) [
       | inl h ↦ beside b ps (Row i) st (λ v k. le-leb (v .line) i (omega (arith, vertex-frame b W v k)))
-      | inr h ↦ fits (Row i) (upTo-each (λ j. overfull? b ps (Row j) ≡ false) (height b) (map-each (λ Y. overfull? b ps Y ≡ false) Row (upTo (height b)) (both .0)) i h)
+      | inr h ↦ fits (Row i) (upTo-each (λ j. overfull? b ps (Row j) ≡ false) (height b)
+          (map-each (λ Y. overfull? b ps Y ≡ false) Row (upTo (height b)) (both .0)) i h)
     ]
     go (Column j) = elim (le-or-lt 31 j) [
       | inl h ↦ beside b ps (Column j) st (λ v k. le-leb (v .column) j (omega (arith, vertex-frame b W v k)))
-      | inr h ↦ fits (Column j) (upTo-each (λ i. overfull? b ps (Column i) ≡ false) 31 (map-each (λ Y. overfull? b ps Y ≡ false) Column (upTo 31) (both .1)) j h)
+      | inr h ↦ fits (Column j) (upTo-each (λ i. overfull? b ps (Column i) ≡ false) 31
+          (map-each (λ Y. overfull? b ps Y ≡ false) Column (upTo 31) (both .1)) j h)
     ]

@@ -53,19 +53,24 @@ odd-after S ps v w x d ov ow =
           let p = same-true x v a in
           let o : oddAt S ps x ≡ true = subst (λ u. oddAt S ps u ≡ true) (sym p) ov in
           let b : same x w ≡ false = subst (λ u. same u w ≡ false) (sym p) d in
-          more-even (deg (present S) (x .line) (x .column) + standing (same x) ps) (deg (present S) (x .line) (x .column) + standing (same x) (pair v w ∷ ps)) _ (omega (arith, ap one a, ap one b)) o (omega (arith, ap one a, ap one b))
+          more-even (deg (present S) (x .line) (x .column) + standing (same x) ps)
+          (deg (present S) (x .line) (x .column) + standing (same x) (pair v w ∷ ps)) _ (omega (arith, ap one a, ap one b)) o
+          (omega (arith, ap one a, ap one b))
       | inr a ↦ elim (bool (same x w)) [
         | inl b ↦
             let p = same-true x w b in
             let o : oddAt S ps x ≡ true = subst (λ u. oddAt S ps u ≡ true) (sym p) ow in
-            more-even (deg (present S) (x .line) (x .column) + standing (same x) ps) (deg (present S) (x .line) (x .column) + standing (same x) (pair v w ∷ ps)) _ (omega (arith, ap one a, ap one b)) o (omega (arith, ap one a, ap one b))
+            more-even (deg (present S) (x .line) (x .column) + standing (same x) ps)
+            (deg (present S) (x .line) (x .column) + standing (same x) (pair v w ∷ ps)) _ (omega (arith, ap one a, ap one b)) o
+            (omega (arith, ap one a, ap one b))
         | inr b ↦
             let q : standing (same x) ps ≡ standing (same x) (pair v w ∷ ps) = omega (arith, ap one a, ap one b) in
             omega (arith, ap (λ n. one (oddNumber (deg (present S) (x .line) (x .column) + n))) q, ap one a, ap one b)
       ]
     ]
 
-odds-fall : (S : Shape) → Shaped S → (ps : List Pair) (v w : Vertex) → Here S v → same v w ≡ false → oddAt S ps v ≡ true → oddAt S ps w ≡ true → odds S (pair v w ∷ ps) < odds S ps
+odds-fall : (S : Shape) → Shaped S → (ps : List Pair) (v w : Vertex) → Here S v → same v w ≡ false → oddAt S ps v ≡ true → oddAt S ps w ≡ true
+    → odds S (pair v w ∷ ps) < odds S ps
 unfolding odds
 odds-fall S G ps v w hv d ov ow = sum-lt size (v .line) _ _
     (λ l i. sum-le size _ _ (λ c j. bit l c))
@@ -79,16 +84,22 @@ odds-fall S G ps v w hv d ov ow = sum-lt size (v .line) _ _
       | inr e ↦ rw e (omega arith)
     ]
 
-odd-vertex : (S : Shape) → Shaped S → (ps : List Pair) → ((x : Vertex) → Here S x → oddAt S ps x ≡ false) ⊎ ((v : Vertex) × Here S v × (oddAt S ps v ≡ true))
+odd-vertex : (S : Shape) → Shaped S → (ps : List Pair)
+    → ((x : Vertex) → Here S x → oddAt S ps x ≡ false) ⊎ ((v : Vertex) × Here S v × (oddAt S ps v ≡ true))
 odd-vertex S G ps = elim (zero-or-some size (λ l. sum size (bit l))) [
   | inl z ↦ inl (λ x h. one-false (oddAt S ps x) (λ o.
       let p = present-yes S (x .line) (x .column) h in
       let y : one (present S (x .line) (x .column) && oddAt S ps x) ≡ 1 = rw p o in
-      omega (arith, sum-get size (x .column) (bit (x .line)) (omega (arith, h .to, G .thin (x .line) (h .low, h .high))), z (x .line) (omega (arith, h .high, G .low)))))
+      omega (
+        arith,
+        sum-get size (x .column) (bit (x .line)) (omega (arith, h .to, G .thin (x .line) (h .low, h .high))),
+        z (x .line) (omega (arith, h .high, G .low)),
+      )))
   | inr f ↦ elim (zero-or-some size (bit (f .0))) [
     | inl z ↦ absurd (omega (arith, f .2, sum-none size (bit (f .0)) z))
     | inr g ↦
-        let k = and-true (present S (f .0) (g .0)) (oddAt S ps (at (f .0) (g .0))) (one-true _ (omega (arith, g .2, one-le (present S (f .0) (g .0) && oddAt S ps (at (f .0) (g .0)))))) in
+        let k = and-true (present S (f .0) (g .0)) (oddAt S ps (at (f .0) (g .0)))
+        (one-true _ (omega (arith, g .2, one-le (present S (f .0) (g .0) && oddAt S ps (at (f .0) (g .0)))))) in
         inr (at (f .0) (g .0), present-true S (f .0) (g .0) (k .0), k .1)
   ]
 ]
@@ -104,12 +115,20 @@ paired-none : (S : Shape) (ps : List Pair) → Routed (joined S) ps → ((x : Ve
 unfolding standing tally
 paired-none S ps R z = ([], record { stand = tt; each = λ x h. sym (ap one (z x h)) }, R)
 
-paired-more : (S : Shape) (ps : List Pair) (v w : Vertex) → Here S v → Here S w → same v w ≡ false → oddAt S ps v ≡ true → oddAt S ps w ≡ true → PairedOn S (pair v w ∷ ps) → PairedOn S ps
+paired-more : (S : Shape) (ps : List Pair) (v w : Vertex) → Here S v → Here S w → same v w ≡ false → oddAt S ps v ≡ true → oddAt S ps w ≡ true
+    → PairedOn S (pair v w ∷ ps) → PairedOn S ps
 paired-more S ps v w hv hw d ov ow P = (
   P .0 ++ (pair v w ∷ []),
   record {
     stand = all-append (Here S) (P .0) (pair v w ∷ []) (P .1 .stand) (hv, hw, tt);
-    each = λ x h. omega (arith, standing-append (same x) (P .0) (pair v w ∷ []), standing-cons (same x) v w [], standing-nil (same x), P .1 .each x h, odd-after S ps v w x d ov ow);
+    each = λ x h. omega (
+      arith,
+      standing-append (same x) (P .0) (pair v w ∷ []),
+      standing-cons (same x) v w [],
+      standing-nil (same x),
+      P .1 .each x h,
+      odd-after S ps v w x d ov ow,
+    );
   },
   subst (λ qs. Routed (joined S) qs) (sym (append-assoc (P .0) (pair v w ∷ []) ps)) (P .2),
 )
@@ -146,7 +165,8 @@ helped S ps hs B H = record {
 }
 
 -- trails exist exactly when some pairing of the odd vertices keeps every cut, and then there is a routing
-pub paired-cuts : (S : Shape) (ps : List Pair) → Loose S ps → Disjoint (joined S) ps → (hs : List Pair) × HelpersOn S ps hs × CutCondition S (hs ++ ps)
+pub paired-cuts : (S : Shape) (ps : List Pair) → Loose S ps → Disjoint (joined S) ps
+    → (hs : List Pair) × HelpersOn S ps hs × CutCondition S (hs ++ ps)
 paired-cuts S ps B D =
     let p = pair-up S (B .shaped) (odds S ps) ps (tidy (joined S) ps D) (omega arith) in
     (p .0, p .1, cuts-needed S (p .0 ++ ps) (B .shaped) (disjoint (joined S) (p .0 ++ ps) (p .2)))

@@ -84,7 +84,8 @@ across x m p q = (not (leb (p .column) x) && leb (q .column) x) && leb (p .line)
 -- every pair that crosses the cut has its right end on line m or below
 abbrev pub NoHigher : ℕ → ℕ → List Pair → Type 0
 NoHigher x m [] = Unit {0}
-NoHigher x m (p ∷ ps) = (x < p .first .column → p .second .column ≤ x → m ≤ p .first .line) × (x < p .second .column → p .first .column ≤ x → m ≤ p .second .line) × NoHigher x m ps
+NoHigher x m (p ∷ ps) = (x < p .first .column → p .second .column ≤ x → m ≤ p .first .line)
+    × (x < p .second .column → p .first .column ≤ x → m ≤ p .second .line) × NoHigher x m ps
 
 -- ── one pair taken out of the list, in either direction; the rest keeps its order ──
 pub data Take (u v : Vertex) : List Pair → List Pair → Type 0 where

@@ -88,7 +88,13 @@ module _ (S : Shape) (qs : List Pair) (ts : Trails qs) (ok : (e : Link) → tota
 -- ── one edge more at the end of the first trail ──
 further : (S : Shape) (v x w : Vertex) (ps : List Pair) (R : Routed (joined S) (pair v x ∷ ps)) (e : Link) → Ends x w e
     → Trails (pair v w ∷ ps)
-further S v x w ps R e s = ((R .trails .0 .0 ++ (e ∷ []), walk-join v x w (R .trails .0 .0) (e ∷ []) (R .trails .0 .1) (elim s [ inl h ↦ inl (h .0, sym (h .1)) | inr h ↦ inr (h .0, sym (h .1)) ])), R .trails .1)
+further S v x w ps R e s = (
+  (
+    R .trails .0 .0 ++ (e ∷ []),
+    walk-join v x w (R .trails .0 .0) (e ∷ []) (R .trails .0 .1) (elim s [ inl h ↦ inl (h .0, sym (h .1)) | inr h ↦ inr (h .0, sym (h .1)) ]),
+  ),
+  R .trails .1,
+)
 
 further-total : (S : Shape) (v x w : Vertex) (ps : List Pair) (R : Routed (joined S) (pair v x ∷ ps)) (e : Link) (s : Ends x w e) (f : Link)
     → total f (pair v w ∷ ps) (further S v x w ps R e s) ≡ total f (pair v x ∷ ps) (R .trails) + one (sameLink f e)
@@ -116,10 +122,12 @@ idle S ps R v = record { trails = (([], refl), R .trails); once = λ e. omega (a
 
 -- the edges not used
 unfoldable spare : (S : Shape) (qs : List Pair) → Trails qs → ℕ
-spare S qs ts = sum size (λ l. sum size (λ c. (one (joined S (hor l c)) - total (hor l c) qs ts) + (one (joined S (ver l c)) - total (ver l c) qs ts)))
+spare S qs ts = sum size (λ l. sum size (λ c. (one (joined S (hor l c)) - total (hor l c) qs ts) +
+    (one (joined S (ver l c)) - total (ver l c) qs ts)))
 
 spare-less : (S : Shape) → Shaped S → (qs qs' : List Pair) (ts : Trails qs) (ts' : Trails qs') (e : Link)
-    → ((f : Link) → total f qs' ts' ≡ total f qs ts + one (sameLink f e)) → joined S e ≡ true → total e qs ts ≡ 0 → spare S qs ts ≡ spare S qs' ts' + 1
+    → ((f : Link) → total f qs' ts' ≡ total f qs ts + one (sameLink f e)) → joined S e ≡ true → total e qs ts ≡ 0
+    → spare S qs ts ≡ spare S qs' ts' + 1
 unfolding spare
 spare-less S G qs qs' ts ts' e h j z =
     let f = joined-frame S G e j in
@@ -131,11 +139,19 @@ spare-less S G qs qs' ts ts' e h j z =
     away : (l c : ℕ) → (at l c ≡ lo e → ⊥)
         → (one (joined S (hor l c)) - total (hor l c) qs ts) + (one (joined S (ver l c)) - total (ver l c) qs ts)
         ≡ (one (joined S (hor l c)) - total (hor l c) qs' ts') + (one (joined S (ver l c)) - total (ver l c) qs' ts')
-    away l c n = omega (arith, h (hor l c), h (ver l c), link-place e l c, ap one (not-true (same (at l c) (lo e)) (λ s. n (same-true (at l c) (lo e) s))))
+    away l c n = omega (
+      arith,
+      h (hor l c),
+      h (ver l c),
+      link-place e l c,
+      ap one (not-true (same (at l c) (lo e)) (λ s. n (same-true (at l c) (lo e) s))),
+    )
 
     place : (f : Link) → ((g : Link) → total g qs' ts' ≡ total g qs ts + one (sameLink g f)) → joined S f ≡ true → total f qs ts ≡ 0
-        → (one (joined S (hor (lo f .line) (lo f .column))) - total (hor (lo f .line) (lo f .column)) qs ts) + (one (joined S (ver (lo f .line) (lo f .column))) - total (ver (lo f .line) (lo f .column)) qs ts)
-        ≡ (one (joined S (hor (lo f .line) (lo f .column))) - total (hor (lo f .line) (lo f .column)) qs' ts') + (one (joined S (ver (lo f .line) (lo f .column))) - total (ver (lo f .line) (lo f .column)) qs' ts') + 1
+        → (one (joined S (hor (lo f .line) (lo f .column))) - total (hor (lo f .line) (lo f .column)) qs ts) +
+        (one (joined S (ver (lo f .line) (lo f .column))) - total (ver (lo f .line) (lo f .column)) qs ts)
+        ≡ (one (joined S (hor (lo f .line) (lo f .column))) - total (hor (lo f .line) (lo f .column)) qs' ts') +
+        (one (joined S (ver (lo f .line) (lo f .column))) - total (ver (lo f .line) (lo f .column)) qs' ts') + 1
     place (hor m d) k i y = omega (arith, k (hor m d), k (ver m d), ap one (link-self (hor m d)), ap one i, y)
     place (ver m d) k i y = omega (arith, k (hor m d), k (ver m d), ap one (link-self (ver m d)), ap one i, y)
 
@@ -178,10 +194,12 @@ longer-spare : (S : Shape) → Shaped S → (v x w : Vertex) (ps : List Pair) (R
     (j : joined S e ≡ true) (z : total e (pair v x ∷ ps) (R .trails) ≡ 0)
     → spare S (pair v x ∷ ps) (R .trails) ≡ spare S (pair v w ∷ ps) ((longer S v x w ps R e s j z) .trails) + 1
 unfolding longer
-longer-spare S G v x w ps R e s j z = spare-less S G (pair v x ∷ ps) (pair v w ∷ ps) (R .trails) (further S v x w ps R e s) e (further-total S v x w ps R e s) j z
+longer-spare S G v x w ps R e s j z = spare-less S G (pair v x ∷ ps) (pair v w ∷ ps) (R .trails) (further S v x w ps R e s) e
+    (further-total S v x w ps R e s) j z
 
 -- as long as there are unused edges
-onward : (S : Shape) → Shaped S → (ps : List Pair) (v : Vertex) → oddAt S ps v ≡ true → (n : ℕ) (x : Vertex) → Here S x → (R : Routed (joined S) (pair v x ∷ ps))
+onward : (S : Shape) → Shaped S → (ps : List Pair) (v : Vertex) → oddAt S ps v ≡ true → (n : ℕ) (x : Vertex) → Here S x
+    → (R : Routed (joined S) (pair v x ∷ ps))
     → spare S (pair v x ∷ ps) (R .trails) ≤ n → Partner S ps v
 onward S G ps v o zero x h R m = elim (odd-case (deg (present S) (x .line) (x .column) + standing (same x) (pair v x ∷ ps))) [
   | inl c ↦ stuck S ps v o x h R (c .0) (c .1)

@@ -12,7 +12,7 @@ use Rattle.board.specs.Path.{next, along, Path}
 use Rattle.board.specs.declared.Vertex.{Vertex}
 use Rattle.board.specs.declared.Direction.{Direction}
 use Rattle.net.specs.declared.Pair.{Pair}
-use Rattle.routing.specs.Routing.{Joins, edgesFrom, trails, sameEdge, uses, users, Routing, Routable}
+use Rattle.routing_rules.specs.Routing.{Joins, edgesFrom, trails, sameEdge, uses, users, Routing, Routable}
 use Rattle.count.specs.Each.{Each}
 use Rattle.corner.specs.Trails.{Link, lo, hi, sameLink, Walk, used, Trails, total, sharers, Routed, Disjoint}
 use Rattle.corner.specs.TrailLaws.{link-true}
@@ -70,7 +70,8 @@ path-trails b [] dss j = tt
 path-trails b (p ∷ ps) [] j = absurd j
 path-trails b (p ∷ ps) (ds ∷ dss) j = ((linksOf (p .first) ds, path-walk b (p .first) (p .second) ds (j .0)), path-trails b ps dss (j .1))
 
-path-sharers : (b : Board) (e : Link) (ps : List Pair) (dss : List (List Direction)) (j : Joins b ps dss) → sharers e ps (path-trails b ps dss j) ≡ users (edgeOf e) (trails ps dss)
+path-sharers : (b : Board) (e : Link) (ps : List Pair) (dss : List (List Direction)) (j : Joins b ps dss)
+    → sharers e ps (path-trails b ps dss j) ≡ users (edgeOf e) (trails ps dss)
 unfolding path-trails sharers users trails
 path-sharers b e [] dss j = refl
 path-sharers b e (p ∷ ps) [] j = absurd j
@@ -81,7 +82,8 @@ path-sharers b e (p ∷ ps) (ds ∷ dss) j = omega (
   uses-link e (linksOf (p .first) ds),
 )
 
-path-off : (b : Board) (e : Link) → onBoard b e ≡ false → (ps : List Pair) (dss : List (List Direction)) (j : Joins b ps dss) → sharers e ps (path-trails b ps dss j) ≡ 0
+path-off : (b : Board) (e : Link) → onBoard b e ≡ false → (ps : List Pair) (dss : List (List Direction)) (j : Joins b ps dss)
+    → sharers e ps (path-trails b ps dss j) ≡ 0
 unfolding path-trails sharers
 path-off b e n [] dss j = refl
 path-off b e n (p ∷ ps) [] j = absurd j
@@ -145,7 +147,8 @@ trails-use g (p ∷ ps) ts f q = omega (
   uses-link f (ts .0 .0),
 )
 
-trails-none : (g : Edge) → ((f : Link) → sameEdge g (edgeOf f) ≡ false) → (ps : List Pair) (ts : Trails ps) → uses g (flatten (trails ps (pathsOf ps ts))) ≡ 0
+trails-none : (g : Edge) → ((f : Link) → sameEdge g (edgeOf f) ≡ false) → (ps : List Pair) (ts : Trails ps)
+    → uses g (flatten (trails ps (pathsOf ps ts))) ≡ 0
 unfolding pathsOf trails flatten uses
 trails-none g n [] ts = refl
 trails-none g n (p ∷ ps) ts = omega (

@@ -29,7 +29,13 @@ present-true S l c e =
     let k = and-true (leb (S .top) l && leb l (S .bottom)) (leb (S .a l) c && leb c (S .b l)) e in
     let i = and-true (leb (S .top) l) (leb l (S .bottom)) (k .0) in
     let j = and-true (leb (S .a l) c) (leb c (S .b l)) (k .1) in
-    record { low = leb-true (S .top) l (i .0); high = leb-true l (S .bottom) (i .1); from = leb-true (S .a l) c (j .0); to = leb-true c (S .b l) (j .1) }
+    record {
+      low = leb-true (S .top) l (i .0);
+      high = leb-true l (S .bottom) (i .1);
+      from = leb-true (S .a l) c (j .0);
+      to =
+          leb-true c (S .b l) (j .1);
+    }
 
 pub present-no : (S : Shape) (l c : ℕ) → (At S l c → ⊥) → present S l c ≡ false
 present-no S l c h = elim (bool (present S l c)) [ inl e ↦ absurd (h (present-true S l c e)) | inr e ↦ e ]
@@ -110,7 +116,8 @@ kept S S' u L l c h e = present-true S' l c (L .others l c e ∙ present-yes S l
 
 -- the neighbours of (l, c) that are u
 unfoldable pub touch : Vertex → ℕ → ℕ → ℕ
-touch u l c = one (same u (at l (suc c))) + one (same u (at (suc l) c)) + one (behind (λ k. same u (at l k)) c) + one (behind (λ k. same u (at k c)) l)
+touch u l c = one (same u (at l (suc c))) + one (same u (at (suc l) c)) + one (behind (λ k. same u (at l k)) c) + one
+    (behind (λ k. same u (at k c)) l)
 
 pub deg-less : (S S' : Shape) (u : Vertex) → Less S S' u → (l c : ℕ) → deg (present S) l c ≡ deg (present S') l c + touch u l c
 unfolding deg touch

@@ -31,9 +31,11 @@ abbrev pub Solve : Shape → Type 0
 Solve S = (S' : Shape) (ps' : List Pair) → Good S' ps' → vertices S ≡ vertices S' + 1 → Routed (joined S') ps'
 
 -- two edges at the corner
-module _ (S : Shape) (ps : List Pair) (G : Good S ps) (T : Top S) (wide : start S < finish S) (deep : S .top < S .bottom) (pr : Proper ps) (solve : Solve S) where
+module _ (S : Shape) (ps : List Pair) (G : Good S ps) (T : Top S) (wide : start S < finish S) (deep : S .top < S .bottom) (pr : Proper ps)
+    (solve : Solve S) where
   right-there : joined S (rightLink S) ≡ true
-  right-there = and-yes _ _ (present-yes S (S .top) (start S) (record { low = omega arith; high = omega arith; from = omega arith; to = omega arith }))
+  right-there = and-yes _ _ (present-yes S (S .top) (start S)
+      (record { low = omega arith; high = omega arith; from = omega arith; to = omega arith }))
       (present-yes S (S .top) (suc (start S)) (record { low = omega arith; high = omega arith; from = omega arith; to = wide }))
 
   down-there : joined S (downLink S) ≡ true
@@ -47,20 +49,28 @@ module _ (S : Shape) (ps : List Pair) (G : Good S ps) (T : Top S) (wide : start 
   smaller : (ps' : List Pair) → Good (narrow S) ps' → Routed (joined (narrow S)) ps'
   smaller ps' G' = solve (narrow S) ps' G' (fewer S (narrow S) (G .shaped) less)
 
-  split-pairs : standing (same (UL S)) ps ≡ 2 → (s t : Vertex) (rest1 rest : List Pair) → Take (UL S) s ps rest1 → Take (UL S) t rest1 rest → Routed (joined S) ps
+  split-pairs : standing (same (UL S)) ps ≡ 2 → (s t : Vertex) (rest1 rest : List Pair) → Take (UL S) s ps rest1 → Take (UL S) t rest1 rest
+      → Routed (joined S) ps
   split-pairs z s t rest1 rest t1 t2 =
       let p1 = proper-take (UL S) s t1 pr in let p2 = proper-take (UL S) t t2 (p1 .1) in
       let a1 = all-take (Here S) (UL S) s t1 (G .stand) in let a2 = all-take (Here S) (UL S) t t2 (a1 .2) in
       elim (split-choice S s t (a1 .1) (a2 .1) (p1 .0) (p2 .0)) [
-        | inl c ↦ lift-split S (narrow S) less right-there down-there ps s t rest1 rest t1 t2 (smaller _ (split-good S ps G T wide deep s t rest1 rest t1 t2 pr z (c .0) (c .1)))
+        | inl c ↦ lift-split S (narrow S) less right-there down-there ps s t rest1 rest t1 t2
+            (smaller _ (split-good S ps G T wide deep s t rest1 rest t1 t2 pr z (c .0) (c .1)))
         | inr c ↦
             let w = take-swap (UL S) s (UL S) t t1 t2 in
-            lift-split S (narrow S) less right-there down-there ps t s (w .0) rest (w .1) (w .2) (smaller _ (split-good S ps G T wide deep t s (w .0) rest (w .1) (w .2) pr z (c .0) (c .1)))
+            lift-split S (narrow S) less right-there down-there ps t s (w .0) rest (w .1) (w .2)
+            (smaller _ (split-good S ps G T wide deep t s (w .0) rest (w .1) (w .2) pr z (c .0) (c .1)))
       ]
 
   split-first : standing (same (UL S)) ps ≡ 2 → (s : Vertex) (rest1 : List Pair) → Take (UL S) s ps rest1 → Routed (joined S) ps
   split-first z s rest1 t1 =
-      let k = pick (UL S) rest1 (omega (arith, standing-take (same (UL S)) (UL S) s t1, ap one (same-self (UL S)), ap one (proper-take (UL S) s t1 pr .0))) in
+      let k = pick (UL S) rest1 (omega (
+        arith,
+        standing-take (same (UL S)) (UL S) s t1,
+        ap one (same-self (UL S)),
+        ap one (proper-take (UL S) s t1 pr .0),
+      )) in
       split-pairs z s (k .0) rest1 (k .1) t1 (k .2)
 
   split : standing (same (UL S)) ps ≡ 2 → Routed (joined S) ps
@@ -96,8 +106,10 @@ single-none S w d [] a pr = refl
 single-none S w d (p ∷ ps) a pr = absurd (
     let e1 : p .first .line ≡ S .top = omega (arith, a .0 .low, a .0 .high) in
     let e2 : p .second .line ≡ S .top = omega (arith, a .1 .low, a .1 .high) in
-    let f1 : p .first .column ≡ p .second .column = omega (arith, a .0 .from, a .0 .to, a .1 .from, a .1 .to, ap (S .a) e1, ap (S .b) e1, ap (S .a) e2, ap (S .b) e2) in
-    let y : same (p .first) (p .second) ≡ true = and-yes _ _ (eq-eqb (p .first .line) (p .second .line) (omega arith)) (eq-eqb (p .first .column) (p .second .column) f1) in
+    let f1 : p .first .column ≡ p .second .column = omega
+    (arith, a .0 .from, a .0 .to, a .1 .from, a .1 .to, ap (S .a) e1, ap (S .b) e1, ap (S .a) e2, ap (S .b) e2) in
+    let y : same (p .first) (p .second) ≡ true = and-yes _ _ (eq-eqb (p .first .line) (p .second .line) (omega arith))
+    (eq-eqb (p .first .column) (p .second .column) f1) in
     clash y (pr .0))
 
 nothing-routed : (S : Shape) → Routed (joined S) []
@@ -116,7 +128,8 @@ cut S ps G T pr solve =
             let m = move-one S (lower S) (BUL S) (topCut S) O ps G pr in
             let t = T (suc (S .top)) (omega arith, d) in
             lift-move S (lower S) (O .less) ps (m .1) (downLink S) (m .0) (m .2) refl
-            (and-yes _ _ (O .less .was) (present-yes S (suc (S .top)) (start S) (record { low = omega arith; high = d; from = t .0; to = omega arith })))
+            (and-yes _ _ (O .less .was) (present-yes S (suc (S .top)) (start S)
+            (record { low = omega arith; high = d; from = t .0; to = omega arith })))
             (solve (lower S) _ (m .3) (fewer S (lower S) (G .shaped) (O .less)))
       ]
       | inr w ↦ elim (le-or-lt (S .bottom) (S .top)) [

@@ -39,7 +39,8 @@ module _ (m : ℕ) (L R : ℕ → ℕ) (K : Stack m L R) where
         | inr e ↦ (omega arith, omega arith)
       ]
     where
-      joint : (i j k : ℕ) → (L i ≤ L j) × (R j ≤ R i) → (L k ≤ L j) × (R j ≤ R k) → min (R i - L i) (R k - L k) ≤ R j - L j → L i < R i → L j < R j → L k < R k
+      joint : (i j k : ℕ) → (L i ≤ L j) × (R j ≤ R i) → (L k ≤ L j) × (R j ≤ R k) → min (R i - L i) (R k - L k) ≤ R j - L j → L i < R i → L j < R j
+          → L k < R k
           → ((L i ≤ L k) × (R k ≤ R i)) ⊎ ((L k ≤ L i) × (R i ≤ R k)) → (L j ≤ max (L i) (L k)) × (min (R i) (R k) ≤ R j)
       joint i j k e f w ci cj ck (inl n) = (omega arith, omega arith)
       joint i j k e f w ci cj ck (inr n) = (omega arith, omega arith)
@@ -89,7 +90,8 @@ module _ (m : ℕ) (L R : ℕ → ℕ) (K : Stack m L R) where
       let p = present-true (lines m L R) i c (k .0) in let q = present-true (lines m L R) (suc i) c (k .1) in
       let r = line-row i (omega arith) in let s = line-row (suc i) (omega arith) in
       let t = mid (r .0) i (s .0) (r .3) (omega (arith, s .2)) (s .1) in
-      and-yes _ _ (le-leb (L i) c (omega (arith, t .0, p .from, q .from, r .4, s .4))) (le-leb c (R i) (omega (arith, t .1, p .to, q .to, r .5, s .5))))
+      and-yes _ _ (le-leb (L i) c (omega (arith, t .0, p .from, q .from, r .4, s .4)))
+      (le-leb c (R i) (omega (arith, t .1, p .to, q .to, r .5, s .5))))
       (λ e.
       let k = and-true (leb (L i) c) (leb c (R i)) e in
       let p = leb-true (L i) c (k .0) in let q = leb-true c (R i) (k .1) in
@@ -100,13 +102,15 @@ module _ (m : ℕ) (L R : ℕ → ℕ) (K : Stack m L R) where
       (present-yes (lines m L R) (suc i) c (record { low = omega arith; high = omega arith; from = omega arith; to = omega arith })))
 
   -- the horizontal edges of line l are the sides of the cells of the row above or below
-  pub horizontal : (l c : ℕ) → present (lines m L R) l c ≡ true → present (lines m L R) l (suc c) ≡ true → (r : ℕ) × (r ≤ m) × (pred l ≤ r) × (r ≤ l) × (L r ≤ c) × (c < R r)
+  pub horizontal : (l c : ℕ) → present (lines m L R) l c ≡ true → present (lines m L R) l (suc c) ≡ true
+      → (r : ℕ) × (r ≤ m) × (pred l ≤ r) × (r ≤ l) × (L r ≤ c) × (c < R r)
   horizontal l c e f =
       let p = present-true (lines m L R) l c e in let q = present-true (lines m L R) l (suc c) f in
       let r = line-row l (p .high) in
       (r .0, r .1, r .2, r .3, omega (arith, r .4, p .from), omega (arith, r .5, q .to))
 
-  pub horizontal-back : (r l c : ℕ) → r ≤ m → (l ≡ r) ⊎ (l ≡ suc r) → L r ≤ c → c < R r → (present (lines m L R) l c ≡ true) × (present (lines m L R) l (suc c) ≡ true)
+  pub horizontal-back : (r l c : ℕ) → r ≤ m → (l ≡ r) ⊎ (l ≡ suc r) → L r ≤ c → c < R r
+      → (present (lines m L R) l c ≡ true) × (present (lines m L R) l (suc c) ≡ true)
   horizontal-back r l c h (inl e) p q = rw e (
       let f : min r m ≡ r = omega arith in let f1 = ap L f in let f2 = ap R f in (
         present-yes (lines m L R) r c (record { low = omega arith; high = omega arith; from = omega arith; to = omega arith }),

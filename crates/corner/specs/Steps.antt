@@ -22,7 +22,26 @@ use Rattle.net.specs.Same.{same-self}
 use Rattle.corner.specs.Apart.{apart-same, astray-start, astray-end}
 use Rattle.corner.specs.Tallies.{all-map, all-zip, standing-cons, leaving-cons, all-out}
 use Rattle.corner.specs.Taking.{all-take, leaving-take, standing-take, least, proper-take}
-use Rattle.corner.specs.Shape.{Shape, present, Here, cap, Shaped, Good, Roomy, Full, start, finish, Top, UL, NUL, BUL, topCut, leftCut, narrow, Less}
+use Rattle.corner.specs.Shape.{
+  Shape,
+  present,
+  Here,
+  cap,
+  Shaped,
+  Good,
+  Roomy,
+  Full,
+  start,
+  finish,
+  Top,
+  UL,
+  NUL,
+  BUL,
+  topCut,
+  leftCut,
+  narrow,
+  Less,
+}
 use Rattle.corner.specs.Presence.{present-one, off-corner, corner-here, kept}
 use Rattle.corner.specs.Delete.{narrow-shaped, narrow-less, cap-less}
 use Rattle.corner.specs.CutEdges.{cap-col}
@@ -58,7 +77,8 @@ module _ (S : Shape) (ps : List Pair) (G : Good S ps) (T : Top S) (wide : start 
   narrowed : Shaped (narrow S)
   narrowed = narrow-shaped S (G .shaped) T wide
 
-  cap-narrow : (X : Cut) → cap (present S) X ≡ cap (present (narrow S)) X + apart (side X (UL S)) (side X (NUL S)) + apart (side X (UL S)) (side X (BUL S))
+  cap-narrow : (X : Cut) → cap (present S) X ≡ cap (present (narrow S)) X + apart (side X (UL S)) (side X (NUL S)) + apart (side X (UL S))
+      (side X (BUL S))
   cap-narrow X =
       let t = T (suc (S .top)) (omega arith) in
       omega (
@@ -68,11 +88,13 @@ module _ (S : Shape) (ps : List Pair) (G : Good S ps) (T : Top S) (wide : start 
       )
 
   nul-here : Here (narrow S) (NUL S)
-  nul-here = kept S (narrow S) (UL S) less (S .top) (suc (start S)) (record { low = omega arith; high = omega arith; from = omega arith; to = wide }) (off-corner S _ (λ e f. omega arith))
+  nul-here = kept S (narrow S) (UL S) less (S .top) (suc (start S)) (record { low = omega arith; high = omega arith; from = omega arith; to = wide })
+      (off-corner S _ (λ e f. omega arith))
 
   bul-here : Here (narrow S) (BUL S)
   bul-here = let t = T (suc (S .top)) (omega arith) in
-      kept S (narrow S) (UL S) less (suc (S .top)) (start S) (record { low = omega arith; high = omega arith; from = omega arith; to = omega arith }) (off-corner S _ (λ e f. omega arith))
+      kept S (narrow S) (UL S) less (suc (S .top)) (start S) (record { low = omega arith; high = omega arith; from = omega arith; to = omega arith })
+      (off-corner S _ (λ e f. omega arith))
 
   all-here : (qs : List Pair) → All (Here S) qs → standing (same (UL S)) qs ≡ 0 → All (Here (narrow S)) qs
   all-here qs a z = all-zip (λ v h e. kept S (narrow S) (UL S) less (v .line) (v .column) h e) qs a (all-out (same (UL S)) qs z)
@@ -95,14 +117,17 @@ module _ (S : Shape) (ps : List Pair) (G : Good S ps) (T : Top S) (wide : start 
 
   -- ── helper ──
   pub helper-good : standing (same (UL S)) ps ≡ 0 → Roomy S ps (topCut S) → Roomy S ps (leftCut S) → Good (narrow S) (pair (NUL S) (BUL S) ∷ ps)
-  helper-good z rr rc = let kr = roomy-two S ps G (topCut S) rr in let kc = roomy-two S ps G (leftCut S) rc in keep S (narrow S) ps (pair (NUL S) (BUL S) ∷ ps) G narrowed less
+  helper-good z rr rc = let kr = roomy-two S ps G (topCut S) rr in let kc = roomy-two S ps G (leftCut S) rc in
+      keep S (narrow S) ps (pair (NUL S) (BUL S) ∷ ps) G narrowed less
       (nul-here, bul-here, all-here ps (G .stand) z)
       (λ l c h e. omega (arith, standing-cons (same (at l c)) (NUL S) (BUL S) ps))
       (by-cut S (λ X. Margin (cap (present (narrow S)) X) (leaving (side X) (pair (NUL S) (BUL S) ∷ ps)))
       (cut (topCut S) (rw (at-top, below-top) (omega arith)))
-      (λ r e. cut (Row r) (rw (← (leb-next (S .top) r e)) (omega (arith, apart-same (leb (S .top) r) (leb (S .top) r) refl, astray-start (leb (S .top) r) (leb (S .top) r) (leb (S .top) r) refl))))
+      (λ r e. cut (Row r) (rw (← (leb-next (S .top) r e))
+      (omega (arith, apart-same (leb (S .top) r) (leb (S .top) r) refl, astray-start (leb (S .top) r) (leb (S .top) r) (leb (S .top) r) refl))))
       (cut (leftCut S) (rw (at-start, past-start) (omega arith)))
-      (λ y e. cut (Column y) (rw (← (leb-next (start S) y e)) (omega (arith, apart-same (leb (start S) y) (leb (start S) y) refl, astray-start (leb (start S) y) (leb (start S) y) (leb (start S) y) refl)))))
+      (λ y e. cut (Column y) (rw (← (leb-next (start S) y e))
+      (omega (arith, apart-same (leb (start S) y) (leb (start S) y) refl, astray-start (leb (start S) y) (leb (start S) y) (leb (start S) y) refl)))))
     where
       cut : (X : Cut) → apart (side X (NUL S)) (side X (BUL S)) + astray (side X (NUL S)) (side X (UL S)) (side X (BUL S)) ≤ G .cuts X .0
           → Margin (cap (present (narrow S)) X) (leaving (side X) (pair (NUL S) (BUL S) ∷ ps))
@@ -110,7 +135,8 @@ module _ (S : Shape) (ps : List Pair) (G : Good S ps) (T : Top S) (wide : start 
           (m .0, omega (arith, m .1, leaving-cons (side X) (NUL S) (BUL S) ps))
 
   -- ── split: s goes right, t goes down ──
-  pub split-good : (s t : Vertex) (rest1 rest : List Pair) → Take (UL S) s ps rest1 → Take (UL S) t rest1 rest → Proper ps → standing (same (UL S)) ps ≡ 2
+  pub split-good : (s t : Vertex) (rest1 rest : List Pair) → Take (UL S) s ps rest1 → Take (UL S) t rest1 rest → Proper ps
+      → standing (same (UL S)) ps ≡ 2
       → (t .line ≤ S .top → s .line ≤ S .top) → (s .column ≤ start S → t .column ≤ start S)
       → Good (narrow S) (pair (NUL S) s ∷ pair (BUL S) t ∷ rest)
   split-good s t rest1 rest t1 t2 pr z fr fc = keep S (narrow S) ps ps' G narrowed less
@@ -128,7 +154,11 @@ module _ (S : Shape) (ps : List Pair) (G : Good S ps) (T : Top S) (wide : start 
         | inl h ↦ let k = room-top S ps G T wide deep s t rest1 rest t1 t2 (fr (h .2)) (h .2) z in omega (arith, roomy-two S ps G (topCut S) k)
         | inr h ↦ omega arith
       ])))
-      (λ r e. cut (Row r) (omega (arith, astray-start (leb (S .top) r) (leb (S .top) r) (leb (s .line) r) refl, astray-start (leb (S .top) r) (leb (suc (S .top)) r) (leb (t .line) r) (leb-next (S .top) r e))))
+      (λ r e. cut (Row r) (omega (
+        arith,
+        astray-start (leb (S .top) r) (leb (S .top) r) (leb (s .line) r) refl,
+        astray-start (leb (S .top) r) (leb (suc (S .top)) r) (leb (t .line) r) (leb-next (S .top) r e),
+      )))
       (cut (leftCut S) (rw (at-start, past-start) (elim (le-case (s .column) (start S)) [
         | inl h ↦ let k = room-left S ps G T wide deep s t rest1 rest t1 t2 (h .2) (fc (h .2)) in omega (arith, roomy-two S ps G (leftCut S) k)
         | inr h ↦ omega arith
@@ -161,26 +191,35 @@ module _ (S : Shape) (ps : List Pair) (G : Good S ps) (T : Top S) (wide : start 
           → Margin (cap (present (narrow S)) X) (leaving (side X) ps')
       cut X b =
           let e1 = leaving-take (side X) (UL S) s t1 in let e2 = leaving-take (side X) (UL S) t t2 in
-          let m = split-cut (side X (UL S)) (side X (NUL S)) (side X (BUL S)) (side X s) (side X t) _ _ (leaving (side X) rest) (G .cuts X .0) (cap-narrow X) (omega (arith, G .cuts X .1)) b in
+          let m = split-cut (side X (UL S)) (side X (NUL S)) (side X (BUL S)) (side X s) (side X t) _ _ (leaving (side X) rest) (G .cuts X .0)
+          (cap-narrow X) (omega (arith, G .cuts X .1)) b in
           (m .0, omega (arith, m .1, leaving-cons (side X) (NUL S) s (pair (BUL S) t ∷ rest), leaving-cons (side X) (BUL S) t rest))
 
   -- ── divide: the pair p, q is led by way of the corner ──
   -- half of what that costs the margin of a cut
   abbrev byCorner : Cut → Vertex → Vertex → ℕ
-  byCorner X p q = astray (side X p) (side X (NUL S)) (side X (UL S)) + astray (side X p) (side X (UL S)) (side X (BUL S)) + astray (side X p) (side X (BUL S)) (side X q)
+  byCorner X p q = astray (side X p) (side X (NUL S)) (side X (UL S)) + astray (side X p) (side X (UL S)) (side X (BUL S)) + astray (side X p)
+      (side X (BUL S)) (side X q)
 
   pub divide-good : (p q : Vertex) (rest : List Pair) → Take p q ps rest → standing (same (UL S)) ps ≡ 0
       → ((X : Cut) → byCorner X p q ≤ G .cuts X .0)
       → Good (narrow S) (pair p (NUL S) ∷ pair (BUL S) q ∷ rest)
   divide-good p q rest tk z b = keep S (narrow S) ps (pair p (NUL S) ∷ pair (BUL S) q ∷ rest) G narrowed less
       (let r = all-here ps (G .stand) z in let k = all-take (Here (narrow S)) p q tk r in (k .0, nul-here, (bul-here, k .1, k .2)))
-      (λ l c h e. omega (arith, standing-cons (same (at l c)) p (NUL S) (pair (BUL S) q ∷ rest), standing-cons (same (at l c)) (BUL S) q rest, standing-take (same (at l c)) p q tk))
+      (λ l c h e. omega (
+        arith,
+        standing-cons (same (at l c)) p (NUL S) (pair (BUL S) q ∷ rest),
+        standing-cons (same (at l c)) (BUL S) q rest,
+        standing-take (same (at l c)) p q tk,
+      ))
       (λ X.
-      let m = divide-cut (side X (UL S)) (side X (NUL S)) (side X (BUL S)) (side X p) (side X q) _ _ (leaving (side X) rest) (G .cuts X .0) (cap-narrow X) (omega (arith, G .cuts X .1, leaving-take (side X) p q tk)) (b X) in
+      let m = divide-cut (side X (UL S)) (side X (NUL S)) (side X (BUL S)) (side X p) (side X q) _ _ (leaving (side X) rest) (G .cuts X .0)
+      (cap-narrow X) (omega (arith, G .cuts X .1, leaving-take (side X) p q tk)) (b X) in
       (m .0, omega (arith, m .1, leaving-cons (side X) p (NUL S) (pair (BUL S) q ∷ rest), leaving-cons (side X) (BUL S) q rest)))
 
   -- the pair with an end at NUL
-  pub divide-nul : (q : Vertex) (rest : List Pair) → Take (NUL S) q ps rest → standing (same (UL S)) ps ≡ 0 → S .top < q .line → Roomy S ps (leftCut S)
+  pub divide-nul : (q : Vertex) (rest : List Pair) → Take (NUL S) q ps rest → standing (same (UL S)) ps ≡ 0 → S .top < q .line
+      → Roomy S ps (leftCut S)
       → Good (narrow S) (pair (NUL S) (NUL S) ∷ pair (BUL S) q ∷ rest)
   divide-nul q rest tk z h rc = let kc = roomy-two S ps G (leftCut S) rc in divide-good (NUL S) q rest tk z
       (by-cut S (λ X. byCorner X (NUL S) q ≤ G .cuts X .0)
@@ -235,7 +274,8 @@ module _ (S : Shape) (ps : List Pair) (G : Good S ps) (T : Top S) (wide : start 
       ]
 
       room : (r : ℕ) → S .top ≤ r → r < p .line → 1 ≤ G .cuts (Row r) .0
-      room r t h = roomy-two S ps G (Row r) (uncross S ps G T wide deep r t (omega (arith, hk .0 .high)) z k0 (omega (arith, lst r h, across-between (start S) r ps)))
+      room r t h = roomy-two S ps G (Row r) (uncross S ps G T wide deep r t (omega (arith, hk .0 .high)) z k0
+          (omega (arith, lst r h, across-between (start S) r ps)))
 
   -- a pair that crosses the column cut and whose right end has the least line
   pub divide-cut-pair : standing (same (UL S)) ps ≡ 0 → Full S ps (leftCut S)
@@ -250,7 +290,8 @@ module _ (S : Shape) (ps : List Pair) (G : Good S ps) (T : Top S) (wide : start 
           q,
           rest,
           tk,
-          divide-least p q rest tk z k0 (unnot _ _ (j .0)) (leb-true (q .column) (start S) (j .1)) (λ r h. let l = leb-true (p .line) m (i .1) in f .2 r (omega arith)),
+          divide-least p q rest tk z k0 (unnot _ _ (j .0)) (leb-true (q .column) (start S) (j .1))
+              (λ r h. let l = leb-true (p .line) m (i .1) in f .2 r (omega arith)),
         )
   ]
     where

@@ -31,7 +31,8 @@ pub leaving-take : (X : Vertex → Bool) (u v : Vertex) {ps rest : List Pair} �
 unfolding leaving
 leaving-take X u v t = tally-take (λ u v. apart (X u) (X v)) (λ u v. apart-sym (X u) (X v)) u v t
 
-pub standing-take : (X : Vertex → Bool) (u v : Vertex) {ps rest : List Pair} → Take u v ps rest → standing X ps ≡ one (X u) + one (X v) + standing X rest
+pub standing-take : (X : Vertex → Bool) (u v : Vertex) {ps rest : List Pair} → Take u v ps rest
+    → standing X ps ≡ one (X u) + one (X v) + standing X rest
 unfolding standing
 standing-take X u v t = tally-take (λ u v. one (X u) + one (X v)) (λ u v. omega arith) u v t
 
@@ -96,7 +97,8 @@ unfolding inside tally
 proper-inside v [] a = refl
 proper-inside v (p ∷ ps) a = omega (arith, proper-inside v ps (a .1), go (bool (same v (p .first))) (bool (same v (p .second))))
   where
-    go : (same v (p .first) ≡ true) ⊎ (same v (p .first) ≡ false) → (same v (p .second) ≡ true) ⊎ (same v (p .second) ≡ false) → both (same v (p .first)) (same v (p .second)) ≡ 0
+    go : (same v (p .first) ≡ true) ⊎ (same v (p .first) ≡ false) → (same v (p .second) ≡ true) ⊎ (same v (p .second) ≡ false)
+        → both (same v (p .first)) (same v (p .second)) ≡ 0
     go (inl e) (inl f) =
         let q : p .first ≡ p .second = sym (same-true v (p .first) e) ∙ same-true v (p .second) f in
         let z : same (p .first) (p .second) ≡ true = rw (← q) (same-self (p .first)) in

@@ -121,10 +121,15 @@ pub leaving-none : (P : Vertex → Type 0) (X : Vertex → Bool) → ((u : Verte
 leaving-none P X h ps a = omega (arith, standing-split X ps, standing-none P X h ps a)
 
 -- nor one in which all stand, or none
-pub leaving-const : (P : Vertex → Type 0) (X : Vertex → Bool) (b : Bool) → ((u : Vertex) → P u → X u ≡ b) → (ps : List Pair) → All P ps → leaving X ps ≡ 0
+pub leaving-const : (P : Vertex → Type 0) (X : Vertex → Bool) (b : Bool) → ((u : Vertex) → P u → X u ≡ b) → (ps : List Pair) → All P ps
+    → leaving X ps ≡ 0
 unfolding leaving tally
 leaving-const P X b h [] a = refl
-leaving-const P X b h (p ∷ ps) a = omega (arith, leaving-const P X b h ps (a .2), apart-same (X (p .first)) (X (p .second)) (h _ (a .0) ∙ sym (h _ (a .1))))
+leaving-const P X b h (p ∷ ps) a = omega (
+  arith,
+  leaving-const P X b h ps (a .2),
+  apart-same (X (p .first)) (X (p .second)) (h _ (a .0) ∙ sym (h _ (a .1))),
+)
 
 -- what leaves X leaves its part Y, or stands in its part Z
 apart-part : {x y z x' y' z' : Bool} → Parted x y z → Parted x' y' z' → apart x x' ≤ apart y y' + (one z + one z')
@@ -144,7 +149,8 @@ unfolding leaving standing tally
 leaving-part P X Y Z h [] a = omega arith
 leaving-part P X Y Z h (p ∷ ps) a = omega (
   arith,
-  apart-part (parted (X (p .first)) (Y (p .first)) (Z (p .first)) (h (p .first) (a .0))) (parted (X (p .second)) (Y (p .second)) (Z (p .second)) (h (p .second) (a .1))),
+  apart-part (parted (X (p .first)) (Y (p .first)) (Z (p .first)) (h (p .first) (a .0)))
+      (parted (X (p .second)) (Y (p .second)) (Z (p .second)) (h (p .second) (a .1))),
   leaving-part P X Y Z h ps (a .2),
 )
 
@@ -162,7 +168,8 @@ standing-maps g X (p ∷ ps) = omega (arith, standing-maps g X ps)
 -- ── the four quarters that a row cut and a column cut make: u says above, x says left ──
 quarters-one : (u x u' x' : Bool)
     → apart u u' + apart x x' ≡ apart (u && x) (u' && x') + apart (not u && not x) (not u' && not x')
-    + (one (((u && not x) && (not u' && x')) || ((u' && not x') && (not u && x))) + one (((u && not x) && (not u' && x')) || ((u' && not x') && (not u && x))))
+    + (one (((u && not x) && (not u' && x')) || ((u' && not x') && (not u && x))) + one
+    (((u && not x) && (not u' && x')) || ((u' && not x') && (not u && x))))
 quarters-one true true true true = refl
 quarters-one true true true false = refl
 quarters-one true true false true = refl

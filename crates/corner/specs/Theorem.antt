@@ -11,7 +11,7 @@ use Rattle.net.specs.declared.Pair.{Pair}
 use Rattle.cut.specs.declared.Cut.{Cut}
 use Rattle.cut.specs.Cut.{Overfull, overfullCuts}
 use Rattle.cut.specs.Odd.{oddVertices}
-use Rattle.routing.specs.Routing.{Routing, Routable}
+use Rattle.routing_rules.specs.Routing.{Routing, Routable}
 use Rattle.corner.specs.Problem.{Problem}
 use Rattle.corner.specs.Route.{good-routed}
 use Rattle.corner.specs.Needed.{cut-needed}
@@ -24,12 +24,19 @@ use Rattle.corner.specs.Overfull.{overfull-count, not-overfull, none-ove
 use Rattle.corner.specs.Boards.{problem-good, shape-routing}
 
 -- Enough: where no cut is overfull there is a routing, which uses no edge twice.
-pub routing : (b : Board) (ps : List Pair) → Problem b ps → oddVertices b ps ≡ [] → overfullCuts b ps ≡ [] → (dss : List (List Direction)) × Routing b ps dss
+pub routing : (b : Board) (ps : List Pair) → Problem b ps → oddVertices b ps ≡ [] → overfullCuts b ps ≡ []
+    → (dss : List (List Direction)) × Routing b ps dss
 routing b ps P z e = let R = good-routed (linesOf b) ps (problem-good b ps P z e) in (pathsOf ps (R .trails), shape-routing b ps P R)
 
 -- Needed: on any board within the limits, convex or not, even or odd, no cut has more nets than edges.
 pub needed : (b : Board) (ps : List Pair) → Within b → Routable b ps → (X : Cut) → Overfull b ps X → ⊥
-needed b ps W R X o = omega (arith, cut-needed (onBoard b) (on-frame b W) X ps (routable-disjoint b ps R), crossing-leaving X ps, edges-cap b X, overfull-count b ps X .0 o)
+needed b ps W R X o = omega (
+  arith,
+  cut-needed (onBoard b) (on-frame b W) X ps (routable-disjoint b ps R),
+  crossing-leaving X ps,
+  edges-cap b X,
+  overfull-count b ps X .0 o,
+)
 
 pub needed-cuts : (b : Board) (ps : List Pair) → Within b → Routable b ps → overfullCuts b ps ≡ []
 needed-cuts b ps W R = none-overfull b ps (λ X. not-overfull b ps X (needed b ps W R X))

@@ -30,14 +30,18 @@ rest-from : (e : Link) (u v : Vertex) (es : List Link) → Walk u es v → 1 ≤
 unfolding used
 rest-from e u v [] w h = absurd (omega arith)
 rest-from e u v (f ∷ es) (inl w) h = elim (bool (sameLink e f)) [
-  | inl q ↦ let p = link-true e f q in
-      ((f ∷ es, subst (λ x. Walk (lo x) (f ∷ es) v) (sym p) (inl (refl, w .1)), λ g. omega arith), (es, subst (λ x. Walk (hi x) es v) (sym p) (w .1), λ g. omega arith))
+  | inl q ↦ let p = link-true e f q in (
+    (f ∷ es, subst (λ x. Walk (lo x) (f ∷ es) v) (sym p) (inl (refl, w .1)), λ g. omega arith),
+    (es, subst (λ x. Walk (hi x) es v) (sym p) (w .1), λ g. omega arith),
+  )
   | inr q ↦ let r = rest-from e (hi f) v es (w .1) (omega (arith, ap one q)) in
       ((r .0 .0, r .0 .1, λ g. omega (arith, r .0 .2 g)), (r .1 .0, r .1 .1, λ g. omega (arith, r .1 .2 g)))
 ]
 rest-from e u v (f ∷ es) (inr w) h = elim (bool (sameLink e f)) [
-  | inl q ↦ let p = link-true e f q in
-      ((es, subst (λ x. Walk (lo x) es v) (sym p) (w .1), λ g. omega arith), (f ∷ es, subst (λ x. Walk (hi x) (f ∷ es) v) (sym p) (inr (refl, w .1)), λ g. omega arith))
+  | inl q ↦ let p = link-true e f q in (
+    (es, subst (λ x. Walk (lo x) es v) (sym p) (w .1), λ g. omega arith),
+    (f ∷ es, subst (λ x. Walk (hi x) (f ∷ es) v) (sym p) (inr (refl, w .1)), λ g. omega arith),
+  )
   | inr q ↦ let r = rest-from e (lo f) v es (w .1) (omega (arith, ap one q)) in
       ((r .0 .0, r .0 .1, λ g. omega (arith, r .0 .2 g)), (r .1 .0, r .1 .1, λ g. omega (arith, r .1 .2 g)))
 ]
@@ -46,14 +50,16 @@ rest-from e u v (f ∷ es) (inr w) h = elim (bool (sameLink e f)) [
 abbrev Short : Vertex → Vertex → List Link → Type 0
 Short u v es = (fs : List Link) × Walk u fs v × ((f : Link) → used f fs ≤ min 1 (used f es))
 
-once-more : (e : Link) (fs es : List Link) → used e fs ≡ 0 → ((f : Link) → used f fs ≤ min 1 (used f es)) → (f : Link) → used f (e ∷ fs) ≤ min 1 (used f (e ∷ es))
+once-more : (e : Link) (fs es : List Link) → used e fs ≡ 0 → ((f : Link) → used f fs ≤ min 1 (used f es)) → (f : Link)
+    → used f (e ∷ fs) ≤ min 1 (used f (e ∷ es))
 unfolding used
 once-more e fs es z h f = elim (bool (sameLink f e)) [
   | inl q ↦ let p : used f fs ≡ used e fs = ap (λ g. used g fs) (link-true f e q) in omega (arith, ap one q)
   | inr q ↦ omega (arith, ap one q, h f)
 ]
 
-fewer-uses : (e : Link) (fs gs es : List Link) → ((f : Link) → used f gs ≤ used f fs) → ((f : Link) → used f fs ≤ min 1 (used f es)) → (f : Link) → used f gs ≤ min 1 (used f (e ∷ es))
+fewer-uses : (e : Link) (fs gs es : List Link) → ((f : Link) → used f gs ≤ used f fs) → ((f : Link) → used f fs ≤ min 1 (used f es)) → (f : Link)
+    → used f gs ≤ min 1 (used f (e ∷ es))
 unfolding used
 fewer-uses e fs gs es h k f = omega (arith, h f, k f)
 

@@ -31,7 +31,9 @@ module _ (S : Shape) (ps : List Pair) (G : Good S ps) (T : Top S) (wide : start 
   tops-step : (k : ℕ) → standing (Tops (suc k)) ps ≡ standing (Tops k) ps + standing (same (at (S .top) k)) ps
   tops-step k = standing-add (Here S) (Tops (suc k)) (Tops k) (same (at (S .top) k)) (λ u h.
       let e = below-suc (leb (u .line) (S .top)) k (u .column) in
-      let f : leb (u .line) (S .top) ≡ eqb (S .top) (u .line) = bool-eq _ _ (λ g. eq-eqb (S .top) (u .line) (omega (arith, h .low, leb-true (u .line) (S .top) g))) (λ g. le-leb (u .line) (S .top) (omega (arith, eqb-true (S .top) (u .line) g))) in
+      let f : leb (u .line) (S .top) ≡ eqb (S .top) (u .line) =
+      bool-eq _ _ (λ g. eq-eqb (S .top) (u .line) (omega (arith, h .low, leb-true (u .line) (S .top) g)))
+      (λ g. le-leb (u .line) (S .top) (omega (arith, eqb-true (S .top) (u .line) g))) in
       omega (arith, e, ap (λ t. one (t && eqb k (u .column))) f)) ps (G .stand)
 
   tops-base : standing (Tops (start S)) ps ≡ 0
@@ -46,7 +48,13 @@ module _ (S : Shape) (ps : List Pair) (G : Good S ps) (T : Top S) (wide : start 
       let z = tops-base in let s = tops-step (start S) in
       let w : standing (Tops 1) ps ≡ standing (Tops (suc (start S))) ps = rw e refl in omega arith
   tops-law (suc k) h i = elim (le-or-lt (start S) k) [
-    | inl g ↦ omega (arith, tops-law k g (omega arith), tops-step (suc k), pin-top S ps G T wide deep (suc k) h i, ap one (lt-leb (suc k) (start S) (omega arith)))
+    | inl g ↦ omega (
+      arith,
+      tops-law k g (omega arith),
+      tops-step (suc k),
+      pin-top S ps G T wide deep (suc k) h i,
+      ap one (lt-leb (suc k) (start S) (omega arith)),
+    )
     | inr g ↦
         let e : start S ≡ suc k = omega arith in
         let z = tops-base in let s = tops-step (start S) in
@@ -88,8 +96,10 @@ module _ (S : Shape) (ps : List Pair) (G : Good S ps) (T : Top S) (wide : start 
       → standing (same (UL S)) ps ≡ 2 → Roomy S ps (topCut S)
   room-top s t rest1 rest t1 t2 hs ht z =
       let i1 = inside-take (side (topCut S)) (UL S) s t1 in let i2 = inside-take (side (topCut S)) (UL S) t t2 in
-      let e : _≡_ {A = ℕ} (both (leb (S .top) (S .top)) (leb (s .line) (S .top))) 1 = rw (le-leb (S .top) (S .top) (omega arith), le-leb (s .line) (S .top) hs) in
-      let f : _≡_ {A = ℕ} (both (leb (S .top) (S .top)) (leb (t .line) (S .top))) 1 = rw (le-leb (S .top) (S .top) (omega arith), le-leb (t .line) (S .top) ht) in
+      let e : _≡_ {A = ℕ} (both (leb (S .top) (S .top)) (leb (s .line) (S .top))) 1 =
+      rw (le-leb (S .top) (S .top) (omega arith), le-leb (s .line) (S .top) hs) in
+      let f : _≡_ {A = ℕ} (both (leb (S .top) (S .top)) (leb (t .line) (S .top))) 1 =
+      rw (le-leb (S .top) (S .top) (omega arith), le-leb (t .line) (S .top) ht) in
       omega (arith, top-pins, cap-top, standing-split (side (topCut S)) ps)
 
   -- the divide at NUL: no pair lies in the top line, and NUL has an end
@@ -107,7 +117,8 @@ module _ (S : Shape) (ps : List Pair) (G : Good S ps) (T : Top S) (wide : start 
       odd : suc (suc (start S)) ≤ finish S → 1 ≤ standing (same (NUL S)) ps
       odd h =
           let t1 = T (suc (S .top)) (omega arith) in
-          let e = room-even S ps G (S .top) (suc (start S)) (record { low = omega arith; high = omega arith; from = omega arith; to = omega arith }) in
+          let e = room-even S ps G (S .top) (suc (start S))
+          (record { low = omega arith; high = omega arith; from = omega arith; to = omega arith }) in
           omega (
             arith,
             e .1,

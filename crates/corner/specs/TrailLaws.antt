@@ -92,11 +92,14 @@ link-less S S' f e mono was gone = elim (bool (sameLink f e)) [
 ]
 
 pub joined-mono : (S S' : Shape) (u : Vertex) → Less S S' u → (g : Link) → joined S' g ≡ true → joined S g ≡ true
-joined-mono S S' u L (hor l c) h = let k = and-true (present S' l c) (present S' l (suc c)) h in and-yes _ _ (less-still S S' u L l c (k .0)) (less-still S S' u L l (suc c) (k .1))
-joined-mono S S' u L (ver l c) h = let k = and-true (present S' l c) (present S' (suc l) c) h in and-yes _ _ (less-still S S' u L l c (k .0)) (less-still S S' u L (suc l) c (k .1))
+joined-mono S S' u L (hor l c) h = let k = and-true (present S' l c) (present S' l (suc c)) h in
+    and-yes _ _ (less-still S S' u L l c (k .0)) (less-still S S' u L l (suc c) (k .1))
+joined-mono S S' u L (ver l c) h = let k = and-true (present S' l c) (present S' (suc l) c) h in
+    and-yes _ _ (less-still S S' u L l c (k .0)) (less-still S S' u L (suc l) c (k .1))
 
 -- one edge and both edges
-pub link-one : (S S' : Shape) → Less S S' (UL S) → (f e : Link) → lo f ≡ UL S → joined S f ≡ true → one (joined S' e) + one (sameLink f e) ≤ one (joined S e)
+pub link-one : (S S' : Shape) → Less S S' (UL S) → (f e : Link) → lo f ≡ UL S → joined S f ≡ true
+    → one (joined S' e) + one (sameLink f e) ≤ one (joined S e)
 link-one S S' L f e p was = link-less S S' f e (joined-mono S S' (UL S) L) was (gone f p)
   where
     gone : (f : Link) → lo f ≡ UL S → joined S' f ≡ false

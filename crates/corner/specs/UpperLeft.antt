@@ -25,12 +25,14 @@ use Rattle.corner.specs.CornerLaw.{Stands, spot, box, reaches, corner-la
 
 -- terminals and present neighbours are at most 4
 pub room-at : (S : Shape) (ps : List Pair) → Good S ps → (l c : ℕ) → At S l c
-    → standing (same (at l c)) ps + (one (present S l (suc c)) + one (present S (suc l) c) + one (behind (present S l) c) + one (behind (λ k. present S k c) l)) ≤ 4
+    → standing (same (at l c)) ps + (one (present S l (suc c)) + one (present S (suc l) c) + one (behind (present S l) c) + one
+    (behind (λ k. present S k c) l)) ≤ 4
 unfolding deg
 room-at S ps G l c h = let k = G .even l c h in omega (arith, k .1, k .2)
 
 pub room-even : (S : Shape) (ps : List Pair) → Good S ps → (l c : ℕ) → At S l c
-    → (k : ℕ) × (standing (same (at l c)) ps + (one (present S l (suc c)) + one (present S (suc l) c) + one (behind (present S l) c) + one (behind (λ k. present S k c) l)) ≡ 2 * k)
+    → (k : ℕ) × (standing (same (at l c)) ps + (one (present S l (suc c)) + one (present S (suc l) c) + one (behind (present S l) c) + one
+    (behind (λ k. present S k c) l)) ≡ 2 * k)
 unfolding deg
 room-even S ps G l c h = let k = G .even l c h in (k .0, omega (arith, k .1))
 
@@ -79,7 +81,8 @@ module _ (S : Shape) (ps : List Pair) (G : Good S ps) (T : Top S) (wide : start 
   cap-reaches q h = sum-eq size _ _ (λ l i. ap one (bool-eq _ _
       (λ e.
       let k = present-true S l q (and-true (present S l q) (present S l (suc q)) e .0) in
-      and-yes _ _ (and-yes _ _ (le-leb (S .top) l (k .low)) (le-leb l (S .bottom) (k .high))) (le-leb (suc (S .a l)) (suc q) (omega (arith, k .from))))
+      and-yes _ _ (and-yes _ _ (le-leb (S .top) l (k .low)) (le-leb l (S .bottom) (k .high)))
+      (le-leb (suc (S .a l)) (suc q) (omega (arith, k .from))))
       (λ e.
       let j = and-true (leb (S .top) l && leb l (S .bottom)) (leb (suc (S .a l)) (suc q)) e in
       let k = and-true (leb (S .top) l) (leb l (S .bottom)) (j .0) in
@@ -90,7 +93,11 @@ module _ (S : Shape) (ps : List Pair) (G : Good S ps) (T : Top S) (wide : start 
 
   -- what crosses the cut left of column q
   pub left-law : (q : ℕ) → q ≤ start S → leaving (λ v. leb (suc (v .column)) q) ps ≤ sum size (reaches (S .top) (S .bottom) (S .a) q)
-  left-law zero h = omega (arith, leaving-none (Here S) (λ v. leb (suc (v .column)) 0) (λ u k. lt-leb (suc (u .column)) 0 (omega arith)) ps (G .stand))
+  left-law zero h = omega (
+    arith,
+    leaving-none (Here S) (λ v. leb (suc (v .column)) 0) (λ u k. lt-leb (suc (u .column)) 0 (omega arith)) ps
+        (G .stand),
+  )
   left-law (suc q) h =
       let e = leaving-ext (Here S) (λ v. leb (suc (v .column)) (suc q)) (side (Column q)) (λ u k. leb-suc (u .column) q) ps (G .stand) in
       omega (arith, G .cuts (Column q) .1, cap-reaches q h)
@@ -118,5 +125,6 @@ module _ (S : Shape) (ps : List Pair) (G : Good S ps) (T : Top S) (wide : start 
 
         base : standing (box (λ v. v .line) (λ v. v .column) q (start S) (S .top)) ps + 2 + max q (start S) ≤ one (leb q (start S)) + suc (start S)
         base =
-            let e = standing-le (Here S) (box (λ v. v .line) (λ v. v .column) q (start S) (S .top)) (same (UL S)) (λ u h. one-imply _ _ (λ e. is-corner u h e)) ps (G .stand) in
+            let e = standing-le (Here S) (box (λ v. v .line) (λ v. v .column) q (start S) (S .top)) (same (UL S))
+            (λ u h. one-imply _ _ (λ e. is-corner u h e)) ps (G .stand) in
             omega (arith, fit, ap one (le-leb q (start S) fit))

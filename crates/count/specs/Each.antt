@@ -65,7 +65,8 @@ pub select-none : {A : Type 0} (t : A → Bool) (xs : List A) → select t xs �
 unfolding select
 select-none t [] e = tt
 select-none t (x ∷ xs) e = elim (bool (t x)) [
-  | inl y ↦ absurd (let z : x ∷ select t xs ≡ [] = subst (λ s. cond s (x ∷ select t xs) (select t xs) ≡ []) y e in let l : suc (length (select t xs)) ≡ 0 = ap length z in omega arith)
+  | inl y ↦ absurd (let z : x ∷ select t xs ≡ [] = subst (λ s. cond s (x ∷ select t xs) (select t xs) ≡ []) y e in
+      let l : suc (length (select t xs)) ≡ 0 = ap length z in omega arith)
   | inr n ↦ (n, select-none t xs (subst (λ s. cond s (x ∷ select t xs) (select t xs) ≡ []) n e))
 ]
 

@@ -15,7 +15,7 @@ use Rattle.board.specs.Board.{Board, Within, height, at, IsVertex}
 use Rattle.board.specs.Degree.{vertex?, degree}
 use Rattle.board.specs.Tests.{vertex-exact}
 use Rattle.board.specs.declared.Vertex.{Vertex}
-use Rattle.convex.specs.Places.{vertex-in-row}
+use Rattle.board_convex.specs.Places.{vertex-in-row}
 use Rattle.net.specs.declared.Pair.{Pair}
 use Rattle.net.specs.Terminals.{terminals}
 use Rattle.cut.specs.Cut.{Overfull, overfull?, cuts, overfullCuts}
@@ -33,7 +33,12 @@ number-order i k = elim (le-or-lt k i) [
 ]
 
 pub cut-order : Ordered CutBefore
-cut-order (Row i) (Row k) = elim (number-order i k) [ inl h ↦ inl (higher h) | inr (inl e) ↦ inr (inl (ap Row e)) | inr (inr h) ↦ inr (inr (higher h)) ]
+cut-order (Row i) (Row k) = elim (number-order i k) [
+  | inl h ↦ inl (higher h)
+  | inr (inl e) ↦ inr (inl (ap Row e))
+  | inr (inr h) ↦
+      inr (inr (higher h))
+]
 cut-order (Row i) (Column k) = inl row-first
 cut-order (Column i) (Row k) = inr (inr row-first)
 cut-order (Column i) (Column k) =
@@ -143,7 +148,8 @@ module _ (b : Board) (ps : List Pair) where
     no-odd =
         let t = odd? b ps in let all = none-flat t (λ l. map (at l) (upTo 32)) 0 32 in (
           λ e v p. let q = placed v p in
-              not-odd v p (none-map t (at (v .line)) 0 32 .0 (all .0 e (v .line) (omega arith) (omega arith)) (v .column) (omega arith) (omega arith)),
+              not-odd v p (none-map t (at (v .line)) 0 32 .0 (all .0 e (v .line) (omega arith) (omega arith)) (v .column) (omega arith)
+              (omega arith)),
           λ h. all .1 (λ l a k. none-map t (at l) 0 32 .1 (λ c d m. even-not-odd (at l c) (h (at l c)))),
         )
 
@@ -158,7 +164,8 @@ module _ (b : Board) (ps : List Pair) where
           vertex = k .0;
           odd = k .1;
           before = λ u p h. let q = placed u p in elim (rw (here .0) at h) [
-            | inl a ↦ not-odd u p (none-map t (at (u .line)) 0 32 .0 (lines .before (u .line) (omega arith) a) (u .column) (omega arith) (omega arith))
+            | inl a ↦ not-odd u p (none-map t (at (u .line)) 0 32 .0 (lines .before (u .line) (omega arith) a) (u .column) (omega arith)
+                (omega arith))
             | inr a ↦ not-odd u p (rw (← a .0) at (columns .before (u .column) (omega arith) (a .1)))
           ];
         }
@@ -171,5 +178,6 @@ module _ (b : Board) (ps : List Pair) where
     pub first-odd : (v : Vertex) → (head? (oddVertices b ps) ≡ some v) ↔ FirstOdd b ps v
     first-odd v = (
       head-odd v,
-      λ p. head-is (oddVertices b ps) v (λ e. let k = no-odd .0 e v (p .vertex) in let o = p .odd in omega arith) (λ u e. only-odd u v (head-odd u e) p),
+      λ p. head-is (oddVertices b ps) v (λ e. let k = no-odd .0 e v (p .vertex) in let o = p .odd in omega arith)
+          (λ u e. only-odd u v (head-odd u e) p),
     )

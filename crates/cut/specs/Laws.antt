@@ -63,7 +63,8 @@ never-below k t = clash (T-true (ltb k 0) .0 t) (le-ltb k 0 (omega arith))
 pub overfull-more : (b : Board) (ps : List Pair) (x : Cut) → Overfull b ps x ↔ (edges b x < crossing x ps)
 overfull-more b ps x = (
   λ h. elim (le-or-lt (crossing x ps) (edges b x)) [
-    | inl p ↦ absurd (never-below (edges b x - crossing x ps) (subst (λ (z : ℤ). T (ltZ z (pos 0))) (margin-above b ps x (edges b x - crossing x ps) (omega arith)) (h .lt)))
+    | inl p ↦ absurd (never-below (edges b x - crossing x ps)
+        (subst (λ (z : ℤ). T (ltZ z (pos 0))) (margin-above b ps x (edges b x - crossing x ps) (omega arith)) (h .lt)))
     | inr p ↦ p
   ],
   λ p. record { lt = subst (λ (z : ℤ). T (ltZ z (pos 0))) (sym (margin-below b ps x (crossing x ps - suc (edges b x)) (omega arith))) tt },

@@ -14,8 +14,8 @@ use Rattle.board.specs.Path.{Convex}
 use Rattle.board.specs.Degree.{edge?}
 use Rattle.board.specs.Tests.{edge-exact}
 use Rattle.board.specs.declared.Direction.the-variants.{Right, Down}
-use Rattle.convex.specs.LineEnds.{lineLeft, lineRight}
-use Rattle.convex.specs.Lines as lines
+use Rattle.board_convex.specs.LineEnds.{lineLeft, lineRight}
+use Rattle.board_convex.specs.Lines as lines
 use Rattle.cut.specs.Cut.{edges}
 use Rattle.cut.specs.declared.Cut.the-variants.{Row, Column}
 
@@ -47,6 +47,8 @@ module _ (b : Board) (W : Within b) (C : Convex b) (j : ℕ) where
   unfolding edges
   column-edges =
       let f = W .few in let t : ℕ → Bool = λ l. edge? b Right (at l j) in
-      let short = count-shorter 32 (suc (height b)) t (omega arith) (λ l a k. not-true (t l) (λ e. let m = line-edge l .0 e in omega (arith, m .0))) in
-      let same = count-eq (suc (height b)) t (passes b j) (λ l k. bool-eq (t l) (passes b j l) (λ e. line-edge l .0 e .1) (λ e. line-edge l .1 (omega arith, e))) in
+      let short = count-shorter 32 (suc (height b)) t (omega arith)
+      (λ l a k. not-true (t l) (λ e. let m = line-edge l .0 e in omega (arith, m .0))) in
+      let same = count-eq (suc (height b)) t (passes b j)
+      (λ l k. bool-eq (t l) (passes b j l) (λ e. line-edge l .0 e .1) (λ e. line-edge l .1 (omega arith, e))) in
       cc (short, same)

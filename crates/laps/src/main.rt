@@ -4,13 +4,14 @@
 // Standard input is a number in decimal, at most 6 digits of it. So many calls are made, withdraw and take back by turns, on the session that
 // the call before handed back; then the last answer is printed: "accepted", or "refused" with the number.
 ghost use Prim.Native.Nat.{_≤_};
-use answers::Told;
 use board::Board;
 use board::Row;
 use board::Vertex;
 use net::Net;
 use net::Pair;
+use numbers::wide;
 use session::Session;
+use session_answers::Told;
 
 // A session, and what the last call on it answered.
 struct Lap {
@@ -87,7 +88,7 @@ fn changed(start: Session) -> Session {
 fn withdrawn(session: Session) -> Lap {
     let after = session.withdraw(64);
     let answer = after.answer;
-    let told = answers::withdraw_told(answer);
+    let told = session_answers::withdraw_told(answer);
     let next = after.session;
     Lap {
         told,
@@ -98,7 +99,7 @@ fn withdrawn(session: Session) -> Lap {
 fn taken_back(session: Session) -> Lap {
     let after = session.take_back();
     let answer = after.answer;
-    let told = answers::take_back_told(answer);
+    let told = session_answers::take_back_told(answer);
     let next = after.session;
     Lap {
         told,
@@ -145,12 +146,6 @@ fn digit(b: u8) -> u8
     } else {
         b - b'0'
     }
-}
-
-fn wide(x: u8) -> usize
-    ensures { λ r. ⌜ r ≤ 255 ⌝ }
-{
-    x as usize
 }
 
 fn is_digit(b: u8) -> bool {

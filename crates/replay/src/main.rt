@@ -8,10 +8,10 @@
 //     paths                                 routes the nets
 // Numbers stand in decimal, parted by spaces; one above 249 is read as 255, and one that is missing as 0. Other lines are passed over.
 //
-// Each call prints a line: "accepted", or "refused", the number and the place; routing prints its words, each on a line. Then come the nets in rising number, each a line "net" with
+// Each call prints a line: "accepted", or "refused", the number and the place; routing prints its words, each on a line. Then come the nets in
+// rising number, each a line "net" with
 // what add was given, and the pile from its top, each a line "added" or "withdrawn" with the net.
 ghost use Prim.Native.Nat.{_≤_};
-use answers::Told;
 use board::Board;
 use board::Row;
 use board::Vertex;
@@ -20,8 +20,9 @@ use net::Held;
 use net::Net;
 use net::Pair;
 use net::Place;
-use places::Pile;
+use net_places::Pile;
 use session::Session;
+use session_answers::Told;
 
 // A number that was read, and where it ended.
 struct Read {
@@ -191,7 +192,7 @@ fn print_change(change: Change) {
 fn print_nets(nets: [Place; 64]) {
     let mut number: u8 = 1;
     while number <= 64 {
-        print_place(number, places::place_of(nets, number));
+        print_place(number, net_places::place_of(nets, number));
         number += 1;
     }
 }
@@ -234,7 +235,7 @@ fn row_line(session: Session, s: &[u8], at: usize) -> Session {
 fn add_line(session: Session, s: &[u8], at: usize) -> Session {
     let after = session.add(net(s, at));
     let answer = after.answer;
-    print_told(answers::add_told(answer));
+    print_told(session_answers::add_told(answer));
     after.session
 }
 
@@ -242,21 +243,21 @@ fn withdraw_line(session: Session, s: &[u8], at: usize) -> Session {
     let n = number(s, at);
     let after = session.withdraw(n.value);
     let answer = after.answer;
-    print_told(answers::withdraw_told(answer));
+    print_told(session_answers::withdraw_told(answer));
     after.session
 }
 
 fn back_line(session: Session) -> Session {
     let after = session.take_back();
     let answer = after.answer;
-    print_told(answers::take_back_told(answer));
+    print_told(session_answers::take_back_told(answer));
     after.session
 }
 
 fn paths_line(session: Session) -> Session {
     let mut words = [0u32; 2049];
-    let answer = wiring::route(session, &mut words);
-    show::print_answer(answer, &words);
+    let answer = route_call::route(session, &mut words);
+    route_text::print_answer(answer, &words);
     session
 }
 

@@ -2,13 +2,13 @@
 //
 // Standard input is the board's words as a file has them, four bytes a word, lowest first.
 // Prints each routing word on a line, or "refused", the number and the place numbers.
-use reading::ReadAnswer;
+use board_reading::ReadAnswer;
 use session::Session;
 
 fn print_route(s: Session) {
     let mut words = [0u32; 2049];
-    let answer = wiring::route(s, &mut words);
-    show::print_answer(answer, &words);
+    let answer = route_call::route(s, &mut words);
+    route_text::print_answer(answer, &words);
 }
 
 // Reads on to the end; how many bytes the last buffer took. (A million buffers are read at most.)
@@ -41,7 +41,7 @@ fn main() {
         print_long(read_on());
         return;
     }
-    let after = reading::read_bytes(&bytes[..n]);
+    let after = board_reading::read_bytes(&bytes[..n]);
     let answer = after.answer;
     match answer {
         ReadAnswer::Refused(number, place) => text::print_refusal(number as usize, place),

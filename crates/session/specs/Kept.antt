@@ -10,19 +10,19 @@ use Rattle.board.specs.View.{boardOf}
 use Rattle.net.specs.declared.Net.{Net}
 use Rattle.net.specs.declared.Held.{Held}
 use Rattle.net.specs.declared.Held.the-variants.{Nothing, Ends}
-use Rattle.machine.specs.Machine.{accepted, add, withdraw, takeBack}
-use Rattle.machine.specs.Sound.{sound?, call}
-use Rattle.soundness.specs.Exact.{sound-exact}
-use Rattle.places.specs.Places.{netsOf, placeAt}
+use Rattle.session_rules.specs.Machine.{accepted, add, withdraw, takeBack}
+use Rattle.session_rules.specs.Sound.{sound?, call}
+use Rattle.session_laws.specs.Exact.{sound-exact}
+use Rattle.net_places.specs.Places.{netsOf, placeAt}
 use Rattle.session.specs.declared.Session.{Session}
 use Rattle.session.specs.declared.AfterAdd.{AfterAdd}
 use Rattle.session.specs.declared.AfterWithdraw.{AfterWithdraw}
 use Rattle.session.specs.declared.AfterTakeBack.{AfterTakeBack}
-use Rattle.answers.specs.declared.AddAnswer.{AddAnswer}
-use Rattle.answers.specs.declared.AddAnswer.the-variants.{Accepted, Unsound, BadNumber, NumberTaken, NoVertex, SameVertex, PinsTaken}
-use Rattle.answers.specs.Answers.{addAnswer, isAccepted}
-use Rattle.checking.specs.Lines.{checkOf}
-use Rattle.answers.specs.Answers.{withdrawAnswer, takeBackAnswer}
+use Rattle.session_answers.specs.declared.AddAnswer.{AddAnswer}
+use Rattle.session_answers.specs.declared.AddAnswer.the-variants.{Accepted, Unsound, BadNumber, NumberTaken, NoVertex, SameVertex, PinsTaken}
+use Rattle.session_answers.specs.Answers.{addAnswer, isAccepted}
+use Rattle.session_add.specs.Lines.{checkOf}
+use Rattle.session_answers.specs.Answers.{withdrawAnswer, takeBackAnswer}
 use Rattle.session.specs.View.{sessionOf}
 use Rattle.session.specs.Value.{addSound, withdrawHeld, withdrawSound, takeBackSound, addOf, withdrawOf, takeBackOf}
 use Rattle.session.specs.Promise.{AddPromise, WithdrawPromise, TakeBackPromise}

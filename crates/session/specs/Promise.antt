@@ -8,14 +8,14 @@ use Rattle.board.specs.Board.{Within}
 use Rattle.board.specs.Path.{Convex}
 use Rattle.board.specs.declared.Board as code-board
 use Rattle.net.specs.declared.Net.{Net}
-use Rattle.machine.specs.Machine.{accepted, add, withdraw, takeBack}
-use Rattle.machine.specs.Sound as machine
+use Rattle.session_rules.specs.Machine.{accepted, add, withdraw, takeBack}
+use Rattle.session_rules.specs.Sound as machine
 use Rattle.session.specs.declared.Session.{Session}
 use Rattle.session.specs.declared.AfterAdd.{AfterAdd}
 use Rattle.session.specs.declared.AfterWithdraw.{AfterWithdraw}
 use Rattle.session.specs.declared.AfterTakeBack.{AfterTakeBack}
-use Rattle.answers.specs.Answers.{addAnswer}
-use Rattle.answers.specs.Answers.{withdrawAnswer, takeBackAnswer}
+use Rattle.session_answers.specs.Answers.{addAnswer}
+use Rattle.session_answers.specs.Answers.{withdrawAnswer, takeBackAnswer}
 use Rattle.session.specs.View.{sessionOf}
 use Rattle.session.specs.Value.{addOf, withdrawOf, takeBackOf, freshOf, blankBoard}
 

@@ -5,17 +5,17 @@ use mathlib.Core.Bool.{true}
 use Rattle.board.specs.Board.{Board}
 use Rattle.board.specs.View.{boardOf}
 use Rattle.board.specs.declared.Board as code-board
-use Rattle.convex.specs.Test.{isConvex, inLimits, rowsFit, peels, contains?}
-use Rattle.convex.specs.Exact.{is-convex}
-use Rattle.machine.specs.Session as machine
-use Rattle.machine.specs.Sound.{Fresh, bare, blank}
-use Rattle.soundness.specs.Stays.{fresh-bare}
-use Rattle.places.specs.Pile.{pileOf, changesOf}
+use Rattle.board_convex.specs.Test.{isConvex, inLimits, rowsFit, peels, contains?}
+use Rattle.board_convex.specs.Exact.{is-convex}
+use Rattle.session_rules.specs.Session as machine
+use Rattle.session_rules.specs.Sound.{Fresh, bare, blank}
+use Rattle.session_laws.specs.Stays.{fresh-bare}
+use Rattle.net_places.specs.Pile.{pileOf, changesOf}
 use Rattle.session.specs.declared.Session.{Session}
 use Rattle.session.specs.View.{sessionOf}
 use Rattle.session.specs.Value.{freshOf, blankBoard}
 use Rattle.session.specs.Promise.{FreshPromise, BlankPromise}
-use Rattle.stands.specs.OneByOne.{nets-none}
+use Rattle.session_sound.specs.OneByOne.{nets-none}
 
 fresh-is-bare : (b : code-board.Board) → sessionOf (freshOf b) ≡ bare (boardOf b)
 unfolding freshOf pileOf changesOf

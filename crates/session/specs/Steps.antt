@@ -15,23 +15,23 @@ use Rattle.net.specs.declared.Net.{Net}
 use Rattle.net.specs.declared.Change.the-variants.{Added, Withdrawn}
 use Rattle.net.specs.declared.Held.{Held}
 use Rattle.net.specs.declared.Held.the-variants.{Nothing, Ends}
-use Rattle.machine.specs.Refusal.{Refusal}
-use Rattle.machine.specs.Session as machine
-use Rattle.machine.specs.Add.{addRefused, isNone, accepts}
-use Rattle.machine.specs.Machine.{add, withdraw, takeBack, addStep, withdrawStep, step, added, withdrawn, takenBack, reversed}
-use Rattle.machine.specs.Sound.{liftable?, lifts?, Sound}
-use Rattle.places.specs.Numbered.{replaced}
-use Rattle.places.specs.Places.{net, holding, netsOf, placeAt}
-use Rattle.places.specs.Nets.{heldAs, net-of, remove-of}
-use Rattle.places.specs.Pile.{pileOf, topOf, lifted}
-use Rattle.places.specs.Changes.{laid-pile, pile-top, pile-empty, length-pile}
+use Rattle.session_rules.specs.Refusal.{Refusal}
+use Rattle.session_rules.specs.Session as machine
+use Rattle.session_rules.specs.Add.{addRefused, isNone, accepts}
+use Rattle.session_rules.specs.Machine.{add, withdraw, takeBack, addStep, withdrawStep, step, added, withdrawn, takenBack, reversed}
+use Rattle.session_rules.specs.Sound.{liftable?, lifts?, Sound}
+use Rattle.net_places.specs.Numbered.{replaced}
+use Rattle.net_places.specs.Places.{net, holding, netsOf, placeAt}
+use Rattle.net_places.specs.Nets.{heldAs, net-of, remove-of}
+use Rattle.net_places.specs.Pile.{pileOf, topOf, lifted}
+use Rattle.net_places.specs.Changes.{laid-pile, pile-top, pile-empty, length-pile}
 use Rattle.session.specs.declared.Session.{Session}
-use Rattle.answers.specs.Answers.{addAnswer}
-use Rattle.answers.specs.Answers.{withdrawAnswer, takeBackAnswer}
+use Rattle.session_answers.specs.Answers.{addAnswer}
+use Rattle.session_answers.specs.Answers.{withdrawAnswer, takeBackAnswer}
 use Rattle.session.specs.View.{sessionOf}
 use Rattle.session.specs.Value.{changed, addSound, withdrawHeld, withdrawSound, takeBackSound}
-use Rattle.checking.specs.Check.{answered, check-answer, check-accepts}
-use Rattle.stands.specs.Reverse.{insert-accepted, reversed-of}
+use Rattle.session_add.specs.Check.{answered, check-answer, check-accepts}
+use Rattle.session_sound.specs.Reverse.{insert-accepted, reversed-of}
 
 -- DEFINITION: the arrays of the code have 64 places
 pub record Sized (s : Session) : Type 0 where
@@ -65,7 +65,8 @@ add-next s n z h =
     rw (check-accepts (boardOf (s .board)) (netsOf (s .nets)) n) (add-done s n (addRefused (boardOf (s .board)) (netsOf (s .nets)) n) z h refl)
 
 -- ── withdraw ──
-withdraw-held-answer : (s : Session) (k : ℕ) (x : Held) → withdrawAnswer (withdrawHeld s k x .answer) ≡ withdrawStep (heldAs k x) (sessionOf s) .answer
+withdraw-held-answer : (s : Session) (k : ℕ) (x : Held)
+    → withdrawAnswer (withdrawHeld s k x .answer) ≡ withdrawStep (heldAs k x) (sessionOf s) .answer
 withdraw-held-answer s k Nothing = refl
 withdraw-held-answer s k (Ends e) = refl
 
@@ -79,7 +80,8 @@ unfolding withdrawn
 withdraw-held s k Nothing z h = refl
 withdraw-held s k (Ends e) z h = rw (remove-of (s .nets) k, laid-pile (s .pile) (Withdrawn (net k e)) (z .pile64) (depth-short s h)) refl
 
-pub withdraw-next : (s : Session) (k : ℕ) → Sized s → Sound (sessionOf s) → sessionOf (withdrawSound s k .session) ≡ step (sessionOf s) (withdraw k) .next
+pub withdraw-next : (s : Session) (k : ℕ) → Sized s → Sound (sessionOf s)
+    → sessionOf (withdrawSound s k .session) ≡ step (sessionOf s) (withdraw k) .next
 unfolding step withdrawSound
 withdraw-next s k z h = rw (net-of (s .nets) k) (withdraw-held s k (placeAt (s .nets) k .held) z h)
 

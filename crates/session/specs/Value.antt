@@ -14,19 +14,19 @@ use Rattle.net.specs.declared.Change.the-variants.{Added, Withdrawn}
 use Rattle.net.specs.declared.Held.{Held}
 use Rattle.net.specs.declared.Held.the-variants.{Nothing, Ends}
 use Rattle.net.specs.declared.Place.{Place}
-use Rattle.machine.specs.Sound.{sound?}
-use Rattle.places.specs.Numbered.{replaced}
-use Rattle.places.specs.Places.{net, holding, netsOf, placeAt, reversedIn}
-use Rattle.places.specs.Pile.{noSlot, topOf, lifted, laid}
-use Rattle.answers.specs.Answers.{isAccepted}
-use Rattle.checking.specs.Lines.{checkOf}
-use Rattle.answers.specs.declared.AddAnswer.the-variants.{Unsound}
+use Rattle.session_rules.specs.Sound.{sound?}
+use Rattle.net_places.specs.Numbered.{replaced}
+use Rattle.net_places.specs.Places.{net, holding, netsOf, placeAt, reversedIn}
+use Rattle.net_places.specs.Pile.{noSlot, topOf, lifted, laid}
+use Rattle.session_answers.specs.Answers.{isAccepted}
+use Rattle.session_add.specs.Lines.{checkOf}
+use Rattle.session_answers.specs.declared.AddAnswer.the-variants.{Unsound}
 use Rattle.session.specs.declared.Session.{Session}
 use Rattle.session.specs.declared.AfterAdd.{AfterAdd}
 use Rattle.session.specs.declared.AfterWithdraw.{AfterWithdraw}
 use Rattle.session.specs.declared.AfterTakeBack.{AfterTakeBack}
-use Rattle.answers.specs.declared.WithdrawAnswer.the-variants as withdraw-is
-use Rattle.answers.specs.declared.TakeBackAnswer.the-variants as back-is
+use Rattle.session_answers.specs.declared.WithdrawAnswer.the-variants as withdraw-is
+use Rattle.session_answers.specs.declared.TakeBackAnswer.the-variants as back-is
 use Rattle.session.specs.View.{sessionOf}
 
 -- the session with other places, and a change laid on the pile

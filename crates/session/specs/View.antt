@@ -1,8 +1,8 @@
 -- Definitions only: the session of the list machine that a value of the code's struct stands for. Nothing is proved here.
 use Rattle.board.specs.View.{boardOf}
-use Rattle.machine.specs.Session.{Session}
-use Rattle.places.specs.Places.{netsOf}
-use Rattle.places.specs.Pile.{pileOf}
+use Rattle.session_rules.specs.Session.{Session}
+use Rattle.net_places.specs.Places.{netsOf}
+use Rattle.net_places.specs.Pile.{pileOf}
 use Rattle.session.specs.declared.Session as code
 
 abbrev pub sessionOf : code.Session → Session

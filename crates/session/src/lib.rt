@@ -1,18 +1,18 @@
 // Sessions: a board, the nets on it, and the pile of changes that can be taken back.
 // Each call takes a session and hands back the next. A refused call hands back the session that it was given.
-use answers::AddAnswer;
-use answers::TakeBackAnswer;
-use answers::WithdrawAnswer;
 use board::Board;
 use board::Row;
 use net::Change;
 use net::Held;
 use net::Net;
 use net::Place;
-use places::Pile;
+use net_places::Pile;
+use session_answers::AddAnswer;
+use session_answers::TakeBackAnswer;
+use session_answers::WithdrawAnswer;
 ghost use mathlib.Core.Path.{_≡_};
 ghost use Rattle.count.specs.Truth.{Decides};
-ghost use Rattle.machine.specs.Sound.{Sound, sound?};
+ghost use Rattle.session_rules.specs.Sound.{Sound, sound?};
 ghost use Rattle.session.specs.View.{sessionOf};
 ghost use Rattle.session.specs.Value.{changed, addSound, withdrawSound, takeBackSound};
 ghost use Rattle.session.specs.Promise.{AddPromise, WithdrawPromise, TakeBackPromise, FreshPromise, BlankPromise};
@@ -44,7 +44,7 @@ pub struct AfterTakeBack {
 pub fn fresh(board: Board) -> Session
     ensures { λ r. ⌜ FreshPromise board r ⌝ }
 {
-    let slot = places::no_slot();
+    let slot = net_places::no_slot();
     Session {
         board,
         nets: [Place {
@@ -75,8 +75,9 @@ impl Session {
         let b = self.board;
         let nets = self.nets;
         let pile = self.pile;
-        convex::is_convex(b)
-            & (stands::is_addable(b, nets) & ((pile.depth <= 64) & stands::lifts(b, nets, pile)))
+        board_convex::is_convex(b)
+            & (session_sound::is_addable(b, nets)
+                & ((pile.depth <= 64) & session_sound::lifts(b, nets, pile)))
     }
 
     // The session with other places, and the change laid on the pile.
@@ -96,15 +97,15 @@ impl Session {
         ensures { λ r. ⌜ r ≡ addSound self net ⌝ }
     {
         let nets = self.nets;
-        let answer = checking::check(self.board, nets, net);
-        if !answers::is_accepted(answer) {
+        let answer = session_add::check(self.board, nets, net);
+        if !session_answers::is_accepted(answer) {
             return AfterAdd {
                 answer,
                 session: self,
             };
         }
         let ends = net.ends;
-        let next = places::stored(nets, net.number, places::holding(ends));
+        let next = net_places::stored(nets, net.number, net_places::holding(ends));
         AfterAdd {
             answer,
             session: self.changed(next, Change::Added(net)),
@@ -115,7 +116,7 @@ impl Session {
         ensures { λ r. ⌜ r ≡ withdrawSound self number ⌝ }
     {
         let nets = self.nets;
-        let place = places::place_of(nets, number);
+        let place = net_places::place_of(nets, number);
         let held = place.held;
         match held {
             Held::Nothing => AfterWithdraw {
@@ -123,7 +124,7 @@ impl Session {
                 session: self,
             },
             Held::Ends(ends) => {
-                let next = places::stored(
+                let next = net_places::stored(
                     nets,
                     number,
                     Place {
@@ -152,7 +153,7 @@ impl Session {
         let nets = self.nets;
         let next = Session {
             board,
-            nets: places::reversed(nets, pile.top()),
+            nets: net_places::reversed(nets, pile.top()),
             pile: pile.lift(),
         };
         AfterTakeBack {

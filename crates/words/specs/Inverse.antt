@@ -132,7 +132,8 @@ says-net-or-not : (w : ℕ) → boardWord w ≡ asNet w → SaysBoard w
 unfolding asNet
 says-net-or-not w e = elim (bool (eqb (netWord (netIn w)) w)) [
   | inl t ↦
-      says-net (netIn w) (omega arith, (omega arith, omega arith), (omega arith, omega arith)) (sym (eqb-true (netWord (netIn w)) w t)) (e ∙ rw t refl)
+      says-net (netIn w) (omega arith, (omega arith, omega arith), (omega arith, omega arith)) (sym (eqb-true (netWord (netIn w)) w t))
+      (e ∙ rw t refl)
   | inr t ↦ says-nothing (e ∙ rw t refl)
 ]
 

@@ -22,6 +22,7 @@ use board::Row;
 use board::Vertex;
 use net::Net;
 use net::Pair;
+use numbers::as_word;
 
 // The counts of a board's end word.
 pub struct Counts {
@@ -57,13 +58,6 @@ pub enum RoutingWord {
     Unknown,
 }
 
-fn wide(x: u8) -> u32
-    ensures { λ r. ⌜ r ≡ x ⌝ }
-    ensures { λ r. ⌜ r ≤ 255 ⌝ }
-{
-    x as u32
-}
-
 // Bits 31-28.
 fn kind_of(w: u32) -> u32
     ensures { λ r. ⌜ r ≡ kind w ⌝ }
@@ -74,7 +68,7 @@ fn kind_of(w: u32) -> u32
 pub fn pack_row(r: Row) -> u32
     ensures { λ w. ⌜ w ≡ rowWord r ⌝ }
 {
-    268435456 + wide(r.left) * 32 + wide(r.right)
+    268435456 + as_word(r.left) * 32 + as_word(r.right)
 }
 
 pub fn pack_net(n: Net) -> u32
@@ -83,18 +77,18 @@ pub fn pack_net(n: Net) -> u32
     let ends = n.ends;
     let first = ends.first;
     let second = ends.second;
-    let head = 536870912 + wide(n.number) * 1048576;
+    let head = 536870912 + as_word(n.number) * 1048576;
     head
-        + wide(first.line) * 32768
-        + wide(first.column) * 1024
-        + wide(second.line) * 32
-        + wide(second.column)
+        + as_word(first.line) * 32768
+        + as_word(first.column) * 1024
+        + as_word(second.line) * 32
+        + as_word(second.column)
 }
 
 pub fn pack_end(c: Counts) -> u32
     ensures { λ w. ⌜ w ≡ endWord (c .rows) (c .nets) ⌝ }
 {
-    4026531840 + wide(c.rows) * 256 + wide(c.nets)
+    4026531840 + as_word(c.rows) * 256 + as_word(c.nets)
 }
 
 fn as_row(w: u32) -> BoardWord
@@ -195,14 +189,14 @@ pub fn direction_of(n: u32) -> Direction
 pub fn pack_path(p: Path) -> u32
     ensures { λ w. ⌜ w ≡ pathWord p ⌝ }
 {
-    1073741824 + wide(p.number) * 1048576 + p.runs as u32
+    1073741824 + as_word(p.number) * 1048576 + p.runs as u32
 }
 
 // The run word of so many edges in a direction.
 pub fn run_word(d: Direction, length: u16) -> u32
     ensures { λ w. ⌜ w ≡ runWord (run d length) ⌝ }
 {
-    1342177280 + wide(number_of(d)) * 67108864 + length as u32
+    1342177280 + as_word(number_of(d)) * 67108864 + length as u32
 }
 
 pub fn pack_run(r: Run) -> u32
@@ -215,7 +209,7 @@ pub fn pack_run(r: Run) -> u32
 pub fn pack_routing_end(paths: u8) -> u32
     ensures { λ w. ⌜ w ≡ routingEndWord paths ⌝ }
 {
-    3758096384 + wide(paths)
+    3758096384 + as_word(paths)
 }
 
 // The fields of a path word.

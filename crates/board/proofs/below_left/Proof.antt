@@ -4,7 +4,7 @@ use Rattle.board.proofs.below_left.Statement.{statement}
 use Rattle.board.proofs.below_left.Tie as tie
 use Rattle.board.proofs.below_left.Reads as reads
 use Rattle.board.proofs.below_left.Lts as lts
-use Rattle.board.proofs.before.Reads as before-reads
+use Rattle.numbers.proofs.before.Reads as before-reads
 use Rattle.board.proofs.is_cell.Reads as is-cell-reads
 
 -- src/lib.rt:82:41

@@ -63,22 +63,30 @@ below-left-requires-2 c κs = search needs
 -- src/lib.rt:105:1
 returns : tie.Need-returns
 unfolding edge?
-returns c = decides _ (edge? (boardOf (c .before .before .before .before .args .b)) (c .before .before .before .before .args .d) (c .before .before .before .before .args .v)) (edge-exact (boardOf (c .before .before .before .before .args .b)) (c .before .before .before .before .args .d) (c .before .before .before .before .args .v)) (cc)
+returns c = decides _ (edge? (boardOf (c .before .before .before .before .args .b)) (c .before .before .before .before .args .d)
+    (c .before .before .before .before .args .v)) (edge-exact (boardOf (c .before .before .before .before .args .b))
+    (c .before .before .before .before .args .d) (c .before .before .before .before .args .v)) (cc)
 
 -- src/lib.rt:105:1
 returns-2 : tie.Need-returns-2
 unfolding edge?
-returns-2 c = decides _ (edge? (boardOf (c .before .before .before .before .args .b)) (c .before .before .before .before .args .d) (c .before .before .before .before .args .v)) (edge-exact (boardOf (c .before .before .before .before .args .b)) (c .before .before .before .before .args .d) (c .before .before .before .before .args .v)) (cc)
+returns-2 c = decides _ (edge? (boardOf (c .before .before .before .before .args .b)) (c .before .before .before .before .args .d)
+    (c .before .before .before .before .args .v)) (edge-exact (boardOf (c .before .before .before .before .args .b))
+    (c .before .before .before .before .args .d) (c .before .before .before .before .args .v)) (cc)
 
 -- src/lib.rt:105:1
 returns-3 : tie.Need-returns-3
 unfolding edge?
-returns-3 c = decides _ (edge? (boardOf (c .before .before .before .before .args .b)) (c .before .before .before .before .args .d) (c .before .before .before .before .args .v)) (edge-exact (boardOf (c .before .before .before .before .args .b)) (c .before .before .before .before .args .d) (c .before .before .before .before .args .v)) (cc)
+returns-3 c = decides _ (edge? (boardOf (c .before .before .before .before .args .b)) (c .before .before .before .before .args .d)
+    (c .before .before .before .before .args .v)) (edge-exact (boardOf (c .before .before .before .before .args .b))
+    (c .before .before .before .before .args .d) (c .before .before .before .before .args .v)) (cc)
 
 -- src/lib.rt:105:1
 returns-4 : tie.Need-returns-4
 unfolding edge?
-returns-4 c = decides _ (edge? (boardOf (c .before .before .before .before .args .b)) (c .before .before .before .before .args .d) (c .before .before .before .before .args .v)) (edge-exact (boardOf (c .before .before .before .before .args .b)) (c .before .before .before .before .args .d) (c .before .before .before .before .args .v)) (cc)
+returns-4 c = decides _ (edge? (boardOf (c .before .before .before .before .args .b)) (c .before .before .before .before .args .d)
+    (c .before .before .before .before .args .v)) (edge-exact (boardOf (c .before .before .before .before .args .b))
+    (c .before .before .before .before .args .d) (c .before .before .before .before .args .v)) (cc)
 
 pub is-edge-spec : {M : Type 1} → statement M
 is-edge-spec =

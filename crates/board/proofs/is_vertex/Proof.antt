@@ -31,7 +31,8 @@ below-right-requires c κs = search needs
 -- src/lib.rt:98:1
 returns : tie.Need-returns
 unfolding vertex?
-returns c = decides _ (vertex? (boardOf (c .before .before .before .before .args .b)) (c .before .before .before .before .args .v)) (vertex-exact (boardOf (c .before .before .before .before .args .b)) (c .before .before .before .before .args .v)) (cc)
+returns c = decides _ (vertex? (boardOf (c .before .before .before .before .args .b)) (c .before .before .before .before .args .v))
+    (vertex-exact (boardOf (c .before .before .before .before .args .b)) (c .before .before .before .before .args .v)) (cc)
 
 pub is-vertex-spec : {M : Type 1} → statement M
 is-vertex-spec =

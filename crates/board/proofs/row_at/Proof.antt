@@ -7,7 +7,7 @@ use Rattle.board.proofs.row_at.Statement.{statement}
 use Rattle.board.proofs.row_at.Tie as tie
 use Rattle.board.proofs.row_at.Reads as reads
 use Rattle.board.proofs.row_at.Lts as lts
-use Rattle.board.proofs.wide.Reads as wide-reads
+use Rattle.numbers.proofs.wide.Reads as wide-reads
 
 -- src/lib.rt:60:9
 wide-requires : tie.Need-wide-requires

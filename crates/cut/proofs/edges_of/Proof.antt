@@ -31,7 +31,12 @@ bit-requires : tie.Need-bit-requires Inv-loop μ-loop
 bit-requires c κs = search needs
 
 add-n : tie.Need-add-n Inv-loop μ-loop
-add-n c = omega (arith, c .bit .ensures .1, count-le (c .before .before .before .loop .k) (cutEdge (boardOf (c .before .before .before .before .args .b)) (c .before .before .before .before .args .x)))
+add-n c = omega (
+  arith,
+  c .bit .ensures .1,
+  count-le (c .before .before .before .loop .k)
+      (cutEdge (boardOf (c .before .before .before .before .args .b)) (c .before .before .before .before .args .x)),
+)
 
 add-k : tie.Need-add-k Inv-loop μ-loop
 add-k c = search needs
@@ -40,12 +45,22 @@ loop-less : tie.Need-loop-less Inv-loop μ-loop
 loop-less c = search needs
 
 loop-again : tie.Need-loop-again Inv-loop μ-loop
-loop-again c = (omega arith, rw (add-one (c .before .before .before .loop .k), count-suc (c .before .before .before .loop .k) (cutEdge (boardOf (c .before .before .before .before .args .b)) (c .before .before .before .before .args .x))) (cc))
+loop-again c = (
+  omega arith,
+  rw (
+    add-one (c .before .before .before .loop .k),
+    count-suc (c .before .before .before .loop .k) (cutEdge (boardOf (c .before .before .before .before .args .b))
+        (c .before .before .before .before .args .x)),
+  ) (cc),
+)
 
 returns : tie.Need-returns Inv-loop μ-loop
 returns c = let e : c .before .loop .k ≡ 32 = omega arith in
-    let f : c .before .loop .n ≡ count 32 (cutEdge (boardOf (c .before .before .args .b)) (c .before .before .args .x)) = rw e at (c .before .loop .inv .1) in
-    (f ∙ sym (edges-count (boardOf (c .before .before .args .b)) (c .before .before .args .x)), omega (arith, count-le 32 (cutEdge (boardOf (c .before .before .args .b)) (c .before .before .args .x))))
+    let f : c .before .loop .n ≡ count 32 (cutEdge (boardOf (c .before .before .args .b)) (c .before .before .args .x)) =
+    rw e at (c .before .loop .inv .1) in (
+      f ∙ sym (edges-count (boardOf (c .before .before .args .b)) (c .before .before .args .x)),
+      omega (arith, count-le 32 (cutEdge (boardOf (c .before .before .args .b)) (c .before .before .args .x))),
+    )
 
 pub edges-of-spec : {M : Type 1} → statement M
 edges-of-spec =

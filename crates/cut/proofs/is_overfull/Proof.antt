@@ -24,7 +24,8 @@ returns : tie.Need-returns
 unfolding overfull?
 returns c =
     let b = boardOf (c .before .before .args .b) in let ps = pairsOf (c .before .before .args .nets) in let x = c .before .before .args .x in
-    decides _ (overfull? b ps x) (overfull-exact b ps x) (c .is-short .ensures ∙ ap (λ (z : ℤ). ltZ z (pos 0)) (margin-tally b ps x (c .before .tally-of .result) (c .before .tally-of .ensures)))
+    decides _ (overfull? b ps x) (overfull-exact b ps x)
+    (c .is-short .ensures ∙ ap (λ (z : ℤ). ltZ z (pos 0)) (margin-tally b ps x (c .before .tally-of .result) (c .before .tally-of .ensures)))
 
 pub is-overfull-spec : {M : Type 1} → statement M
 is-overfull-spec = tie.close (tie.spec tally-of-requires is-short-requires returns)

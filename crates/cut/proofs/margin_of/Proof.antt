@@ -18,7 +18,8 @@ sub-result : tie.Need-sub-result
 sub-result c = search (needs, cast-difference-fits)
 
 returns : tie.Need-returns
-returns c = rw (toZ-pos w32 {n = c .before .before .args .t .edges} (omega arith), toZ-pos w32 {n = c .before .before .args .t .nets} (omega arith)) (toZ-ofZ (difference-fits (c .before .before .args .t .edges) (c .before .before .args .t .nets) (omega arith) (omega arith)))
+returns c = rw (toZ-pos w32 {n = c .before .before .args .t .edges} (omega arith), toZ-pos w32 {n = c .before .before .args .t .nets} (omega arith))
+    (toZ-ofZ (difference-fits (c .before .before .args .t .edges) (c .before .before .args .t .nets) (omega arith) (omega arith)))
 
 pub margin-of-spec : {M : Type 1} → statement M
 margin-of-spec = tie.close (tie.spec cast-result cast-result-2 sub-result returns)

@@ -47,7 +47,8 @@ loop-less c = search needs
 
 loop-again : tie.Need-loop-again Inv-loop μ-loop
 loop-again c =
-    let at = c .before .before .before .loop in let nets = c .before .before .before .before .before .args .t2 in let x = c .before .before .before .before .before .args .x in
+    let at = c .before .before .before .loop in let nets = c .before .before .before .before .before .args .t2 in
+    let x = c .before .before .before .before .before .args .x in
     let w = with-held (at .t) x (getD nets (at .i) nothing .held) in
     let e = c .counted .ensures in
     let n : c .counted .result .nets ≡ at .t .nets + heldCrosses x (getD nets (at .i) nothing .held) = ap (λ (t : Tally). t .nets) e ∙ w .1 in
@@ -59,7 +60,11 @@ returns : tie.Need-returns Inv-loop μ-loop
 returns c =
     let at = c .before .loop in let nets = c .before .before .before .args .t2 in let x = c .before .before .before .args .x in
     let e : length nets ≡ at .i = omega arith in
-    record { edges-are = at .inv .1 ∙ c .before .before .edges-of .ensures .0; nets-are = omega (arith, rw e at (tally-none (λ p. one (crosses x p)) nets)) }
+    record {
+      edges-are = at .inv .1 ∙ c .before .before .edges-of .ensures .0;
+      nets-are =
+          omega (arith, rw e at (tally-none (λ p. one (crosses x p)) nets));
+    }
 
 pub tally-of-spec : {M : Type 1} → statement M
 tally-of-spec =

@@ -49,8 +49,12 @@ loop-less c = search needs
 -- src/lib.rt:68:5
 loop-again : tie.Need-loop-again Inv-loop μ-loop
 loop-again c =
-    let nets = c .before .before .before .before .args .t1 in let v = c .before .before .before .before .args .v in let at = c .before .before .before .loop in
-    (omega arith, omega (arith, c .held-ends .ensures .1), omega (arith, tally-more (λ p. ends p v) nets (at .i) (omega arith), c .held-ends .ensures .0))
+    let nets = c .before .before .before .before .args .t1 in let v = c .before .before .before .before .args .v in
+    let at = c .before .before .before .loop in (
+      omega arith,
+      omega (arith, c .held-ends .ensures .1),
+      omega (arith, tally-more (λ p. ends p v) nets (at .i) (omega arith), c .held-ends .ensures .0),
+    )
 
 -- src/lib.rt:63:1
 returns : tie.Need-returns Inv-loop μ-loop

@@ -40,7 +40,16 @@ digit-requires-8 c κs = search needs
 
 -- src/lib.rt:16:1
 returns : tie.Need-returns
-returns c = rw (c .before .before .before .before .before .before .before .digit .ensures, c .before .before .before .before .before .before .digit2 .ensures, c .before .before .before .before .before .digit3 .ensures, c .before .before .before .before .digit4 .ensures, c .before .before .before .digit5 .ensures, c .before .before .digit6 .ensures, c .before .digit7 .ensures, c .digit8 .ensures)
+returns c = rw (
+  c .before .before .before .before .before .before .before .digit .ensures,
+  c .before .before .before .before .before .before .digit2 .ensures,
+  c .before .before .before .before .before .digit3 .ensures,
+  c .before .before .before .before .digit4 .ensures,
+  c .before .before .before .digit5 .ensures,
+  c .before .before .digit6 .ensures,
+  c .before .digit7 .ensures,
+  c .digit8 .ensures,
+)
 
 pub hex-line-spec : {M : Type 1} → statement M
 hex-line-spec =

@@ -16,13 +16,18 @@ returns : tie.Need-returns
 unfolding asRun
 returns c =
     let w = c .before .before .before .args .w in
-    rw (c .before .before .run-in .ensures .0, eq-eqb (runWord (runIn w)) w (ap runWord (sym (c .before .before .run-in .ensures .0)) ∙ (sym (c .before .pack-run .ensures) ∙ c .if1 .taken))) refl
+    rw (
+      c .before .before .run-in .ensures .0,
+      eq-eqb (runWord (runIn w)) w
+          (ap runWord (sym (c .before .before .run-in .ensures .0)) ∙ (sym (c .before .pack-run .ensures) ∙ c .if1 .taken)),
+    ) refl
 
 returns-2 : tie.Need-returns-2
 unfolding asRun
 returns-2 c =
     let w = c .before .before .before .args .w in
-    rw (ne-eqb (runWord (runIn w)) w (λ e. c .if1 .left (c .before .pack-run .ensures ∙ (ap runWord (c .before .before .run-in .ensures .0) ∙ e)))) refl
+    rw (ne-eqb (runWord (runIn w)) w (λ e. c .if1 .left (c .before .pack-run .ensures
+    ∙ (ap runWord (c .before .before .run-in .ensures .0) ∙ e)))) refl
 
 pub as-run-spec : {M : Type 1} → statement M
 as-run-spec = tie.close (tie.spec run-in-requires pack-run-requires returns returns-2)

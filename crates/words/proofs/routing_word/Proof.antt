@@ -49,7 +49,11 @@ returns-3 c =
     let at-kind-of = at-if1 .before in let kind-of = at-kind-of .kind-of in
     let at-args = at-kind-of .before in let args = at-args .args in
     let w = args .w in
-    rw (ne-eqb (kind w) 4 (λ e. if1 .left (kind-of .ensures ∙ e)), ne-eqb (kind w) 5 (λ e. if2 .left (kind-of .ensures ∙ e)), eq-eqb (kind w) 14 (sym (kind-of .ensures) ∙ if3 .taken)) (c .as-routing-end .ensures)
+    rw (
+      ne-eqb (kind w) 4 (λ e. if1 .left (kind-of .ensures ∙ e)),
+      ne-eqb (kind w) 5 (λ e. if2 .left (kind-of .ensures ∙ e)),
+      eq-eqb (kind w) 14 (sym (kind-of .ensures) ∙ if3 .taken),
+    ) (c .as-routing-end .ensures)
 
 returns-4 : tie.Need-returns-4
 unfolding routingWord
@@ -59,7 +63,11 @@ returns-4 c =
     let at-kind-of = at-if1 .before in let kind-of = at-kind-of .kind-of in
     let at-args = at-kind-of .before in let args = at-args .args in
     let w = args .w in
-    rw (ne-eqb (kind w) 4 (λ e. if1 .left (kind-of .ensures ∙ e)), ne-eqb (kind w) 5 (λ e. if2 .left (kind-of .ensures ∙ e)), ne-eqb (kind w) 14 (λ e. c .if3 .left (kind-of .ensures ∙ e))) refl
+    rw (
+      ne-eqb (kind w) 4 (λ e. if1 .left (kind-of .ensures ∙ e)),
+      ne-eqb (kind w) 5 (λ e. if2 .left (kind-of .ensures ∙ e)),
+      ne-eqb (kind w) 14 (λ e. c .if3 .left (kind-of .ensures ∙ e)),
+    ) refl
 
 pub routing-word-spec : {M : Type 1} → statement M
 routing-word-spec =

@@ -14,7 +14,11 @@ is-accepted-requires c κs = search needs
 
 returns : tie.Need-returns
 unfolding addSound
-returns c = rw (← c .before .before .check .ensures, ← c .before .is-accepted .ensures, not-true (c .before .is-accepted .result) (c .if1 .taken)) refl
+returns c = rw (
+  ← c .before .before .check .ensures,
+  ← c .before .is-accepted .ensures,
+  not-true (c .before .is-accepted .result) (c .if1 .taken),
+) refl
 
 holding-requires : tie.Need-holding-requires
 holding-requires c κs = search needs

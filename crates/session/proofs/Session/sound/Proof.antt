@@ -1,10 +1,10 @@
 -- `sound` decides whether the session is sound.
 use mathlib.Core.Path.{refl}
 use Rattle.count.specs.Truth.{decides}
-use Rattle.machine.specs.Sound.{sound?}
-use Rattle.soundness.specs.Exact.{sound-exact}
-use Rattle.places.specs.Nets.{rising-of}
-use Rattle.places.specs.Changes.{length-pile}
+use Rattle.session_rules.specs.Sound.{sound?}
+use Rattle.session_laws.specs.Exact.{sound-exact}
+use Rattle.net_places.specs.Nets.{rising-of}
+use Rattle.net_places.specs.Changes.{length-pile}
 use Rattle.session.specs.View.{sessionOf}
 use borrow.Author.Needs.{needs}
 use Rattle.session.proofs.Session.sound.Statement.{statement}

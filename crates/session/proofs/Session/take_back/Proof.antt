@@ -1,7 +1,7 @@
 -- `take_back` keeps its promise.
 use mathlib.Core.Path.{refl, sym, _∙_}
 use borrow.Author.Tests.{not-true, not-false}
-use Rattle.places.specs.Shift.{length-unmapped-by}
+use Rattle.net_places.specs.Shift.{length-unmapped-by}
 use Rattle.session.specs.Value.{takeBackOf}
 use Rattle.session.specs.Kept.{take-back-promise}
 use borrow.Author.Needs.{needs}
@@ -26,7 +26,8 @@ unfolding takeBackOf
 returns-2 c =
     take-back-promise (c .before .before .before .args .self) _
     (record { nets64 = search (needs, length-unmapped-by); pile64 = search (needs, length-unmapped-by) })
-    (rw (sym (c .before .before .sound .ensures .same) ∙ not-false (c .before .before .sound .result) (c .before .if1 .left)) (c .take-back-sound .ensures))
+    (rw (sym (c .before .before .sound .ensures .same) ∙ not-false (c .before .before .sound .result) (c .before .if1 .left))
+    (c .take-back-sound .ensures))
 
 pub take-back-spec : {M : Type 1} → statement M
 take-back-spec = tie.close (tie.spec sound-requires returns take-back-sound-requires returns-2)

@@ -1,7 +1,7 @@
 -- `withdraw` keeps its promise.
 use mathlib.Core.Path.{refl, sym, _∙_}
 use borrow.Author.Tests.{not-true, not-false}
-use Rattle.places.specs.Shift.{length-unmapped-by}
+use Rattle.net_places.specs.Shift.{length-unmapped-by}
 use Rattle.session.specs.Value.{withdrawOf}
 use Rattle.session.specs.Kept.{withdraw-promise}
 use borrow.Author.Needs.{needs}
@@ -26,7 +26,8 @@ unfolding withdrawOf
 returns-2 c =
     withdraw-promise (c .before .before .before .args .self) (c .before .before .before .args .number) _
     (record { nets64 = search (needs, length-unmapped-by); pile64 = search (needs, length-unmapped-by) })
-    (rw (sym (c .before .before .sound .ensures .same) ∙ not-false (c .before .before .sound .result) (c .before .if1 .left)) (c .withdraw-sound .ensures))
+    (rw (sym (c .before .before .sound .ensures .same) ∙ not-false (c .before .before .sound .result) (c .before .if1 .left))
+    (c .withdraw-sound .ensures))
 
 pub withdraw-spec : {M : Type 1} → statement M
 withdraw-spec = tie.close (tie.spec sound-requires returns withdraw-sound-requires returns-2)

@@ -1,0 +1,60 @@
+-- DEFINITIONS: what the code computes of one word of a board, at the level of its values.
+use mathlib.Core.Bool.{Bool, true, false, not, cond, _&&_, _||_}
+use Prim.Native.Nat.{ℕ, _+_}
+use lib.Dec.{leb, ltb, eqb}
+use lib.ListN.{set, replicate}
+use Rattle.board.specs.declared.Row.{Row}
+use Rattle.board.specs.declared.Board as code
+use Rattle.net.specs.declared.Net.{Net}
+use Rattle.words.specs.declared.Counts.{Counts}
+use Rattle.words.specs.declared.BoardWord.{BoardWord}
+use Rattle.words.specs.declared.BoardWord.the-variants as word
+use Rattle.board_scan.specs.declared.Scan.{Scan}
+
+-- the number of the first refusal that holds, in the order of the table: 12 an unknown word, 13 a misplaced one, 14 a bad row, 15 a bad count
+abbrev pub firstOf : (unknown misplaced row count : Bool) → ℕ
+firstOf unknown misplaced row count = cond unknown 12 (cond misplaced 13 (cond row 14 (cond count 15 0)))
+
+unfoldable pub rowRefused : Scan → Row → ℕ
+rowRefused s r = firstOf false (ltb 0 (s .nets) || s .ended) (not (ltb (r .left) (r .right)) || leb 31 (s .board .count)) false
+
+unfoldable pub netRefused : Scan → Bool → Net → ℕ
+netRefused s first n = firstOf false (first || ((ltb 0 (s .nets) && leb (n .number) (s .last)) || s .ended)) false false
+
+unfoldable pub endRefused : Scan → Bool → Counts → ℕ
+endRefused s first c =
+    firstOf false (first || s .ended) false (not (eqb (c .rows) (s .board .count) && eqb (c .nets) (s .nets)))
+
+unfoldable pub wordRefused : Scan → Bool → BoardWord → ℕ
+wordRefused s first (word.Row r) = rowRefused s r
+wordRefused s first (word.Net n) = netRefused s first n
+wordRefused s first (word.End c) = endRefused s first c
+wordRefused s first word.Unknown = firstOf true (first || s .ended) false false
+
+-- with what a word says; beyond 31 rows and 255 nets nothing is taken
+unfoldable pub withRow : Scan → Row → Scan
+withRow s r =
+    cond (ltb (s .board .count) 31)
+    (record {
+      board = record { count = s .board .count + 1; rows = set (s .board .rows) (s .board .count) r };
+      nets = s .nets;
+      last = s .last;
+      ended = s .ended;
+    })
+    s
+
+unfoldable pub withNet : Scan → Net → Scan
+withNet s n = cond (ltb (s .nets) 255) (record { board = s .board; nets = s .nets + 1; last = n .number; ended = s .ended }) s
+
+abbrev pub withEnd : Scan → Scan
+withEnd s = record { board = s .board; nets = s .nets; last = s .last; ended = true }
+
+unfoldable pub withWord : Scan → BoardWord → Scan
+withWord s (word.Row r) = withRow s r
+withWord s (word.Net n) = withNet s n
+withWord s (word.End c) = withEnd s
+withWord s word.Unknown = s
+
+-- before the first word; row 0 of the array is that of the blank session
+abbrev pub start : Scan
+start = record { board = record { count = 0; rows = replicate 31 (record { left = 0; right = 0 }) }; nets = 0; last = 0; ended = false }

@@ -1,0 +1,209 @@
+// The words of a board, taken one by one: each through refusals 12 to 15.
+ghost use mathlib.Core.Path.{_≡_};
+ghost use Rattle.board_scan.specs.Promise.{ScanPromise};
+ghost use Rattle.board_scan.specs.Scan.{
+  firstOf,
+  rowRefused,
+  netRefused,
+  endRefused,
+  wordRefused,
+  withRow,
+  withNet,
+  withEnd,
+  withWord,
+  start,
+};
+use board::Board;
+use board::Row;
+use net::Net;
+use numbers::wide;
+use words::BoardWord;
+use words::Counts;
+
+// What the words so far have said: the board's rows, how many nets, the last net's number, and whether the end word has been.
+pub struct Scan {
+    pub board: Board,
+    pub nets: u8,
+    pub last: u8,
+    pub ended: bool,
+}
+
+// A refusal's number, 0 for none, and the index of its word.
+pub struct Scanned {
+    pub number: u8,
+    pub index: usize,
+    pub scan: Scan,
+}
+
+// The number of the first refusal that holds, in the order of the table, 0 for none.
+fn first_of(unknown: bool, misplaced: bool, row: bool, count: bool) -> u8
+    ensures { λ r. ⌜ r ≡ firstOf unknown misplaced row count ⌝ }
+{
+    if unknown {
+        return 12;
+    }
+    if misplaced {
+        return 13;
+    }
+    if row {
+        return 14;
+    }
+    if count {
+        return 15;
+    }
+    0
+}
+
+fn row_refused(s: Scan, r: Row) -> u8
+    ensures { λ n. ⌜ n ≡ rowRefused s r ⌝ }
+{
+    let board = s.board;
+    let bad = !(r.left < r.right) | (31 <= board.count);
+    first_of(false, (0 < s.nets) | s.ended, bad, false)
+}
+
+fn net_refused(s: Scan, first: bool, n: Net) -> u8
+    ensures { λ r. ⌜ r ≡ netRefused s first n ⌝ }
+{
+    let again = (0 < s.nets) & (n.number <= s.last);
+    first_of(false, first | (again | s.ended), false, false)
+}
+
+fn end_refused(s: Scan, first: bool, c: Counts) -> u8
+    ensures { λ r. ⌜ r ≡ endRefused s first c ⌝ }
+{
+    let board = s.board;
+    let counted = (c.rows == board.count) & (c.nets == s.nets);
+    first_of(false, first | s.ended, false, !counted)
+}
+
+// The number of the refusal of a word, 0 for none.
+fn word_refused(s: Scan, first: bool, w: BoardWord) -> u8
+    ensures { λ r. ⌜ r ≡ wordRefused s first w ⌝ }
+{
+    match w {
+        BoardWord::Row(r) => row_refused(s, r),
+        BoardWord::Net(n) => net_refused(s, first, n),
+        BoardWord::End(c) => end_refused(s, first, c),
+        BoardWord::Unknown => first_of(true, first | s.ended, false, false),
+    }
+}
+
+fn with_row(s: Scan, r: Row) -> Scan
+    ensures { λ t. ⌜ t ≡ withRow s r ⌝ }
+{
+    let board = s.board;
+    let count = board.count;
+    let at = wide(count);
+    if count < 31 {
+        let mut rows = board.rows;
+        rows[at] = r;
+        Scan {
+            board: Board {
+                count: count + 1,
+                rows,
+            },
+            nets: s.nets,
+            last: s.last,
+            ended: s.ended,
+        }
+    } else {
+        s
+    }
+}
+
+fn with_net(s: Scan, n: Net) -> Scan
+    ensures { λ t. ⌜ t ≡ withNet s n ⌝ }
+{
+    let board = s.board;
+    let nets = s.nets;
+    if nets < 255 {
+        Scan {
+            board,
+            nets: nets + 1,
+            last: n.number,
+            ended: s.ended,
+        }
+    } else {
+        s
+    }
+}
+
+fn with_end(s: Scan) -> Scan
+    ensures { λ t. ⌜ t ≡ withEnd s ⌝ }
+{
+    let board = s.board;
+    Scan {
+        board,
+        nets: s.nets,
+        last: s.last,
+        ended: true,
+    }
+}
+
+// The scan with what one more word says.
+fn with_word(s: Scan, w: BoardWord) -> Scan
+    ensures { λ t. ⌜ t ≡ withWord s w ⌝ }
+{
+    match w {
+        BoardWord::Row(r) => with_row(s, r),
+        BoardWord::Net(n) => with_net(s, n),
+        BoardWord::End(_) => with_end(s),
+        BoardWord::Unknown => s,
+    }
+}
+
+// Before the first word.
+fn before_words() -> Scan
+    ensures { λ t. ⌜ t ≡ start ⌝ }
+{
+    let row = Row { left: 0, right: 0 };
+    Scan {
+        board: Board {
+            count: 0,
+            rows: [row; 31],
+        },
+        nets: 0,
+        last: 0,
+        ended: false,
+    }
+}
+
+// The words one by one, each through 12 to 15; then an end must have been. First of all 11: no words or more than 96.
+pub fn scan_words(words: &[u32]) -> Scanned
+    ensures { λ r. ⌜ ScanPromise (now (words .entry)) r ⌝ }
+{
+    let mut s = before_words();
+    let n = words.len();
+    if (n == 0) | (96 < n) {
+        return Scanned {
+            number: 11,
+            index: 0,
+            scan: s,
+        };
+    }
+    for i in 0..n {
+        let w = words::board_word(words[i]);
+        let number = word_refused(s, i == 0, w);
+        if number != 0 {
+            return Scanned {
+                number,
+                index: i,
+                scan: s,
+            };
+        }
+        s = with_word(s, w);
+    }
+    if s.ended {
+        return Scanned {
+            number: 0,
+            index: n,
+            scan: s,
+        };
+    }
+    Scanned {
+        number: 13,
+        index: n,
+        scan: s,
+    }
+}

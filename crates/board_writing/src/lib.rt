@@ -1,0 +1,100 @@
+// Writing a session's board and nets as words into a lent buffer.
+ghost use mathlib.Core.Path.{_≡_};
+ghost use mathlib.Core.List.{_++_, map};
+ghost use Prim.Native.Nat.{_+_, _≤_, _<_};
+ghost use lib.ListN.{length};
+ghost use Rattle.board.specs.View.{boardOf};
+ghost use Rattle.words.specs.BoardWord.{rowWord};
+ghost use Rattle.board_writing.specs.Buffer.{startWith, Continues};
+ghost use Rattle.session.specs.View.{sessionOf};
+ghost use Rattle.call_rules.specs.Writing.{boardWords};
+ghost use Rattle.board_writing.specs.Words.{rowWords, heldWord, netWords};
+ghost use Rattle.board_writing.specs.Promise.{WrittenWords, WritePromise};
+use board::Board;
+use net::Held;
+use net::Net;
+use net::Place;
+use numbers::wide;
+use session::Session;
+use words::Counts;
+
+// What writing answers: the count of words written, or a refusal: 20 an unsound session, 18 a buffer under 96 words.
+pub enum WriteAnswer {
+    Written(usize),
+    Unsound,
+    ShortBuffer,
+}
+
+// The row words, from the start of the buffer.
+fn write_rows(b: Board, out: &mut [u32])
+    requires { ⌜ b .count ≤ 31 ⌝ }
+    requires { ⌜ 31 ≤ length (now out) ⌝ }
+    ensures { λ _. ⌜ now (out .exit) ≡ startWith (rowWords (b .rows) (b .count)) (now (out .entry)) ⌝ }
+{
+    let n = wide(b.count);
+    let rows = b.rows;
+    for i in 0..n {
+        out[i] = words::pack_row(rows[i]);
+    }
+}
+
+// The word of what a place holds, at this index of the buffer; answers with the next index.
+fn write_place(place: Place, number: u8, out: &mut [u32], at: usize) -> usize
+    requires { ⌜ at < length (now out) ⌝ }
+    ensures { λ r. ⌜ Continues (heldWord number (place .held)) (now (out .entry)) (now (out .exit)) at r ⌝ }
+{
+    let held = place.held;
+    match held {
+        Held::Nothing => at,
+        Held::Ends(ends) => {
+            out[at] = words::pack_net(Net { number, ends });
+            at + 1
+        }
+    }
+}
+
+// The net words, from this index of the buffer on; answers with the index after them.
+fn write_nets(nets: [Place; 64], out: &mut [u32], from: usize) -> usize
+    requires { ⌜ from + 64 ≤ length (now out) ⌝ }
+    ensures { λ r. ⌜ Continues (netWords nets 64) (now (out .entry)) (now (out .exit)) from r ⌝ }
+{
+    let mut at = from;
+    let mut number: u8 = 0;
+    for i in 0..64 {
+        number += 1;
+        at = write_place(nets[i], number, out, at);
+    }
+    at
+}
+
+// The board and the nets of a sound session, from the start of the buffer.
+fn write_sound(s: Session, out: &mut [u32]) -> usize
+    requires { ⌜ s .board .count ≤ 31 ⌝ }
+    requires { ⌜ 96 ≤ length (now out) ⌝ }
+    ensures { λ r. ⌜ WrittenWords (boardWords (sessionOf s)) (now (out .entry)) (now (out .exit)) r ⌝ }
+{
+    let board = s.board;
+    let nets = s.nets;
+    let rows = wide(board.count);
+    write_rows(board, out);
+    let at = write_nets(nets, out, rows);
+    let count = ((at - rows) % 256) as u8;
+    out[at] = words::pack_end(Counts {
+        rows: board.count,
+        nets: count,
+    });
+    at + 1
+}
+
+// The session's board and nets as words at the start of the buffer; the words after them are untouched.
+pub fn write_board(s: Session, out: &mut [u32]) -> WriteAnswer
+    ensures { λ r. ⌜ WritePromise (sessionOf s) (now (out .entry)) r (now (out .exit)) ⌝ }
+{
+    if !s.sound() {
+        return WriteAnswer::Unsound;
+    }
+    if out.len() < 96 {
+        return WriteAnswer::ShortBuffer;
+    }
+    WriteAnswer::Written(write_sound(s, out))
+}

@@ -1,0 +1,21 @@
+-- Definitions only: the layout editor's two calls, on bytes (document 01, "Board words", last paragraph). Nothing is proved here.
+use mathlib.Core.Path.{_≡_}
+use mathlib.Core.List.{List}
+use Prim.Native.Nat.{ℕ}
+use Rattle.session_rules.specs.Refusal.{Refusal}
+use Rattle.session_rules.specs.Session.{Session}
+use Rattle.call_rules.specs.Result.{Result, no, yes, andThen}
+use Rattle.call_rules.specs.Reading.{readBytes}
+use Rattle.call_rules.specs.Report.{Report}
+use Rattle.call_rules.specs.Judge.{judgeBytes}
+use Rattle.call_rules.specs.Route.{RoutesBytes}
+
+-- judging: "The board's bytes are read first, then a list's bytes get 10."
+unfoldable pub editorJudge : (board list : List ℕ) → Result Report
+editorJudge board list = andThen (readBytes board) (λ s. judgeBytes s list)
+
+-- reading with routing: a refused reading leaves the buffer as it was; else the session is routed into the buffer
+pub data EditorRoutes (board before : List ℕ) : Result ℕ → (after : List ℕ) → Type 0 where
+  unread : {r : Refusal} → readBytes board ≡ no r → EditorRoutes board before (no r) before
+  read : {s : Session} {answer : Result ℕ} {after : List ℕ} → readBytes board ≡ yes s → RoutesBytes s before answer after
+      → EditorRoutes board before answer after

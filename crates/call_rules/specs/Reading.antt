@@ -1,0 +1,145 @@
+-- Definitions only: reading a board from words and from bytes (document 01, "Board words", refusals 10 to 16 and 21 to 25). Nothing is proved here.
+use mathlib.Core.Bool.{Bool, true, false, not, _&&_, _||_}
+use mathlib.Core.List.{List, [], _∷_, _++_}
+use mathlib.Core.Option.{Option, none, some}
+use Prim.Native.Nat.{ℕ, suc}
+use lib.Dec.{leb, ltb, eqb}
+use lib.ListN.{length}
+use Rattle.board.specs.Board.{Board}
+use Rattle.board.specs.declared.Row.{Row}
+use Rattle.board_convex.specs.Test.{isConvex}
+use Rattle.net.specs.declared.Net.{Net}
+use Rattle.session_rules.specs.Refusal.{Refusal, refusal, Line, line, firstRefusal}
+use Rattle.session_rules.specs.Session.{Session, insert}
+use Rattle.session_rules.specs.Add.{addRefused}
+use Rattle.session_rules.specs.Sound.{blank}
+use Rattle.words.specs.BoardWord.{boardWord}
+use Rattle.words.specs.Bytes.{wordsIn, uneven}
+use Rattle.words.specs.declared.BoardWord.{BoardWord}
+use Rattle.words.specs.declared.BoardWord.the-variants as word
+use Rattle.call_rules.specs.Result.{Result, no, yes, andThen, unless}
+
+-- the greatest count of a board's words, in refusals 11 and 18
+abbrev pub boardLimit : ℕ
+boardLimit = 96
+
+-- a net word with its index in the list
+pub record Listed : Type 0 where
+  pub index : ℕ
+  pub net : Net
+
+-- what the words so far have said: rows from the top, nets with the last one first, and whether the end word has been
+pub record Taken : Type 0 where
+  pub rows : List Row
+  pub nets : List Listed
+  pub ended : Bool
+
+abbrev pub nothingTaken : Taken
+nothingTaken = record { rows = []; nets = []; ended = false }
+
+abbrev pub isRow : BoardWord → Bool
+isRow (word.Row r) = true
+isRow (word.Net n) = false
+isRow (word.End c) = false
+isRow word.Unknown = false
+
+abbrev pub isUnknown : BoardWord → Bool
+isUnknown (word.Row r) = false
+isUnknown (word.Net n) = false
+isUnknown (word.End c) = false
+isUnknown word.Unknown = true
+
+-- "net number not above the last"; "The first net word has no last"
+abbrev pub notAbove : ℕ → List Listed → Bool
+notAbove k [] = false
+notAbove k (n ∷ ns) = leb k (n .net .number)
+
+-- there is a net before
+abbrev pub some? : List Listed → Bool
+some? [] = false
+some? (n ∷ ns) = true
+
+-- 13, by the kind of the word: "row after net, net number not above the last"
+abbrev pub misplaced : Taken → BoardWord → Bool
+misplaced t (word.Row r) = some? (t .nets)
+misplaced t (word.Net n) = notAbove (n .number) (t .nets)
+misplaced t (word.End c) = false
+misplaced t word.Unknown = false
+
+-- 14: "left not below right, or a 32nd row"
+abbrev pub badRow : Taken → BoardWord → Bool
+badRow t (word.Row r) = not (ltb (r .left) (r .right)) || leb 31 (length (t .rows))
+badRow t (word.Net n) = false
+badRow t (word.End c) = false
+badRow t word.Unknown = false
+
+-- 15: "a count differs"
+abbrev pub badCount : Taken → BoardWord → Bool
+badCount t (word.Row r) = false
+badCount t (word.Net n) = false
+badCount t (word.End c) = not (eqb (c .rows) (length (t .rows)) && eqb (c .nets) (length (t .nets)))
+badCount t word.Unknown = false
+
+-- the lines of the table for the word at index i
+unfoldable pub wordLines : ℕ → Taken → BoardWord → List Line
+wordLines i t w =
+    line (isUnknown w) 12 i
+    ∷ line ((eqb i 0 && not (isRow w)) || (misplaced t w || t .ended)) 13 i
+    ∷ line (badRow t w) 14 i
+    ∷ line (badCount t w) 15 i
+    ∷ []
+
+-- with what the word at index i says
+abbrev pub take : ℕ → Taken → BoardWord → Taken
+take i t (word.Row r) = record { rows = t .rows ++ (r ∷ []); nets = t .nets; ended = t .ended }
+take i t (word.Net n) = record { rows = t .rows; nets = record { index = i; net = n } ∷ t .nets; ended = t .ended }
+take i t (word.End c) = record { rows = t .rows; nets = t .nets; ended = true }
+take i t word.Unknown = t
+
+-- "Board words are taken one by one, each through 12 to 15"; 13 also: "list over without an end (index = length)"
+unfoldable pub takeWords : ℕ → Taken → List ℕ → Result Taken
+takeWords i t [] = unless (firstRefusal (line (not (t .ended)) 13 i ∷ [])) (yes t)
+takeWords i t (w ∷ ws) = unless (firstRefusal (wordLines i t (boardWord w))) (takeWords (suc i) (take i t (boardWord w)) ws)
+
+-- "then nets as adds"; "Where nets of board words are refused, the place is the word's index."
+abbrev pub placedAt : ℕ → Option Refusal → Option Refusal
+placedAt i none = none
+placedAt i (some r) = some (refusal (r .number) i)
+
+unfoldable pub addListed : Board → List Net → List Listed → Result (List Net)
+addListed b on [] = yes on
+addListed b on (n ∷ ns) = unless (placedAt (n .index) (addRefused b on (n .net))) (addListed b (insert (n .net) on) ns)
+
+abbrev pub reverse : List Listed → List Listed → List Listed
+reverse [] back = back
+reverse (n ∷ ns) back = reverse ns (n ∷ back)
+
+abbrev pub boardIn : Taken → Board
+boardIn t = record { rows = t .rows }
+
+-- "Reading gives a session with an empty pile."
+unfoldable pub readNets : Taken → Result Session
+readNets t =
+    andThen (addListed (boardIn t) [] (reverse (t .nets) []))
+    (λ ns. yes (record { board = boardIn t; nets = ns; pile = [] }))
+
+-- "then 16"
+unfoldable pub readTaken : Taken → Result Session
+readTaken t = unless (firstRefusal (line (not (isConvex (boardIn t))) 16 0 ∷ [])) (readNets t)
+
+-- 11: "no words or more than 96"
+abbrev pub badLength : List ℕ → Bool
+badLength ws = eqb (length ws) 0 || ltb boardLimit (length ws)
+
+-- the session that a list of words gives, or the refusal
+unfoldable pub readWords : List ℕ → Result Session
+readWords ws = unless (firstRefusal (line (badLength ws) 11 0 ∷ [])) (andThen (takeWords 0 nothingTaken ws) readTaken)
+
+-- and a list of bytes
+unfoldable pub readBytes : List ℕ → Result Session
+readBytes bs = unless (firstRefusal (line (uneven bs) 10 0 ∷ [])) (readWords (wordsIn bs))
+
+-- "A refused reading gives the blank session"
+abbrev pub handedBack : Result Session → Session
+handedBack (no r) = blank
+handedBack (yes s) = s

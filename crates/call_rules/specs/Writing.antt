@@ -1,0 +1,34 @@
+-- Definitions only: writing a session's board and nets as words (document 01, "Board words", refusal 18). Nothing is proved here.
+use mathlib.Core.Bool.{not}
+use mathlib.Core.List.{List, [], _∷_, _++_, map}
+use Prim.Native.Nat.{ℕ}
+use lib.Dec.{ltb}
+use lib.ListN.{length, drop}
+use Rattle.session_rules.specs.Refusal.{line, firstRefusal}
+use Rattle.session_rules.specs.Session.{Session}
+use Rattle.session_rules.specs.Sound.{sound?}
+use Rattle.words.specs.BoardWord.{rowWord, netWord, endWord}
+use Rattle.call_rules.specs.Result.{Result, no, yes, unless}
+use Rattle.call_rules.specs.Reading.{boardLimit}
+
+-- "Row words top to bottom, then net words in rising number, then one end word."
+unfoldable pub boardWords : Session → List ℕ
+boardWords s =
+    map rowWord (s .board .rows) ++ (map netWord (s .nets) ++ (endWord (length (s .board .rows)) (length (s .nets)) ∷ []))
+
+-- the words written into a buffer: "words after the end word are untouched"
+abbrev pub writtenInto : List ℕ → List ℕ → List ℕ
+writtenInto buffer ws = ws ++ drop (length ws) buffer
+
+-- the words that are written, for a buffer of so many words, or the refusal: 20, then 18
+unfoldable pub writeBoard : Session → (room : ℕ) → Result (List ℕ)
+writeBoard s room = unless (firstRefusal (line (not (sound? s)) 20 0 ∷ line (ltb room boardLimit) 18 0 ∷ [])) (yes (boardWords s))
+
+-- the count that is answered, and the buffer afterwards: on a refusal the same as before
+abbrev pub countOf : Result (List ℕ) → Result ℕ
+countOf (no r) = no r
+countOf (yes ws) = yes (length ws)
+
+abbrev pub bufferAfter : List ℕ → Result (List ℕ) → List ℕ
+bufferAfter buffer (no r) = buffer
+bufferAfter buffer (yes ws) = writtenInto buffer ws

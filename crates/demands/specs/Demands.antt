@@ -1,0 +1,132 @@
+-- OPEN THIS FILE FIRST: the three demands as statements, in the demands' own words. Laws proves them: `demand-1`, `demand-2`, `demand-3`.
+--
+-- Each statement takes a call's promise and says what it means. The promises are those of src/lib.rt beside this file, where every call stands
+-- with its contract, and of crate cidrask for C; the checker holds the code to them, and to ending on every input.
+-- Nothing is proved in this file.
+use mathlib.Core.Path.{_≡_}
+use mathlib.Core.Bool.{Bool, true}
+use mathlib.Core.List.{List}
+use mathlib.Core.Logic.{_↔_}
+use mathlib.Core.Option.{none, some}
+use Prim.Native.Nat.{ℕ, _/_, _≤_}
+use lib.ListN.{length, take}
+use Rattle.count.specs.Truth.{Decides}
+use Rattle.board.specs.Board.{Board, Within}
+use Rattle.board.specs.Path.{Convex}
+use Rattle.board.specs.View.{boardOf}
+use Rattle.board.specs.declared.Board as code-board
+use Rattle.board.specs.declared.Direction.{Direction}
+use Rattle.board_convex.specs.Test.{isConvex}
+use Rattle.net.specs.declared.Net.{Net}
+use Rattle.routing_rules.specs.Routing.{Routing}
+use Rattle.session_rules.specs.Refusal.{Refusal, refusal}
+use Rattle.session_rules.specs.Machine as calls
+use Rattle.session_rules.specs.Machine.{accepted}
+use Rattle.session_rules.specs.Session as machine
+use Rattle.session_rules.specs.Session.{pairs}
+use Rattle.session_rules.specs.Sound.{Sound, Fresh, bare, blank, call}
+use Rattle.session.specs.declared.Session.{Session}
+use Rattle.session.specs.declared.AfterAdd.{AfterAdd}
+use Rattle.session.specs.declared.AfterWithdraw.{AfterWithdraw}
+use Rattle.session.specs.declared.AfterTakeBack.{AfterTakeBack}
+use Rattle.session.specs.View.{sessionOf}
+use Rattle.session_answers.specs.Answers.{addAnswer, withdrawAnswer, takeBackAnswer}
+use Rattle.session.specs.Promise.{AddPromise, WithdrawPromise, TakeBackPromise, FreshPromise}
+use Rattle.words.specs.RoutingWord.{routingWords}
+use Rattle.call_rules.specs.Result.{Result, no, yes, andThen}
+use Rattle.call_rules.specs.Reading.{readWords, readBytes, handedBack}
+use Rattle.call_rules.specs.Writing.{writeBoard, countOf, bufferAfter, writtenInto}
+use Rattle.call_rules.specs.Report.{Report, reportOf, alike}
+use Rattle.call_rules.specs.Judge.{judged, judgeWords, ofList, compareWords, judgeBytes}
+use Rattle.call_rules.specs.Route.{routeRefused, HandsBack, HandsBackBytes, Routes, RoutesBytes}
+use Rattle.board_reading.specs.declared.AfterRead.{AfterRead}
+use Rattle.board_reading.specs.Promise.{readAnswer, refusalIn, ReadPromise}
+use Rattle.board_writing.specs.declared.WriteAnswer.{WriteAnswer}
+use Rattle.board_writing.specs.Promise.{writeAnswer, WritePromise}
+use Rattle.judge_call.specs.declared.Judgement.{Judgement}
+use Rattle.judge_call.specs.declared.Likeness.{Likeness}
+use Rattle.judge_call.specs.Answers.{judgementOf, likenessOf}
+use Rattle.route_call.specs.declared.RouteAnswer.{RouteAnswer}
+use Rattle.route_call.specs.Answers.{routeAnswer}
+use Rattle.cidrask.specs.Told.{tell, refusedTold, judgeTold, RoutePromise, JudgePromise}
+use Rattle.session_history.specs.Made.{Made, Chain}
+use Rattle.session_history.specs.Routing as history
+
+-- ── 1 ──
+-- "Every accepted call .. gives exactly what document 01 lays down for its input, or, for a routing, one of those allowed there. Every refused
+-- call gives its number and place from the table, with the session and each lent buffer the same as before."
+-- In each field: the answer is the definition's, number and place included; what is handed back is the definition's; a refusal changes nothing.
+pub record Demand1 : Type 0 where
+  pub add : (s : Session) (n : Net) (r : AfterAdd) → AddPromise s n r
+      → (addAnswer (r .answer) ≡ call (sessionOf s) (calls.add n) .answer) × (sessionOf (r .session) ≡ call (sessionOf s) (calls.add n) .next)
+      × ((addAnswer (r .answer) ≡ accepted → ⊥) → r .session ≡ s)
+  pub withdraw : (s : Session) (k : ℕ) (r : AfterWithdraw) → WithdrawPromise s k r
+      → (withdrawAnswer (r .answer) ≡ call (sessionOf s) (calls.withdraw k) .answer)
+      × (sessionOf (r .session) ≡ call (sessionOf s) (calls.withdraw k) .next)
+      × ((withdrawAnswer (r .answer) ≡ accepted → ⊥) → r .session ≡ s)
+  pub take-back : (s : Session) (r : AfterTakeBack) → TakeBackPromise s r
+      → (takeBackAnswer (r .answer) ≡ call (sessionOf s) calls.takeBack .answer) × (sessionOf (r .session) ≡ call (sessionOf s) calls.takeBack .next)
+      × ((takeBackAnswer (r .answer) ≡ accepted → ⊥) → r .session ≡ s)
+  -- "a refused reading, which is given no session, hands back the blank one": x is readWords or readBytes of the input
+  pub read : (x : Result machine.Session) (r : AfterRead) → ReadPromise x r
+      → (readAnswer (r .answer) ≡ refusalIn x) × (sessionOf (r .session) ≡ handedBack x) × ((q : Refusal) → x ≡ no q → sessionOf (r .session) ≡ blank)
+  pub write : (s : Session) (before : List ℕ) (r : WriteAnswer) (after : List ℕ) → WritePromise (sessionOf s) before r after
+      → (writeAnswer r ≡ countOf (writeBoard (sessionOf s) (length before))) × (after ≡ bufferAfter before (writeBoard (sessionOf s) (length before)))
+      × ((q : Refusal) → writeAnswer r ≡ no q → after ≡ before)
+  -- judging and comparing are lent nothing to write to; `judged` gives the paths of a list that passes, or the refusal, 41 to 46
+  pub judge : (s : Session) (ws : List ℕ) (r : Judgement) → judgementOf r ≡ judgeWords (sessionOf s) ws
+      → ((Sound (sessionOf s) → ⊥) → judgementOf r ≡ no (refusal 20 0))
+      × (Sound (sessionOf s) → ((q : Refusal) → judged (sessionOf s) ws ≡ no q → judgementOf r ≡ no q)
+      × ((dss : List (List Direction)) → judged (sessionOf s) ws ≡ yes dss → judgementOf r ≡ yes (reportOf (pairs (sessionOf s .nets)) dss)))
+  pub compare : (s : Session) (vs ws : List ℕ) (r : Likeness) → likenessOf r ≡ compareWords (sessionOf s) vs ws
+      → ((Sound (sessionOf s) → ⊥) → likenessOf r ≡ no (refusal 20 0))
+      × (Sound (sessionOf s) → likenessOf r
+      ≡ andThen (ofList 0 (judged (sessionOf s) vs)) (λ dss. andThen (ofList 1 (judged (sessionOf s) ws)) (λ ess. yes (alike dss ess))))
+  pub route : (s : Session) (before : List ℕ) (r : RouteAnswer) (after : List ℕ) → Routes (sessionOf s) before (routeAnswer r) after
+      → ((q : Refusal) → routeRefused (sessionOf s) (length before) ≡ some q → (routeAnswer r ≡ no q) × (after ≡ before))
+      × (routeRefused (sessionOf s) (length before) ≡ none → (n : ℕ) × (routeAnswer r ≡ yes n) × HandsBack (sessionOf s) before after n)
+  pub route-bytes : (s : Session) (before : List ℕ) (r : RouteAnswer) (after : List ℕ) → RoutesBytes (sessionOf s) before (routeAnswer r) after
+      → ((q : Refusal) → routeRefused (sessionOf s) (length before / 4) ≡ some q → (routeAnswer r ≡ no q) × (after ≡ before))
+      × (routeRefused (sessionOf s) (length before / 4) ≡ none → (n : ℕ) × (routeAnswer r ≡ yes n) × HandsBackBytes (sessionOf s) before after n)
+  -- for C: the board's bytes are read first; a refusal is told by its number and place, and leaves the buffer as it was
+  pub c-route : (board before : List ℕ) (number first second : ℕ) (after : List ℕ) → RoutePromise board before number first second after
+      → ((q : Refusal) → readBytes board ≡ no q → (tell number first second 0 ≡ refusedTold q) × (after ≡ before))
+      × ((s : machine.Session) → readBytes board ≡ yes s
+      → ((q : Refusal) → routeRefused s (length before / 4) ≡ some q → (tell number first second 0 ≡ refusedTold q) × (after ≡ before))
+      × (routeRefused s (length before / 4) ≡ none → (n : ℕ) × (tell number first second 0 ≡ tell 0 n 0 0) × HandsBackBytes s before after n))
+  pub c-judge : (board list : List ℕ) (number first second third : ℕ) → JudgePromise board list number first second third
+      → ((q : Refusal) → readBytes board ≡ no q → tell number first second third ≡ refusedTold q)
+      × ((s : machine.Session) → readBytes board ≡ yes s → tell number first second third ≡ judgeTold (judgeBytes s list))
+
+-- ── 2 ──
+-- the words are those of a routing of the session's nets, which has the paths dss
+pub record IsRouting (s : Session) (ws : List ℕ) (dss : List (List Direction)) : Type 0 where
+  pub words : ws ≡ routingWords (sessionOf s .nets) dss
+  pub routing : Routing (sessionOf s .board) (pairs (sessionOf s .nets)) dss
+
+pub record Demand2 : Type 0 where
+  -- "A board is taken as convex exactly when any two of its vertices are joined inside it by a path with at most one bend."
+  -- (reading refuses with 16, and a session is unsound, by the same test isConvex)
+  pub convex : (b : code-board.Board) (r : Bool) → Decides r (isConvex (boardOf b)) (Within (boardOf b) × Convex (boardOf b)) → Within (boardOf b)
+      → (r ≡ true) ↔ Convex (boardOf b)
+  pub taken : (b : Board) → Within b → (isConvex b ≡ true) ↔ Convex b
+  -- "A word list passes exactly when it has the shape of 01's routing words and its paths are a routing of the board's nets as 01 defines it."
+  pub passes : (s : Session) (ws : List ℕ) (r : Judgement) → Sound (sessionOf s) → judgementOf r ≡ judgeWords (sessionOf s) ws
+      → ((x : Report) × (judgementOf r ≡ yes x)) ↔ ((dss : List (List Direction)) × IsRouting s ws dss)
+  -- "A session written as words reads back with the same board and nets,
+  pub reads-back : (s : Session) (before : List ℕ) (w : WriteAnswer) (after : List ℕ) → Sound (sessionOf s) → 96 ≤ length before
+      → WritePromise (sessionOf s) before w after
+      → (n : ℕ) × (writeAnswer w ≡ yes n) × ((r : AfterRead) → ReadPromise (readWords (take n after)) r
+      → (readAnswer (r .answer) ≡ none) × (sessionOf (r .session) .board ≡ sessionOf s .board) × (sessionOf (r .session) .nets ≡ sessionOf s .nets))
+  -- and accepted words write back as the same words."
+  pub writes-back : (ws : List ℕ) (r : AfterRead) (before : List ℕ) (w : WriteAnswer) (after : List ℕ) → ReadPromise (readWords ws) r
+      → readAnswer (r .answer) ≡ none → 96 ≤ length before → WritePromise (sessionOf (r .session)) before w after
+      → (writeAnswer w ≡ yes (length ws)) × (after ≡ writtenInto before ws)
+
+-- ── 3 ──
+-- "For every list of adds, withdrawals, take-backs and routing calls, refused ones included, from a fresh session on any convex board": what then
+-- holds is `Demand3` of crate session_history, file Routing, in the demand's own words. A session that `fresh` hands back on a convex board is fresh.
+pub record Demand3 : Type 0 where
+  pub whole : (s : Session) (calls : List Made) → Fresh (sessionOf s) → Chain s calls → history.Demand3 s calls
+  pub start : (b : code-board.Board) (s : Session) → Within (boardOf b) → Convex (boardOf b) → FreshPromise b s
+      → Fresh (sessionOf s) × (sessionOf s ≡ bare (boardOf b))

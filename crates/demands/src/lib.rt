@@ -1,0 +1,112 @@
+// Cidrask's calls in one place, each with its promise: what specs/Demands.antt speaks of.
+ghost use mathlib.Core.Path.{_≡_};
+ghost use Rattle.count.specs.Truth.{Decides};
+ghost use Rattle.board.specs.Board.{Within};
+ghost use Rattle.board.specs.Path.{Convex};
+ghost use Rattle.board.specs.View.{boardOf};
+ghost use Rattle.board_convex.specs.Test.{isConvex};
+ghost use Rattle.session.specs.View.{sessionOf};
+ghost use Rattle.session.specs.Promise.{FreshPromise, AddPromise, WithdrawPromise, TakeBackPromise};
+ghost use Rattle.call_rules.specs.Reading.{readWords, readBytes};
+ghost use Rattle.call_rules.specs.Judge.{judgeWords, judgeBytes, compareWords};
+ghost use Rattle.call_rules.specs.Route.{Routes, RoutesBytes};
+ghost use Rattle.board_reading.specs.Promise.{ReadPromise};
+ghost use Rattle.board_writing.specs.Promise.{WritePromise};
+ghost use Rattle.judge_call.specs.Answers.{judgementOf, likenessOf};
+ghost use Rattle.route_call.specs.Answers.{routeAnswer};
+use board::Board;
+use board_reading::AfterRead;
+use board_writing::WriteAnswer;
+use judge_call::Judgement;
+use judge_call::Likeness;
+use net::Net;
+use route_call::RouteAnswer;
+use session::AfterAdd;
+use session::AfterTakeBack;
+use session::AfterWithdraw;
+use session::Session;
+
+// Is the board within the limits and convex?
+pub fn is_convex(b: Board) -> bool
+    ensures { λ r. ⌜ Decides r (isConvex (boardOf b)) (Within (boardOf b) × Convex (boardOf b)) ⌝ }
+{
+    board_convex::is_convex(b)
+}
+
+// A session on the board, with no nets and an empty pile.
+pub fn fresh(b: Board) -> Session
+    ensures { λ r. ⌜ FreshPromise b r ⌝ }
+{
+    session::fresh(b)
+}
+
+pub fn add(s: Session, net: Net) -> AfterAdd
+    ensures { λ r. ⌜ AddPromise s net r ⌝ }
+{
+    s.add(net)
+}
+
+pub fn withdraw(s: Session, number: u8) -> AfterWithdraw
+    ensures { λ r. ⌜ WithdrawPromise s number r ⌝ }
+{
+    s.withdraw(number)
+}
+
+pub fn take_back(s: Session) -> AfterTakeBack
+    ensures { λ r. ⌜ TakeBackPromise s r ⌝ }
+{
+    s.take_back()
+}
+
+// A session from a board's words, or bytes.
+pub fn read_words(words: &[u32]) -> AfterRead
+    ensures { λ r. ⌜ ReadPromise (readWords (now (words .entry))) r ⌝ }
+{
+    board_reading::read_words(words)
+}
+
+pub fn read_bytes(bytes: &[u8]) -> AfterRead
+    ensures { λ r. ⌜ ReadPromise (readBytes (now (bytes .entry))) r ⌝ }
+{
+    board_reading::read_bytes(bytes)
+}
+
+// A session's board and nets as words.
+pub fn write_board(s: Session, out: &mut [u32]) -> WriteAnswer
+    ensures { λ r. ⌜ WritePromise (sessionOf s) (now (out .entry)) r (now (out .exit)) ⌝ }
+{
+    board_writing::write_board(s, out)
+}
+
+// The report on a list of routing words, given as words or bytes.
+pub fn judge_words(s: Session, words: &[u32]) -> Judgement
+    ensures { λ r. ⌜ judgementOf r ≡ judgeWords (sessionOf s) (now (words .entry)) ⌝ }
+{
+    judge_call::judge_words(s, words)
+}
+
+pub fn judge_bytes(s: Session, bytes: &[u8]) -> Judgement
+    ensures { λ r. ⌜ judgementOf r ≡ judgeBytes (sessionOf s) (now (bytes .entry)) ⌝ }
+{
+    judge_call::judge_bytes(s, bytes)
+}
+
+// Are two routings alike?
+pub fn compare_words(s: Session, first: &[u32], second: &[u32]) -> Likeness
+    ensures { λ r. ⌜ likenessOf r ≡ compareWords (sessionOf s) (now (first .entry)) (now (second .entry)) ⌝ }
+{
+    judge_call::compare_words(s, first, second)
+}
+
+// A routing of a session's nets, into words or bytes.
+pub fn route(s: Session, out: &mut [u32]) -> RouteAnswer
+    ensures { λ r. ⌜ Routes (sessionOf s) (now (out .entry)) (routeAnswer r) (now (out .exit)) ⌝ }
+{
+    route_call::route(s, out)
+}
+
+pub fn route_bytes(s: Session, out: &mut [u8]) -> RouteAnswer
+    ensures { λ r. ⌜ RoutesBytes (sessionOf s) (now (out .entry)) (routeAnswer r) (now (out .exit)) ⌝ }
+{
+    route_call::route_bytes(s, out)
+}

@@ -1,0 +1,63 @@
+// Judging a list of routing words against a board and its nets, and comparing two lists. That the session is sound (20) is tested above.
+ghost use mathlib.Core.Path.{_≡_};
+ghost use Prim.Native.Nat.{_≤_};
+ghost use lib.ListN.{length};
+ghost use Rattle.board.specs.Board.{Within};
+ghost use Rattle.board.specs.View.{boardOf};
+ghost use Rattle.net_places.specs.Places.{netsOf};
+ghost use Rattle.judge_shape.specs.declared.Checked.the-variants.{Passed};
+ghost use Rattle.judge_list.specs.Verdicts.{Checks, verdictOn, verdictOf, comparisonOn, comparisonOf};
+use board::Board;
+use judge_report::Report;
+use judge_shape::Checked;
+use judge_shape::Refusal;
+use net::Place;
+
+// The report on a list that passes, or its refusal.
+pub enum Verdict {
+    Passed(Report),
+    Refused(Refusal),
+}
+
+// Whether two lists that pass are alike; or the refusal of the first, with 0, or of the second, with 1.
+pub enum Comparison {
+    Alike(bool),
+    Refused(u8, Refusal),
+}
+
+// Does a list pass? First the shape of the whole list, then the paths in order.
+fn check(b: Board, nets: [Place; 64], words: &[u32]) -> Checked
+    ensures { λ r. ⌜ (Within (boardOf b) → Checks (boardOf b) (netsOf nets) (now (words .entry)) r) ⌝ }
+    ensures { λ r. ⌜ (r ≡ Passed → length (now (words .entry)) ≤ 2049) ⌝ }
+{
+    match judge_shape::check_shape(nets, words) {
+        Checked::Refused(r) => Checked::Refused(r),
+        Checked::Passed => {
+            let mut used = [0u8; 2048];
+            judge_walk::walk_paths(b, nets, words, &mut used)
+        }
+    }
+}
+
+// Judges a list of routing words for the nets on the board.
+pub fn judge(b: Board, nets: [Place; 64], words: &[u32]) -> Verdict
+    ensures { λ r. ⌜ (Within (boardOf b) → verdictOf r ≡ verdictOn (boardOf b) (netsOf nets) (now (words .entry))) ⌝ }
+{
+    match check(b, nets, words) {
+        Checked::Refused(r) => Verdict::Refused(r),
+        Checked::Passed => Verdict::Passed(judge_report::report_of(nets, words)),
+    }
+}
+
+// Judges the first list, then the second, and compares the two.
+pub fn compare(b: Board, nets: [Place; 64], first: &[u32], second: &[u32]) -> Comparison
+    ensures { λ r. ⌜ (Within (boardOf b) → comparisonOf r ≡ comparisonOn (boardOf b) (netsOf nets) (now (first .entry)) (now (second .entry))) ⌝ }
+{
+    match check(b, nets, first) {
+        Checked::Refused(r) => Comparison::Refused(0, r),
+        Checked::Passed => match check(b, nets, second) {
+            Checked::Refused(r) => Comparison::Refused(1, r),
+            Checked::Passed => Comparison::Alike(judge_alike::is_alike(nets, first, second)),
+        },
+    }
+}

@@ -1,0 +1,189 @@
+-- All paths of a list, one net on: their edges, their turns, and at which vertices how many of them turn.
+-- Assumes nothing.
+use mathlib.Core.Path.{_≡_, refl, ap, _∙_}
+use mathlib.Core.List.{List, [], _∷_}
+use Prim.Native.Nat.{ℕ, suc, _+_, _-_, _*_, _/_, _%_, _<_, _≤_}
+use native.Mathlib.Numerals.{add-one}
+use native.Mathlib.Omega.{arith}
+use lib.Dec.{ltb, eqb}
+use lib.ListN.{length, take, drop, getD}
+use Rattle.count.specs.Truth.{one}
+use Rattle.board.specs.Path.{turns}
+use Rattle.board.specs.declared.Vertex.{Vertex}
+use Rattle.board.specs.declared.Direction.{Direction}
+use Rattle.net.specs.View.{nothing}
+use Rattle.net.specs.declared.Net.{Net}
+use Rattle.net.specs.declared.Pair.{Pair}
+use Rattle.net.specs.declared.Held.{Held}
+use Rattle.net.specs.declared.Held.the-variants.{Nothing, Ends}
+use Rattle.net.specs.declared.Place.{Place}
+use Rattle.session_rules.specs.Session.{pairs}
+use Rattle.net_places.specs.Places.{net, heldNet, netsFrom, netsOf}
+use Rattle.words.specs.RoutingWord.{pathIn}
+use Rattle.call_rules.specs.Shape.{pathsFrom}
+use Rattle.call_rules.specs.Report.{edgesUsed, turnsMade, turnsAt, turning, knockKnee, knockKnees}
+use Rattle.call_rules.specs.Report as calls
+use Rattle.call_rules.specs.Report.{reportOf}
+use Rattle.call_rules.specs.Judge.{pathsIn}
+use Rattle.judge_shape.specs.Moves.{nets-more, nets-none}
+use Rattle.judge_walk.specs.Parts.{EndsAt, part-is, paths-out, paths-more}
+use Rattle.judge_report.specs.Traces.{knots}
+use Rattle.judge_report.specs.Knots.{vertexAt, knots-are}
+use Rattle.judge_report.specs.Directions.{dirsOf, dirs-are}
+use Rattle.judge_report.specs.Codes.{code-skip, code-knot, Says}
+use Rattle.judge_report.specs.Tracing.{Measured}
+use Rattle.judge_report.specs.declared.Trace.{Trace}
+use Rattle.judge_report.specs.declared.Sum.{Sum}
+use Rattle.judge_report.specs.declared.Report.{Report}
+
+-- DEFINITION: the paths of the nets ns, from index i of the words on
+abbrev pub left : List Net → List ℕ → ℕ → List (List Direction)
+left ns ws i = pathsIn (pathsFrom i ns (drop i ws))
+
+pub left-out : (ns : List Net) (ws : List ℕ) (i : ℕ) → length ws ≤ i → left ns ws i ≡ []
+left-out ns ws i h = rw (paths-out i ns ws h) refl
+
+pub left-more : (n : Net) (ns : List Net) (ws : List ℕ) (i runs from : ℕ) → i < length ws → from ≡ suc i → runs ≡ pathIn (getD ws i 0) .runs
+    → left (n ∷ ns) ws i ≡ dirsOf (take runs (drop from ws)) ∷ left ns ws (from + runs)
+left-more n ns ws i runs from h e f =
+    rw (paths-more i runs from n ns ws h e f) (ap (λ (ds : List Direction). ds ∷ left ns ws (from + runs)) (dirs-are from (take runs (drop from ws))))
+
+turning-none : (v : Vertex) (ps : List Pair) → turning v ps [] ≡ 0
+unfolding turning
+turning-none v [] = refl
+turning-none v (p ∷ ps) = refl
+
+-- ── what a place holds ──
+-- DEFINITION: the sum s and the marks a before the place of net k, and the sum r and the marks a' after it
+pub record MeasuresPlace (k : ℕ) (held : Held) (ws : List ℕ) (s : Sum) (a : List ℕ) (r : Sum) (a' : List ℕ) : Type 0 where
+  pub edges : (ns : List Net) → s .edges + edgesUsed (left (heldNet k held ns) ws (s .at)) ≡ r .edges + edgesUsed (left ns ws (r .at))
+  pub turned : (ns : List Net) → s .turns + turnsMade (left (heldNet k held ns) ws (s .at)) ≡ r .turns + turnsMade (left ns ws (r .at))
+  pub marks : (n : Vertex → ℕ) → 0 < k → k ≤ 64 → Says k n a
+      → (n' : Vertex → ℕ) × Says (suc k) n' a'
+      × ((ns : List Net) (v : Vertex) → n v + turning v (pairs (heldNet k held ns)) (left (heldNet k held ns) ws (s .at))
+      ≡ n' v + turning v (pairs ns) (left ns ws (r .at)))
+
+says-skip : {k : ℕ} {n : Vertex → ℕ} {a : List ℕ} → Says k n a → Says (suc k) n a
+says-skip s = record { long = s .long; codes = λ l c p q. code-skip (s .codes l c p q) }
+
+pub place-none : {k : ℕ} {ws : List ℕ} {s : Sum} {a : List ℕ} → MeasuresPlace k Nothing ws s a s a
+place-none = record {
+  edges = λ ns. refl;
+  turned = λ ns. refl;
+  marks = λ n p q h. (n, says-skip h, λ ns v. refl);
+}
+
+pub place-out : {k : ℕ} {ends : Pair} {ws : List ℕ} {s : Sum} {a : List ℕ} → length ws ≤ s .at → MeasuresPlace k (Ends ends) ws s a s a
+place-out {k} {ends} {ws} {s} h = record {
+  edges = λ ns. rw (left-out (net k ends ∷ ns) ws (s .at) h, left-out ns ws (s .at) h) refl;
+  turned = λ ns. rw (left-out (net k ends ∷ ns) ws (s .at) h, left-out ns ws (s .at) h) refl;
+  marks = λ n p q y. (
+    n,
+    says-skip y,
+    λ ns v.
+        rw (
+          left-out (net k ends ∷ ns) ws (s .at) h,
+          left-out ns ws (s .at) h,
+          turning-none v (pairs ns),
+          turning-none v (pairs (net k ends ∷ ns)),
+        ) refl,
+  );
+}
+
+pub place-on : {k : ℕ} {ends : Pair} {ws : List ℕ} {s : Sum} {a a' : List ℕ} {runs from to : ℕ} → s .at < length ws → from ≡ suc (s .at)
+    → runs ≡ pathIn (getD ws (s .at) 0) .runs → EndsAt from runs (length ws) to
+    → {t : Trace} → Measured (ends .first) k (take (to - from) (drop from ws)) t a a'
+    → {r : Sum} → r ≡ record { at = from + runs; edges = s .edges + t .edges; turns = s .turns + t .turns } → MeasuresPlace k (Ends ends) ws s a r a'
+unfolding edgesUsed turnsMade turning
+place-on {k} {ends} {ws} {s} {a} {a'} {runs} {from} {to} l e f p {t} m g = rw g (record {
+  edges = λ ns. rw (left-more (net k ends) ns ws (s .at) runs from l e f) (omega (arith, part .edges));
+  turned = λ ns. rw (left-more (net k ends) ns ws (s .at) runs from l e f) (omega (arith, part .turned));
+  marks = λ n h q y. (
+    (λ v. n v + one (ltb 0 (turnsAt v (ends .first) (dirsOf (take runs (drop from ws)))))),
+    part .marks n h q y,
+    λ ns v. rw (left-more (net k ends) ns ws (s .at) runs from l e f) (omega arith),
+  );
+})
+  where
+    part : Measured (ends .first) k (take runs (drop from ws)) t a a'
+    part = rw (part-is ws from runs to p) at m
+
+-- ── all places ──
+-- DEFINITION: the sum s and the marks a once the first i places are measured, from the marks a₀
+pub record Measuring (nets : List Place) (ws : List ℕ) (a₀ : List ℕ) (i : ℕ) (s : Sum) (a : List ℕ) : Type 0 where
+  pub edges : s .edges + edgesUsed (left (netsFrom (suc i) (drop i nets)) ws (s .at)) ≡ edgesUsed (left (netsOf nets) ws 0)
+  pub turned : s .turns + turnsMade (left (netsFrom (suc i) (drop i nets)) ws (s .at)) ≡ turnsMade (left (netsOf nets) ws 0)
+  pub marks : Says 1 (λ v. 0) a₀
+      → (n : Vertex → ℕ) × Says (suc i) n a
+      × ((v : Vertex) → n v + turning v (pairs (netsFrom (suc i) (drop i nets))) (left (netsFrom (suc i) (drop i nets)) ws (s .at))
+      ≡ turning v (pairs (netsOf nets)) (left (netsOf nets) ws 0))
+
+pub measuring-start : {nets : List Place} {ws : List ℕ} {a : List ℕ} → Measuring nets ws a 0 (record { at = 0; edges = 0; turns = 0 }) a
+unfolding netsOf
+measuring-start = record {
+  edges = omega arith;
+  turned = omega arith;
+  marks = λ h. ((λ v. 0), h, λ v. omega arith);
+}
+
+pub measuring-on : {nets : List Place} {ws a₀ : List ℕ} {i : ℕ} {s : Sum} {a : List ℕ} → Measuring nets ws a₀ i s a → i < length nets → i < 64
+    → {r : Sum} {a' : List ℕ} → {k : ℕ} → k ≡ i + 1 → MeasuresPlace k (getD nets i nothing .held) ws s a r a' → Measuring nets ws a₀ (i + 1) r a'
+measuring-on {nets} {ws} {a₀} {i} {s} {a} h l l64 {r} {a'} {k} g m = rw (add-one i) (record {
+  edges = omega (arith, h .edges, ap (λ (x : List Net). edgesUsed (left x ws (s .at))) more, p .edges ns);
+  turned = omega (arith, h .turned, ap (λ (x : List Net). turnsMade (left x ws (s .at))) more, p .turned ns);
+  marks = λ y.
+      let (n, q, z) = h .marks y in
+      let (n', q', z') = p .marks n (omega arith) (omega arith) q in
+      (n', q', λ v. omega (arith, z v, z' ns v, ap (λ (x : List Net). turning v (pairs x) (left x ws (s .at))) more));
+})
+  where
+    ns : List Net
+    ns = netsFrom (suc (suc i)) (drop (suc i) nets)
+
+    more : netsFrom (suc i) (drop i nets) ≡ heldNet (suc i) (getD nets i nothing .held) ns
+    more = nets-more nets i l
+
+    p : MeasuresPlace (suc i) (getD nets i nothing .held) ws s a r a'
+    p = let e : k ≡ suc i = omega arith in rw e at m
+
+-- ── the report ──
+-- DEFINITION: the report of document 01 that a value of the code stands for
+abbrev pub reportIs : Report → calls.Report
+reportIs r = record { edges = r .edges; turns = r .turns; knockKnees = r .knocks }
+
+pub measuring-done : {nets : List Place} {ws a₀ : List ℕ} {i : ℕ} {s : Sum} {a : List ℕ} → Measuring nets ws a₀ i s a → length nets ≤ i → i ≡ 64
+    → Says 1 (λ v. 0) a₀
+    → {n : ℕ} → n ≡ knots a
+    → record { edges = s .edges; turns = s .turns; knockKnees = n } ≡ reportOf (pairs (netsOf nets)) (pathsIn (pathsFrom 0 (netsOf nets) ws))
+unfolding edgesUsed turnsMade turning knockKnees knockKnee pathsFrom
+measuring-done {nets} {ws} {a₀} {i} {s} {a} h l e y {n} k = λ j. record { edges = pe j; turns = pt j; knockKnees = pk j }
+  where
+    dss : List (List Direction)
+    dss = left (netsOf nets) ws 0
+
+    none : netsFrom (suc i) (drop i nets) ≡ []
+    none = nets-none nets i l
+
+    pe : s .edges ≡ edgesUsed dss
+    pe = omega (arith, h .edges, ap (λ (x : List Net). edgesUsed (left x ws (s .at))) none)
+
+    pt : s .turns ≡ turnsMade dss
+    pt = omega (arith, h .turned, ap (λ (x : List Net). turnsMade (left x ws (s .at))) none)
+
+    m : (c : Vertex → ℕ) × Says (suc i) c a × ((v : Vertex)
+        → c v + turning v (pairs (netsFrom (suc i) (drop i nets))) (left (netsFrom (suc i) (drop i nets)) ws (s .at))
+        ≡ turning v (pairs (netsOf nets)) dss)
+    m = h .marks y
+
+    all : (v : Vertex) → m .0 v ≡ turning v (pairs (netsOf nets)) dss
+    all v = omega (arith, m .2 v, ap (λ (x : List Net). turning v (pairs x) (left x ws (s .at))) none)
+
+    at-index : (j : ℕ) → j < 1024 → eqb (getD a j 0) 128 ≡ knockKnee (pairs (netsOf nets)) dss (vertexAt j)
+    at-index j q =
+        let x : j / 32 * 32 + j % 32 ≡ j = omega arith in
+        let c = m .1 .codes (j / 32) (j % 32) (omega arith) (omega arith) in
+        let z = code-knot (omega arith) c in
+        rw (x, all (vertexAt j)) at z
+
+    pk : n ≡ knockKnees (pairs (netsOf nets)) dss
+    pk = k ∙ knots-are (knockKnee (pairs (netsOf nets)) dss) a (m .1 .long) at-index

@@ -1,0 +1,149 @@
+-- A path traced run by run: its edges, its turns, and the marks of its turns.
+-- Assumes nothing; what is said of marks is for a net of number 1 to 64.
+use mathlib.Core.Path.{_≡_, refl, ap, _∙_}
+use mathlib.Core.Bool.{Bool, true, false, cond, not, _&&_}
+use mathlib.Core.List.{List, [], _∷_, _++_}
+use mathlib.Core.Logic.{_⊎_, inl, inr}
+use Prim.Native.Nat.{ℕ, suc, _+_, _-_, _*_, _<_, _≤_}
+use native.Mathlib.Numerals.{add-one}
+use native.Mathlib.Omega.{arith}
+use lib.Dec.{ltb, eqb}
+use lib.ListN.{length, drop, getD, set, replicate, length-set, drop-of-length-le}
+use lib.Seq.{drop-cons, getD-set-same, getD-set-other}
+use borrow.Author.Tests.{lt-ltb, ltb-true}
+use Rattle.count.specs.Truth.{bool, clash, one}
+use Rattle.count.specs.Bits.{digits-apart}
+use Rattle.board.specs.Board.{at}
+use Rattle.board.specs.Path.{number, turns}
+use Rattle.board.specs.declared.Vertex.{Vertex}
+use Rattle.net.specs.Terminals.{same}
+use Rattle.net.specs.Same.{same-exact}
+use Rattle.words.specs.RoutingWord.{runIn}
+use Rattle.words.specs.declared.Run.{Run}
+use Rattle.call_rules.specs.Report.{turnsAt}
+use Rattle.judge_shape.specs.declared.Last.{Last}
+use Rattle.judge_shape.specs.declared.Last.the-variants.{Nothing, Was}
+use Rattle.net.specs.Grid.{length-changed, changed-same, changed-other}
+use Rattle.judge_report.specs.Traces.{turnBy, traceRun, begin, marked, markAt, markRun}
+use Rattle.judge_report.specs.Directions.{dirsOf, edges-run, turnsAfter, turns-run, turnsFrom, from-run}
+use Rattle.judge_report.specs.Codes.{Coding, before, code-turn, code-done, Says}
+use Rattle.judge_report.specs.declared.Trace.{Trace}
+
+-- ── the marks, one run on ──
+turn-one : (l : Last) (r : Run) → (turnBy l r ≡ 0) ⊎ (turnBy l r ≡ 1)
+turn-one Nothing r = inl refl
+turn-one (Was e) r = go (ltb 0 (r .length) && not (eqb (number e) (number (r .direction))))
+  where
+    go : (t : Bool) → (_≡_ {A = ℕ} (cond t 1 0) 0) ⊎ (_≡_ {A = ℕ} (cond t 1 0) 1)
+    go true = inr refl
+    go false = inl refl
+
+length-mark-run : (k : ℕ) (t : Trace) (r : Run) (a : List ℕ) → length (markRun k t r a) ≡ length a
+unfolding markRun
+length-mark-run k t r a = go (eqb (turnBy (t .last) r) 1)
+  where
+    go : (s : Bool) → length (cond s (markAt (t .line) (t .column) k a) a) ≡ length a
+    go true = length-changed (λ m. marked m k) (t .line) (t .column) a
+    go false = refl
+
+-- the mark of the vertex (m, d), with the turns of net k there so far
+mark-run : {k n x : ℕ} → 0 < k → k ≤ 64 → (t : Trace) (r : Run) (a : List ℕ) (m d : ℕ) → length a ≡ 1024 → m < 32 → d < 32
+    → Coding k n x (getD a (m * 32 + d) 0)
+    → Coding k n (x + cond (same (at (t .line) (t .column)) (at m d)) (turnBy (t .last) r) 0) (getD (markRun k t r a) (m * 32 + d) 0)
+unfolding markRun
+mark-run {k} {n} {x} kp kq t r a m d e p q h = elim (turn-one (t .last) r) [
+  | inl z ↦ rw z (none (same (at (t .line) (t .column)) (at m d)))
+  | inr z ↦ elim (bool (same (at (t .line) (t .column)) (at m d))) [
+    | inl s ↦
+        let u = same-exact (at (t .line) (t .column)) (at m d) .0 s in
+        let ul : t .line ≡ m = ap (λ (v : Vertex). v .line) u in
+        let uc : t .column ≡ d = ap (λ (v : Vertex). v .column) u in
+        let y : x + 1 ≡ suc x = omega arith in
+        rw (s, z, y, ul, uc, changed-same (λ m. marked m k) m d a e p q) (code-turn kp kq h)
+    | inr s ↦
+        let y : x + 0 ≡ x = omega arith in
+        rw (s, z, y, changed-other (λ m. marked m k) (t .line) (t .column) m d a s q) h
+  ]
+]
+  where
+    none : (s : Bool) → Coding k n (x + cond s 0 0) (getD a (m * 32 + d) 0)
+    none true = let y : x + 0 ≡ x = omega arith in rw y h
+    none false = let y : x + 0 ≡ x = omega arith in rw y h
+
+-- ── a path: its first i runs are traced ──
+pub record Tracing (u : Vertex) (k : ℕ) (ws : List ℕ) (i : ℕ) (t : Trace) (a₀ a : List ℕ) : Type 0 where
+  pub edges : t .edges + length (dirsOf (drop i ws)) ≡ length (dirsOf ws)
+  pub turned : t .turns + turnsAfter (t .last) (dirsOf (drop i ws)) ≡ turns (dirsOf ws)
+  pub long : length a ≡ length a₀
+  pub marks : (n : Vertex → ℕ) → 0 < k → k ≤ 64 → Says k n a₀ → (l c : ℕ) → l < 32 → c < 32
+      → (x : ℕ) × Coding k (n (at l c)) x (getD a (l * 32 + c) 0)
+      × (x + turnsFrom (at l c) (t .last) (at (t .line) (t .column)) (dirsOf (drop i ws)) ≡ turnsAt (at l c) u (dirsOf ws))
+
+pub tracing-start : {u : Vertex} {k : ℕ} {ws : List ℕ} {a : List ℕ} → Tracing u k ws 0 (begin u) a a
+tracing-start = record {
+  edges = omega arith;
+  turned = omega arith;
+  long = refl;
+  marks = λ n p q s l c h j. (0, before refl (s .codes l c h j), omega arith);
+}
+
+dirs-more : (ws : List ℕ) (i : ℕ) → i < length ws
+    → dirsOf (drop i ws) ≡ replicate (runIn (getD ws i 0) .length) (runIn (getD ws i 0) .direction) ++ dirsOf (drop (suc i) ws)
+unfolding dirsOf
+dirs-more ws i h = rw (drop-cons ws i 0 h) refl
+
+pub tracing-on : {u : Vertex} {k : ℕ} {ws : List ℕ} {i : ℕ} {t : Trace} {a₀ a : List ℕ} → Tracing u k ws i t a₀ a → i < length ws
+    → {r : Run} → r ≡ runIn (getD ws i 0) → {t' : Trace} → t' ≡ traceRun t r → {a' : List ℕ} → a' ≡ markRun k t r a → Tracing u k ws (i + 1) t' a₀ a'
+unfolding traceRun
+tracing-on {u} {k} {ws} {i} {t} {a₀} {a} h l e f g = rw (add-one i, g, f, e) (record {
+  edges = omega (arith, h .edges, ap length (dirs-more ws i l), edges-run (w .length) (w .direction) (dirsOf (drop (suc i) ws)));
+  turned = omega (
+    arith,
+    h .turned,
+    ap (turnsAfter (t .last)) (dirs-more ws i l),
+    turns-run (t .last) (w .length) (w .direction) (dirsOf (drop (suc i) ws)),
+  );
+  long = length-mark-run k t w a ∙ h .long;
+  marks = λ n p q s m d hm hd.
+      let (x, c, y) = h .marks n p q s m d hm hd in
+      let v = at m d in
+      let z = ap (turnsFrom v (t .last) (at (t .line) (t .column))) (dirs-more ws i l)
+      ∙ from-run v (t .last) (w .length) (w .direction) (t .line) (t .column) (dirsOf (drop (suc i) ws)) in
+      (x + cond (same (at (t .line) (t .column)) v) (turnBy (t .last) w) 0, mark-run p q t w a m d (h .long ∙ s .long) hm hd c, omega (arith, y, z));
+})
+  where
+    w : Run
+    w = runIn (getD ws i 0)
+
+-- DEFINITION: what is measured of the path of net k from u, with the run words ws
+pub record Measured (u : Vertex) (k : ℕ) (ws : List ℕ) (t : Trace) (a a' : List ℕ) : Type 0 where
+  pub edges : t .edges ≡ length (dirsOf ws)
+  pub turned : t .turns ≡ turns (dirsOf ws)
+  pub marks : (n : Vertex → ℕ) → 0 < k → k ≤ 64 → Says k n a → Says (suc k) (λ v. n v + one (ltb 0 (turnsAt v u (dirsOf ws)))) a'
+
+pub tracing-done : {u : Vertex} {k : ℕ} {ws : List ℕ} {i : ℕ} {t : Trace} {a₀ a : List ℕ} → Tracing u k ws i t a₀ a → length ws ≤ i
+    → Measured u k ws t a₀ a
+unfolding dirsOf turns turnsAt
+tracing-done {u} {k} {ws} {i} {t} {a₀} {a} h l = record {
+  edges = omega (arith, h .edges, ap length none);
+  turned = omega (arith, h .turned, ap (turnsAfter (t .last)) none, after (t .last));
+  marks = λ n p q s. record {
+    long = h .long ∙ s .long;
+    codes = λ m d hm hd.
+        let (x, c, y) = h .marks n p q s m d hm hd in
+        let z = ap (turnsFrom (at m d) (t .last) (at (t .line) (t .column))) none ∙ from (at m d) (t .last) (at (t .line) (t .column)) in
+        let e : x ≡ turnsAt (at m d) u (dirsOf ws) = omega (arith, y, z) in
+        rw (← e) (code-done p c);
+  };
+}
+  where
+    none : dirsOf (drop i ws) ≡ []
+    none = rw (drop-of-length-le ws l) refl
+
+    after : (l : Last) → turnsAfter l [] ≡ 0
+    after Nothing = refl
+    after (Was e) = refl
+
+    from : (v : Vertex) (l : Last) (w : Vertex) → turnsFrom v l w [] ≡ 0
+    from v Nothing w = refl
+    from v (Was e) w = refl

@@ -1,0 +1,23 @@
+-- `raised` is the definition.
+use mathlib.Core.Path.{refl}
+use borrow.Author.Tests.{lt-ltb, le-ltb}
+use borrow.Author.Needs.{needs}
+use Rattle.net_terminals.proofs.raised.Statement.{statement}
+use Rattle.net_terminals.proofs.raised.Tie as tie
+use Rattle.net_terminals.proofs.raised.Reads as reads
+use Rattle.net_terminals.proofs.raised.Lts as lts
+
+-- src/lib.rt:20:18
+add-result : tie.Need-add-result
+add-result c = search needs
+
+-- src/lib.rt:17:1
+returns : tie.Need-returns
+returns c = rw (lt-ltb _ _ (c .if1 .taken)) refl
+
+-- src/lib.rt:17:1
+returns-2 : tie.Need-returns-2
+returns-2 c = rw (le-ltb _ _ (c .if1 .left)) refl
+
+pub raised-spec : {M : Type 1} → statement M
+raised-spec = tie.close (tie.spec add-result returns returns-2)

@@ -1,0 +1,25 @@
+-- Both numbers are as they were, wider or narrower.
+use borrow.Author.Needs.{needs}
+use Rattle.route_call.proofs.first_work.Statement.{statement}
+use Rattle.route_call.proofs.first_work.Tie as tie
+use Rattle.route_call.proofs.first_work.Reads as reads
+use Rattle.route_call.proofs.first_work.Lts as lts
+use Rattle.router_start.proofs.number_of.Reads as number-of-reads
+use Rattle.numbers.proofs.wide.Reads as wide-reads
+
+-- src/lib.rt:39:17
+wide-requires : tie.Need-wide-requires
+wide-requires c κs = search needs
+
+-- src/lib.rt:42:15
+number-of-requires : tie.Need-number-of-requires
+number-of-requires c κs = search needs
+
+-- src/lib.rt:33:1
+returns : tie.Need-returns
+returns c =
+    let at-wide = c .before in
+    rw (at-wide .wide .ensures .0, c .number-of .ensures)
+
+pub first-work-spec : {M : Type 1} → statement M
+first-work-spec = tie.close (tie.spec wide-requires number-of-requires returns)

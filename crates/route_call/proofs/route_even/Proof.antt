@@ -1,0 +1,71 @@
+-- `route_even` names the first overfull cut, or hands back a routing.
+use native.Mathlib.Omega.{arith}
+use mathlib.Core.Path.{sym, _∙_}
+use Rattle.net_places.specs.Nets.{pairs-of}
+use Rattle.session.specs.View.{sessionOf}
+use Rattle.route_call.specs.Answers.{overfull-at, none-overfull, route-overfull, route-given}
+use borrow.Author.Needs.{needs}
+use Rattle.route_call.proofs.route_even.Statement.{statement}
+use Rattle.route_call.proofs.route_even.Tie as tie
+use Rattle.route_call.proofs.route_even.Reads as reads
+use Rattle.route_call.proofs.route_even.Lts as lts
+use Rattle.cut_search.proofs.first_overfull.Reads as first-overfull-reads
+use Rattle.route_call.proofs.wire.Reads as wire-reads
+
+-- src/lib.rt:96:9
+first-overfull-requires : tie.Need-first-overfull-requires
+first-overfull-requires c κs = search needs
+
+-- src/lib.rt:98:22
+enum-known-found : tie.Need-enum-known-found
+enum-known-found c = search needs
+
+-- src/lib.rt:100:33
+enum-told : tie.Need-enum-told
+enum-told c = search needs
+
+-- src/lib.rt:100:17
+wire-requires : tie.Need-wire-requires
+wire-requires c κs =
+    let at-enum-told = c .before in let the-enum-told = at-enum-told .enum-told in
+    let at-first-overfull = at-enum-told .before .before in let first-overfull = at-first-overfull .first-overfull in
+    let at-args = at-first-overfull .before .before .before .before in let args = at-args .args in let pre = at-args .pre in
+    let s = args .s in
+    ((pre .0, none-overfull (sessionOf s) _ (pairs-of (s .nets)) (sym (the-enum-told .given .1) ∙ first-overfull .ensures)), pre .1)
+
+-- src/lib.rt:89:1
+returns : tie.Need-returns
+returns c =
+    let at-found = c .before in let found = at-found .found in
+    let at-first-overfull = at-found .before .before in let first-overfull = at-first-overfull .first-overfull in
+    let at-args = at-first-overfull .before .before .before .before in let args = at-args .args in let pre = at-args .pre in
+    let s = args .s in
+    route-overfull (sessionOf s) _ (pre .0) (pre .1) _ (overfull-at (sessionOf s) _ (pairs-of (s .nets)) _
+    (sym (found .given .1) ∙ first-overfull .ensures))
+
+-- src/lib.rt:89:1
+same-length : tie.Need-same-length
+same-length c = search needs
+
+-- src/lib.rt:89:1
+returns-2 : tie.Need-returns-2
+returns-2 c =
+    let at-wire = c .before .before in let wire = at-wire .wire in
+    let at-enum-told = at-wire .before .before in let the-enum-told = at-enum-told .enum-told in
+    let at-first-overfull = at-enum-told .before .before in let first-overfull = at-first-overfull .first-overfull in
+    let at-args = at-first-overfull .before .before .before .before in let args = at-args .args in let pre = at-args .pre in
+    let s = args .s in
+    route-given (sessionOf s) _ (pre .0) (none-overfull (sessionOf s) _ (pairs-of (s .nets))
+    (sym (the-enum-told .given .1) ∙ first-overfull .ensures)) (pre .1) (wire .ensures)
+
+pub route-even-spec : {M : Type 1} → statement M
+route-even-spec =
+    tie.close
+    (tie.spec
+    first-overfull-requires
+    enum-known-found
+    enum-told
+    wire-requires
+    returns
+    same-length
+    returns-2)

@@ -1,0 +1,157 @@
+-- The arrays that hold a board's lines and its nets' pairs are a start of the router.
+-- Assumes a problem on a board with no odd vertex and no overfull cut, and zeroed notes.
+use mathlib.Core.Path.{_≡_, refl, ap, ap₂, _∙_, sym, subst}
+use mathlib.Core.Bool.{false}
+use mathlib.Core.List.{List, [], _∷_}
+use mathlib.Core.Logic.{inl, inr}
+use Prim.Native.Nat.{ℕ, zero, suc, _+_, _≤_, _<_}
+use native.Mathlib.Omega.{arith}
+use lib.ListN.{length, getD, replicate, length-replicate}
+use Rattle.count.specs.Sum.{sum, sum-zero, sum-suc, sum-eq}
+use Rattle.board.specs.Board.{Board, height, at}
+use Rattle.board.specs.declared.Vertex.{Vertex}
+use Rattle.net.specs.declared.Pair.{Pair}
+use Rattle.cut.specs.Cut.{overfullCuts}
+use Rattle.cut.specs.Odd.{oddVertices}
+use Rattle.corner.specs.Pairs.{pair, tally, All, SamePairs}
+use Rattle.corner.specs.Shape.{Here, Shaped, Good, last, size}
+use Rattle.corner.specs.Presence.{last-suc}
+use Rattle.corner.specs.Lines.{linesOf}
+use Rattle.corner.specs.Order.{good-same}
+use Rattle.corner.specs.Problem.{Problem}
+use Rattle.corner.specs.Boards.{problem-good}
+use Rattle.router_notes.specs.Notes.{Item, item}
+use Rattle.router_notes.specs.Inv.{turnI}
+use Rattle.router_notes.specs.Table.{pairsOf, tally-of}
+use Rattle.router_notes.specs.Alike.{good-alike}
+use Rattle.router_notes.specs.Arrays.{vtx}
+use Rattle.router_invariant.specs.Run.{Run, Sized, rowR, shapeR, pairsR}
+use Rattle.router_invariant.specs.Place.{vtx-at, last-is}
+use Rattle.router_tidy.specs.Start.{Starts}
+use Rattle.router_ends.specs.declared.Work.{Work}
+use Rattle.router_ends.specs.View.{run}
+use Rattle.router_start.specs.Lines.{Lined, lined-alike}
+use Rattle.router_start.specs.Table.{wordOf, noPair, Clear, Table}
+
+-- ── pairs by their place in the list ──
+pub all-get : (P : Vertex → Type 0) (ps : List Pair) (i : ℕ) → i < length ps → All P ps → P (getD ps i noPair .first) × P (getD ps i noPair .second)
+all-get P [] i h a = absurd (omega arith)
+all-get P (p ∷ ps) zero h a = (a .0, a .1)
+all-get P (p ∷ ps) (suc i) h a = all-get P ps i (omega arith) (a .2)
+
+-- a count over the pairs is a sum over their places
+tally-places : (f : Vertex → Vertex → ℕ) (g : ℕ → ℕ) (k : ℕ) (ps : List Pair)
+    → ((i : ℕ) → i < length ps → g (k + i) ≡ f (getD ps i noPair .first) (getD ps i noPair .second)) → sum k g + tally f ps ≡ sum (k + length ps) g
+unfolding tally
+tally-places f g k [] h =
+    let e : k + 0 ≡ k = omega arith in
+    rw e (omega arith)
+tally-places f g k (p ∷ ps) h =
+    let z : k + 0 ≡ k = omega arith in
+    let q : suc k + length ps ≡ k + suc (length ps) = omega arith in
+    let first : g k ≡ f (p .first) (p .second) = rw z at (h 0 (omega arith)) in
+    let rest : (i : ℕ) → i < length ps → g (suc k + i) ≡ f (getD ps i noPair .first) (getD ps i noPair .second) = λ i l.
+    let m : k + suc i ≡ suc k + i = omega arith in
+    rw m at (h (suc i) (omega arith)) in
+    rw (← q) (omega (arith, tally-places f g (suc k) ps rest, sum-suc k g, first))
+
+vtx-word : (v : Vertex) → v .column < 32 → vtx (wordOf v) ≡ v
+vtx-word v h = vtx-at (v .line) (v .column) h
+
+zeros : (m p : ℕ) → getD {A = ℕ} (replicate m 0) p 0 ≡ 0
+zeros zero p = refl
+zeros (suc m) zero = refl
+zeros (suc m) (suc p) = zeros m p
+
+pub clear-zeros : Clear (replicate 2112 0) (replicate 2112 0) (replicate 2112 0) (replicate 2112 0) (replicate 2112 0)
+clear-zeros = record {
+  low = λ k. omega (arith, zeros 2112 k);
+  la-size = length-replicate {A = ℕ} 2112 0;
+  lb-size = length-replicate {A = ℕ} 2112 0;
+  ids-size = length-replicate {A = ℕ} 2112 0;
+  s1-size = length-replicate {A = ℕ} 2112 0;
+  s2-size = length-replicate {A = ℕ} 2112 0;
+}
+
+-- the table of the same pairs
+pub table-as : {ps qs : List Pair} {n : ℕ} {la lb ids s1 s2 : List ℕ} → ps ≡ qs → Table qs n la lb ids s1 s2 → Table ps n la lb ids s1 s2
+table-as e T = rw e T
+
+-- ── the start ──
+abbrev pub firstWork : (bottom n : ℕ) → Work
+firstWork bottom n = record { top = 0; bottom = bottom; up = false; n = n; next = n; stuck = false }
+
+pub first-low : (w : Work) (bottom n : ℕ) → w ≡ firstWork bottom n → bottom ≤ 31 → n ≤ 64
+    → (w .top ≤ 31) × (w .bottom ≤ 31) × (w .n ≤ 64) × (w .next ≤ 64)
+first-low w bottom n e h k = rw e (omega arith, h, k, k)
+
+module _ (b : Board) (ps : List Pair) (P : Problem b ps) (even : oddVertices b ps ≡ []) (roomy : overfullCuts b ps ≡ [])
+    {lo hi : List ℕ} {h : ℕ} (tall : h ≡ height b) (L : Lined b lo hi (h + 1)) {la lb ids s1 s2 : List ℕ} {n : ℕ}
+    (T : Table ps n la lb ids s1 s2) where
+  abbrev pub R0 : Run
+  R0 = run la lb ids (replicate 1024 0) (replicate 1024 0) (replicate 2112 0) s1 s2 (replicate 2112 0) (replicate 2112 0) lo hi (firstWork h n)
+
+  G : Good (linesOf b) ps
+  G = problem-good b ps P even roomy
+
+  low : (v : Vertex) → Here (linesOf b) v → (v .line ≤ last) × (v .column < 32)
+  low v k = let S = G .shaped in let t = S .thin (v .line) (k .low, k .high) in
+      (omega (arith, k .high, S .low, last-suc), omega (arith, k .to, t, last-suc, last-is))
+
+  ends : (i : ℕ) → i < n → Here (linesOf b) (getD ps i noPair .first) × Here (linesOf b) (getD ps i noPair .second)
+  ends i l = all-get (Here (linesOf b)) ps i (omega (arith, T .count)) (G .stand)
+
+  pub row-is : (i : ℕ) → i < n → rowR R0 i ≡ item i (getD ps i noPair .first) (getD ps i noPair .second)
+  row-is i l =
+      let a : vtx (getD la i 0) ≡ getD ps i noPair .first =
+      ap vtx (T .first i l) ∙ vtx-word (getD ps i noPair .first) (low (getD ps i noPair .first) (ends i l .0) .1) in
+      let c : vtx (getD lb i 0) ≡ getD ps i noPair .second =
+      ap vtx (T .second i l) ∙ vtx-word (getD ps i noPair .second) (low (getD ps i noPair .second) (ends i l .1) .1) in
+      ap (λ (k : ℕ). item k (vtx (getD la i 0)) (vtx (getD lb i 0))) (T .number i l) ∙ ap₂ (λ (u v : Vertex). item i u v) a c
+
+  same-pairs : SamePairs ps (pairsR R0)
+  same-pairs f s =
+      let g : ℕ → ℕ = λ i. f (getD ps i noPair .first) (getD ps i noPair .second) in
+      let t : tally f ps ≡ sum n g = omega (
+        arith,
+        tally-places f g 0 ps (λ i l. ap g (let q : 0 + i ≡ i = omega arith in q)),
+        sum-zero g,
+        T .count,
+        ap (λ (k : ℕ). sum k g) (let q : 0 + length ps ≡ n = omega (arith, T .count) in q),
+      ) in
+      t ∙ sym (tally-of f n (λ k. turnI false (rowR R0 k))
+      ∙ sum-eq n (λ i. f (rowR R0 i .a) (rowR R0 i .b)) g (λ i l. ap (λ (x : Item). f (x .a) (x .b)) (row-is i l)))
+
+  pub starts : Starts R0
+  starts = record {
+    side = zeros 1024;
+    vert = zeros 1024;
+    half = zeros 2112;
+    d1 = zeros 2112;
+    d2 = zeros 2112;
+    number = T .number;
+    first = T .made-first;
+    second = T .made-second;
+    frame = λ i l. let e = row-is i l in (
+      subst (λ (x : Item). x .a .line ≤ last) (sym e) (low (getD ps i noPair .first) (ends i l .0) .0),
+      subst (λ (x : Item). x .b .line ≤ last) (sym e) (low (getD ps i noPair .second) (ends i l .1) .0),
+    );
+    next = refl;
+    good = good-same (shapeR R0) ps (pairsR R0) same-pairs (good-alike (linesOf b) (shapeR R0) (lined-alike b lo hi h (P .within .some) tall L) ps G);
+  }
+
+  pub sized : Sized R0
+  sized = record {
+    la = T .clear .la-size;
+    lb = T .clear .lb-size;
+    ids = T .clear .ids-size;
+    side = length-replicate {A = ℕ} 1024 0;
+    vert = length-replicate {A = ℕ} 1024 0;
+    half = length-replicate {A = ℕ} 2112 0;
+    s1 = T .clear .s1-size;
+    s2 = T .clear .s2-size;
+    d1 = length-replicate {A = ℕ} 2112 0;
+    d2 = length-replicate {A = ℕ} 2112 0;
+    lo = L .lo-size;
+    hi = L .hi-size;
+  }

@@ -1,0 +1,143 @@
+// The call `route`: the nets of a session joined by edge-disjoint paths, or what stands in the way.
+ghost use mathlib.Core.Path.{_≡_};
+ghost use Prim.Native.Nat.{_≤_, min};
+ghost use lib.ListN.{length};
+ghost use Rattle.session.specs.View.{sessionOf};
+ghost use Rattle.call_rules.specs.Route.{HandsBack, Routes, RoutesBytes};
+ghost use Rattle.route_call.specs.Answers.{Even, Roomy, routeAnswer, written};
+ghost use Rattle.route_call.specs.Starting.{firstWork};
+use board::Vertex;
+use cut::Cut;
+use cut_search::FoundCut;
+use cut_search::FoundVertex;
+use numbers::least;
+use numbers::wide;
+use router_ends::Work;
+use session::Session;
+
+// What routing answers: the count of words written, or a refusal: 20 an unsound session, 31 a buffer under 2,049 words, 32 the first odd
+// vertex, 33 the first overfull cut.
+pub enum RouteAnswer {
+    Routed(usize),
+    Unsound,
+    ShortBuffer,
+    Odd(Vertex),
+    Overfull(Cut),
+}
+
+// Where the router starts: on all the lines of a board of so many rows, with n pairs.
+fn first_work(rows: u8, n: usize) -> Work
+    requires { ⌜ n ≤ 64 ⌝ }
+    ensures { λ r. ⌜ r ≡ firstWork rows n ⌝ }
+{
+    Work {
+        top: 0,
+        bottom: wide(rows),
+        up: false,
+        n: n,
+        next: router_start::number_of(n),
+        stuck: false,
+    }
+}
+
+// The words of a routing at the start of the buffer; answers with their count.
+fn wire(s: Session, out: &mut [u32]) -> usize
+    requires { ⌜ Even (sessionOf s) × Roomy (sessionOf s) ⌝ }
+    requires { ⌜ 2049 ≤ length (now out) ⌝ }
+    ensures { λ r. ⌜ HandsBack (sessionOf s) (now (out .entry)) (now (out .exit)) r ⌝ }
+{
+    let board = s.board;
+    let nets = s.nets;
+    let mut lo = [0u8; 32];
+    let mut hi = [0u8; 32];
+    router_start::fill_lines(board, &mut lo, &mut hi);
+    let mut la = [0u16; 2112];
+    let mut lb = [0u16; 2112];
+    let mut ids = [0u16; 2112];
+    let mut s1 = [0u16; 2112];
+    let mut s2 = [0u16; 2112];
+    let n = router_start::fill_table(nets, &mut la, &mut lb, &mut ids, &mut s1, &mut s2);
+    let mut side = [0u16; 1024];
+    let mut vert = [0u16; 1024];
+    let mut half = [0u16; 2112];
+    let mut d1 = [0u8; 2112];
+    let mut d2 = [0u8; 2112];
+    let work = first_work(board.count, n);
+    router_loop::cut_all(
+        &mut la,
+        &mut lb,
+        &mut ids,
+        &mut side,
+        &mut vert,
+        &mut half,
+        &mut s1,
+        &mut s2,
+        &mut d1,
+        &mut d2,
+        &mut lo,
+        &hi,
+        work,
+    );
+    router_writer::write_paths(&side, &vert, &half, &s1, &s2, &d1, &d2, nets, out)
+}
+
+// Where no vertex is odd: the first overfull cut, or a routing.
+fn route_even(s: Session, out: &mut [u32]) -> RouteAnswer
+    requires { ⌜ Even (sessionOf s) ⌝ }
+    requires { ⌜ 2049 ≤ length (now out) ⌝ }
+    ensures { λ r. ⌜ Routes (sessionOf s) (now (out .entry)) (routeAnswer r) (now (out .exit)) ⌝ }
+{
+    let board = s.board;
+    let nets = s.nets;
+    let found = cut_search::first_overfull(board, nets);
+    match found {
+        FoundCut::At(x) => RouteAnswer::Overfull(x),
+        FoundCut::Nothing => {
+            let count = wire(s, out);
+            RouteAnswer::Routed(count)
+        }
+    }
+}
+
+// Routes a session's nets into a lent buffer of words. The words after those of the routing are untouched; on a refusal all of them.
+pub fn route(s: Session, out: &mut [u32]) -> RouteAnswer
+    ensures { λ r. ⌜ Routes (sessionOf s) (now (out .entry)) (routeAnswer r) (now (out .exit)) ⌝ }
+{
+    if !s.sound() {
+        return RouteAnswer::Unsound;
+    }
+    if out.len() < 2049 {
+        return RouteAnswer::ShortBuffer;
+    }
+    let board = s.board;
+    let nets = s.nets;
+    let odd = cut_search::first_odd(board, nets);
+    match odd {
+        FoundVertex::At(v) => RouteAnswer::Odd(v),
+        FoundVertex::Nothing => route_even(s, out),
+    }
+}
+
+// How many words were written.
+fn written(answer: RouteAnswer) -> usize
+    ensures { λ r. ⌜ r ≡ written answer ⌝ }
+{
+    match answer {
+        RouteAnswer::Routed(count) => count,
+        RouteAnswer::Unsound => 0,
+        RouteAnswer::ShortBuffer => 0,
+        RouteAnswer::Odd(_) => 0,
+        RouteAnswer::Overfull(_) => 0,
+    }
+}
+
+// The same into a lent buffer of bytes, four to a word, lowest first.
+pub fn route_bytes(s: Session, out: &mut [u8]) -> RouteAnswer
+    ensures { λ r. ⌜ RoutesBytes (sessionOf s) (now (out .entry)) (routeAnswer r) (now (out .exit)) ⌝ }
+{
+    let mut words = [0u32; 2049];
+    let room = least(out.len() / 4, 2049);
+    let answer = route(s, &mut words[..room]);
+    words_bytes::put_words(&words, written(answer), out);
+    answer
+}

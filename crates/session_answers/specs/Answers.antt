@@ -1,0 +1,44 @@
+-- Definitions only: document 01's number and place for each answer of a call that changes a session. Nothing is proved here.
+use mathlib.Core.Bool.{Bool, true, false, cond}
+use lib.Dec.{eqb}
+use Rattle.session_rules.specs.Refusal.{refusal}
+use Rattle.session_rules.specs.Machine.{Answer, accepted, refused}
+use Rattle.session_answers.specs.declared.AddAnswer.{AddAnswer}
+use Rattle.session_answers.specs.declared.AddAnswer.the-variants.{Accepted, Unsound, BadNumber, NumberTaken, NoVertex, SameVertex, PinsTaken}
+use Rattle.session_answers.specs.declared.WithdrawAnswer as withdraw
+use Rattle.session_answers.specs.declared.WithdrawAnswer.the-variants as withdraw-is
+use Rattle.session_answers.specs.declared.TakeBackAnswer as back
+use Rattle.session_answers.specs.declared.TakeBackAnswer.the-variants as back-is
+use Rattle.session_answers.specs.declared.Told.{Told}
+
+abbrev pub addAnswer : AddAnswer → Answer
+addAnswer Accepted = accepted
+addAnswer Unsound = refused (refusal 20 0)
+addAnswer BadNumber = refused (refusal 21 0)
+addAnswer NumberTaken = refused (refusal 22 0)
+addAnswer (NoVertex p) = refused (refusal 23 p)
+addAnswer SameVertex = refused (refusal 24 0)
+addAnswer (PinsTaken p) = refused (refusal 25 p)
+
+abbrev pub withdrawAnswer : withdraw.WithdrawAnswer → Answer
+withdrawAnswer withdraw-is.Accepted = accepted
+withdrawAnswer withdraw-is.Unsound = refused (refusal 20 0)
+withdrawAnswer withdraw-is.NotOnBoard = refused (refusal 26 0)
+
+abbrev pub takeBackAnswer : back.TakeBackAnswer → Answer
+takeBackAnswer back-is.Accepted = accepted
+takeBackAnswer back-is.Unsound = refused (refusal 20 0)
+takeBackAnswer back-is.PileEmpty = refused (refusal 27 0)
+
+abbrev pub isAccepted : AddAnswer → Bool
+isAccepted Accepted = true
+isAccepted Unsound = false
+isAccepted BadNumber = false
+isAccepted NumberTaken = false
+isAccepted (NoVertex p) = false
+isAccepted SameVertex = false
+isAccepted (PinsTaken p) = false
+
+-- an answer by its number and place, number 0 where the call is accepted
+abbrev pub toldOf : Told → Answer
+toldOf t = cond (eqb (t .number) 0) accepted (refused (refusal (t .number) (t .place)))

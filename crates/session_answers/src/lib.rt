@@ -1,0 +1,113 @@
+// What the calls that change a session answer, and the number and place by which each answer is told.
+ghost use mathlib.Core.Path.{_≡_};
+ghost use Rattle.session_answers.specs.Answers.{isAccepted, addAnswer, withdrawAnswer, takeBackAnswer, toldOf};
+
+// What add answers. The number is that of the terminal: 0 the first, 1 the second.
+pub enum AddAnswer {
+    Accepted,
+    Unsound,
+    BadNumber,
+    NumberTaken,
+    NoVertex(u8),
+    SameVertex,
+    PinsTaken(u8),
+}
+
+pub enum WithdrawAnswer {
+    Accepted,
+    Unsound,
+    NotOnBoard,
+}
+
+pub enum TakeBackAnswer {
+    Accepted,
+    Unsound,
+    PileEmpty,
+}
+
+// An answer by its number and place; number 0 where the call is accepted.
+pub struct Told {
+    pub number: u8,
+    pub place: u8,
+}
+
+pub fn is_accepted(answer: AddAnswer) -> bool
+    ensures { λ r. ⌜ r ≡ isAccepted answer ⌝ }
+{
+    match answer {
+        AddAnswer::Accepted => true,
+        AddAnswer::Unsound => false,
+        AddAnswer::BadNumber => false,
+        AddAnswer::NumberTaken => false,
+        AddAnswer::NoVertex(_) => false,
+        AddAnswer::SameVertex => false,
+        AddAnswer::PinsTaken(_) => false,
+    }
+}
+
+pub fn add_told(answer: AddAnswer) -> Told
+    ensures { λ r. ⌜ toldOf r ≡ addAnswer answer ⌝ }
+{
+    match answer {
+        AddAnswer::Accepted => Told {
+            number: 0,
+            place: 0,
+        },
+        AddAnswer::Unsound => Told {
+            number: 20,
+            place: 0,
+        },
+        AddAnswer::BadNumber => Told {
+            number: 21,
+            place: 0,
+        },
+        AddAnswer::NumberTaken => Told {
+            number: 22,
+            place: 0,
+        },
+        AddAnswer::NoVertex(place) => Told { number: 23, place },
+        AddAnswer::SameVertex => Told {
+            number: 24,
+            place: 0,
+        },
+        AddAnswer::PinsTaken(place) => Told { number: 25, place },
+    }
+}
+
+pub fn withdraw_told(answer: WithdrawAnswer) -> Told
+    ensures { λ r. ⌜ toldOf r ≡ withdrawAnswer answer ⌝ }
+{
+    match answer {
+        WithdrawAnswer::Accepted => Told {
+            number: 0,
+            place: 0,
+        },
+        WithdrawAnswer::Unsound => Told {
+            number: 20,
+            place: 0,
+        },
+        WithdrawAnswer::NotOnBoard => Told {
+            number: 26,
+            place: 0,
+        },
+    }
+}
+
+pub fn take_back_told(answer: TakeBackAnswer) -> Told
+    ensures { λ r. ⌜ toldOf r ≡ takeBackAnswer answer ⌝ }
+{
+    match answer {
+        TakeBackAnswer::Accepted => Told {
+            number: 0,
+            place: 0,
+        },
+        TakeBackAnswer::Unsound => Told {
+            number: 20,
+            place: 0,
+        },
+        TakeBackAnswer::PileEmpty => Told {
+            number: 27,
+            place: 0,
+        },
+    }
+}

@@ -1,0 +1,92 @@
+-- One call on a sound session: it is the machine's step, it does not get 20, and it hands back a sound session.
+-- Assumes of the call only its promise.
+use mathlib.Core.Path.{_≡_, refl, ap}
+use mathlib.Core.Bool.{Bool, true, false, not}
+use mathlib.Core.List.{List, [], _∷_}
+use mathlib.Core.Option.{Option, none, some}
+use native.Mathlib.Omega.{arith}
+use Rattle.board.specs.Degree.{vertex?}
+use Rattle.net.specs.Terminals.{same}
+use Rattle.net.specs.declared.Net.{Net}
+use Rattle.net.specs.declared.Change.{Change}
+use Rattle.session_rules.specs.Session as machine
+use Rattle.session_rules.specs.Session.{holds, netOf}
+use Rattle.session_rules.specs.Refusal.{line, firstRefusal}
+use Rattle.session_rules.specs.Add.{goodNumber, full, addLines, addRefused}
+use Rattle.session_rules.specs.Machine.{Call, add, withdraw, takeBack, Answer, step, addStep, withdrawStep, takeBackStep, after, answers}
+use Rattle.session_rules.specs.Sound.{Sound, call}
+use Rattle.session_laws.specs.Exact.{sound-exact}
+use Rattle.session_laws.specs.Stays.{stays-sound}
+use Rattle.session.specs.declared.Session.{Session}
+use Rattle.session.specs.View.{sessionOf}
+use Rattle.session_answers.specs.Answers.{addAnswer}
+use Rattle.session_answers.specs.Answers.{withdrawAnswer, takeBackAnswer}
+use Rattle.session_history.specs.Made.{Made, added, withdrew, tookBack, routed, routedBytes, Meets, handed, callOf, answerOf, numberOf, Never}
+
+pub call-step : (s : machine.Session) (c : Call) → Sound s → call s c ≡ step s c
+unfolding call
+call-step s c h = rw (sound-exact s .1 h) refl
+
+-- ── the machine never answers 20 ──
+first-not-20 : (a b c d e f g : Bool) (n : Net) (s : machine.Session)
+    → numberOf (addStep (firstRefusal (line a 21 0 ∷ line b 22 0 ∷ line c 23 0 ∷ line d 23 1 ∷ line e 24 0 ∷ line f 25 0 ∷ line g 25 1 ∷ [])) n
+    s .answer) ≡ 20
+    → ⊥
+first-not-20 true b c d e f g n s h = omega arith
+first-not-20 false true c d e f g n s h = omega arith
+first-not-20 false false true d e f g n s h = omega arith
+first-not-20 false false false true e f g n s h = omega arith
+first-not-20 false false false false true f g n s h = omega arith
+first-not-20 false false false false false true g n s h = omega arith
+first-not-20 false false false false false false true n s h = omega arith
+first-not-20 false false false false false false false n s h = omega arith
+
+withdraw-not-20 : (m : Option Net) (s : machine.Session) → numberOf (withdrawStep m s .answer) ≡ 20 → ⊥
+withdraw-not-20 none s h = omega arith
+withdraw-not-20 (some n) s h = omega arith
+
+back-not-20 : (cs : List Change) (s : machine.Session) → numberOf (takeBackStep cs s .answer) ≡ 20 → ⊥
+back-not-20 [] s h = omega arith
+back-not-20 (c ∷ cs) s h = omega arith
+
+pub step-not-20 : (s : machine.Session) (c : Call) → numberOf (step s c .answer) ≡ 20 → ⊥
+unfolding step addRefused addLines
+step-not-20 s (add n) =
+    first-not-20 (not (goodNumber (n .number))) (holds (n .number) (s .nets)) (not (vertex? (s .board) (n .ends .first)))
+    (not (vertex? (s .board) (n .ends .second))) (same (n .ends .first) (n .ends .second)) (full (s .board) (s .nets) (n .ends .first))
+    (full (s .board) (s .nets) (n .ends .second)) n s
+step-not-20 s (withdraw k) = withdraw-not-20 (netOf k (s .nets)) s
+step-not-20 s takeBack = back-not-20 (s .pile) s
+
+-- ── a call that met its promise ──
+-- DEFINITION: after one call from the session s, all is as the machine has it
+pub record MadeAs (s : Session) (m : Made) : Type 0 where
+  pub session : sessionOf (handed s m) ≡ after (sessionOf s) (callOf m)
+  pub answer : answerOf m ≡ answers (sessionOf s) (callOf m)
+  pub no-20 : Never 20 (answerOf m)
+  pub sound : Sound (sessionOf (handed s m))
+
+-- the answer and the session are those of the machine's step
+as-step : (s t : Session) (c : Call) (a : Answer) → Sound (sessionOf s) → a ≡ call (sessionOf s) c .answer → sessionOf t ≡ call (sessionOf s) c .next
+    → (sessionOf t ≡ after (sessionOf s) (c ∷ [])) × (a ∷ [] ≡ answers (sessionOf s) (c ∷ [])) × (numberOf a ≡ 20 → ⊥) × Sound (sessionOf t)
+unfolding after answers
+as-step s t c a h e f =
+    let g = call-step (sessionOf s) c h in
+    let x : a ≡ step (sessionOf s) c .answer = rw g at e in
+    let y : sessionOf t ≡ step (sessionOf s) c .next = rw g at f in
+    (y, ap (λ (b : Answer). b ∷ []) x, rw x (step-not-20 (sessionOf s) c), rw y (stays-sound (sessionOf s) c h))
+
+-- A sound session stays sound, and the call was the machine's.
+pub made-as : (s : Session) (m : Made) → Sound (sessionOf s) → Meets s m → MadeAs s m
+unfolding after answers
+made-as s (added n r) h k =
+    let x = as-step s (r .session) (add n) (addAnswer (r .answer)) h (k .answers) (k .next) in
+    record { session = x .0; answer = x .1; no-20 = (x .2, tt); sound = x .3 }
+made-as s (withdrew j r) h k =
+    let x = as-step s (r .session) (withdraw j) (withdrawAnswer (r .answer)) h (k .answers) (k .next) in
+    record { session = x .0; answer = x .1; no-20 = (x .2, tt); sound = x .3 }
+made-as s (tookBack r) h k =
+    let x = as-step s (r .session) takeBack (takeBackAnswer (r .answer)) h (k .answers) (k .next) in
+    record { session = x .0; answer = x .1; no-20 = (x .2, tt); sound = x .3 }
+made-as s (routed before r after) h k = record { session = refl; answer = refl; no-20 = tt; sound = h }
+made-as s (routedBytes before r after) h k = record { session = refl; answer = refl; no-20 = tt; sound = h }

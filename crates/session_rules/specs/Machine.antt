@@ -1,0 +1,88 @@
+-- Definitions only: the list machine (document 01, "The session and its list machine"). Nothing is proved here.
+use mathlib.Core.List.{List, [], _∷_}
+use mathlib.Core.Option.{Option, none, some}
+use Prim.Native.Nat.{ℕ}
+use lib.ListN.{take}
+use Rattle.net.specs.declared.Net.{Net}
+use Rattle.net.specs.declared.Change.{Change}
+use Rattle.net.specs.declared.Change.the-variants.{Added, Withdrawn}
+use Rattle.session_rules.specs.Refusal.{Refusal, refusal}
+use Rattle.session_rules.specs.Session.{Session, insert, remove, netOf}
+use Rattle.session_rules.specs.Add.{addRefused}
+
+-- the calls that change a session, with their arguments
+pub data Call : Type 0 where
+  add : Net → Call
+  withdraw : ℕ → Call
+  takeBack : Call
+
+-- "It answers that a call is accepted, or refuses it with number and place"
+pub data Answer : Type 0 where
+  accepted : Answer
+  refused : Refusal → Answer
+
+-- what a call hands back: its answer and the next session
+pub record Step : Type 0 where
+  pub answer : Answer
+  pub next : Session
+
+-- "A refused call .. change[s] nothing."
+abbrev pub refuse : Refusal → Session → Step
+refuse r s = record { answer = refused r; next = s }
+
+abbrev pub accept : Session → Step
+accept s = record { answer = accepted; next = s }
+
+-- the greatest length of a pile
+abbrev pub pileLimit : ℕ
+pileLimit = 64
+
+-- "A pile of 64 loses its lowest change when another is laid on."
+unfoldable pub lay : Change → List Change → List Change
+lay c cs = take pileLimit (c ∷ cs)
+
+-- "Add puts the net in and lays "added" with it on the pile."
+unfoldable pub added : Net → Session → Session
+added n s = record { board = s .board; nets = insert n (s .nets); pile = lay (Added n) (s .pile) }
+
+-- "Withdraw takes the net of that number out and lays "withdrawn" with it on the pile."
+unfoldable pub withdrawn : Net → Session → Session
+withdrawn n s = record { board = s .board; nets = remove (n .number) (s .nets); pile = lay (Withdrawn n) (s .pile) }
+
+-- "the added net leaves, the withdrawn net returns with its terminals."
+unfoldable pub reversed : Change → List Net → List Net
+reversed (Added n) ns = remove (n .number) ns
+reversed (Withdrawn n) ns = insert n ns
+
+-- "Take back lifts the top change and reverses it .. It lays nothing on the pile."
+unfoldable pub takenBack : Change → List Change → Session → Session
+takenBack c cs s = record { board = s .board; nets = reversed c (s .nets); pile = cs }
+
+abbrev pub addStep : Option Refusal → Net → Session → Step
+addStep none n s = accept (added n s)
+addStep (some r) n s = refuse r s
+
+-- refusal 26: "number not on the board"
+abbrev pub withdrawStep : Option Net → Session → Step
+withdrawStep none s = refuse (refusal 26 0) s
+withdrawStep (some n) s = accept (withdrawn n s)
+
+-- refusal 27: "pile empty"
+abbrev pub takeBackStep : List Change → Session → Step
+takeBackStep [] s = refuse (refusal 27 0) s
+takeBackStep (c ∷ cs) s = accept (takenBack c cs s)
+
+-- one call, read against the machine's own board, nets and pile
+unfoldable pub step : Session → Call → Step
+step s (add n) = addStep (addRefused (s .board) (s .nets) n) n s
+step s (withdraw k) = withdrawStep (netOf k (s .nets)) s
+step s takeBack = takeBackStep (s .pile) s
+
+-- a list of calls: the session after them, and the answer to each
+unfoldable pub after : Session → List Call → Session
+after s [] = s
+after s (c ∷ cs) = after (step s c .next) cs
+
+unfoldable pub answers : Session → List Call → List Answer
+answers s [] = []
+answers s (c ∷ cs) = step s c .answer ∷ answers (step s c .next) cs

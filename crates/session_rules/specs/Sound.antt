@@ -1,0 +1,75 @@
+-- Definitions only: sound, fresh and blank sessions, and what a call does with any session (document 01, refusal 20). Nothing is proved here.
+use mathlib.Core.Path.{_≡_}
+use mathlib.Core.Bool.{Bool, true, cond, _&&_}
+use mathlib.Core.List.{List, [], _∷_}
+use Prim.Native.Nat.{_≤_}
+use lib.Dec.{leb, ltb}
+use lib.ListN.{length}
+use Rattle.board.specs.Board.{Board, Within}
+use Rattle.board.specs.Path.{Convex}
+use Rattle.board_convex.specs.Test.{isConvex}
+use Rattle.net.specs.declared.Net.{Net}
+use Rattle.net.specs.declared.Change.{Change}
+use Rattle.net.specs.declared.Change.the-variants.{Added, Withdrawn}
+use Rattle.session_rules.specs.Refusal.{refusal}
+use Rattle.session_rules.specs.Session.{Session, insert, recorded}
+use Rattle.session_rules.specs.Add.{accepts}
+use Rattle.session_rules.specs.Machine.{Call, Step, refuse, step, pileLimit, reversed}
+
+-- The nets stand "in rising number".
+unfoldable pub rising? : List Net → Bool
+rising? [] = true
+rising? (n ∷ []) = true
+rising? (n ∷ (m ∷ ms)) = ltb (n .number) (m .number) && rising? (m ∷ ms)
+
+-- "its nets could all be added to the bare board": one by one, add accepts each of ns on the board with the nets that are on already
+unfoldable pub addable? : Board → (on : List Net) (ns : List Net) → Bool
+addable? b on [] = true
+addable? b on (n ∷ ns) = accepts b on n && addable? b (insert n on) ns
+
+-- "each added net is then on the board as recorded, each withdrawn net one that add would accept"
+unfoldable pub liftable? : Board → List Net → Change → Bool
+liftable? b ns (Added n) = recorded n ns
+liftable? b ns (Withdrawn n) = accepts b ns n
+
+-- "its pile .. can be lifted to the bottom"
+unfoldable pub lifts? : Board → List Net → List Change → Bool
+lifts? b ns [] = true
+lifts? b ns (c ∷ cs) = liftable? b ns c && lifts? b (reversed c ns) cs
+
+-- "A session is sound when .."
+pub record Sound (s : Session) : Type 0 where
+  -- "its board is within the limits and convex,
+  pub within : Within (s .board)
+  pub convex : Convex (s .board)
+  -- its nets could all be added to the bare board,
+  pub rising : rising? (s .nets) ≡ true
+  pub addable : addable? (s .board) [] (s .nets) ≡ true
+  -- and its pile, at most 64 long, can be lifted to the bottom"
+  pub short : length (s .pile) ≤ pileLimit
+  pub lifts : lifts? (s .board) (s .nets) (s .pile) ≡ true
+
+-- the test of it: see `sound-exact`
+unfoldable pub sound? : Session → Bool
+sound? s =
+    isConvex (s .board)
+    && ((rising? (s .nets) && addable? (s .board) [] (s .nets))
+    && (leb (length (s .pile)) pileLimit && lifts? (s .board) (s .nets) (s .pile)))
+
+-- "Every call that takes a session refuses an unsound one first, with 20."
+unfoldable pub call : Session → Call → Step
+call s c = cond (sound? s) (step s c) (refuse (refusal 20 0) s)
+
+-- "A session is fresh when it is sound, with no nets and an empty pile."
+pub record Fresh (s : Session) : Type 0 where
+  pub sound : Sound s
+  pub no-nets : s .nets ≡ []
+  pub no-pile : s .pile ≡ []
+
+-- a session on a board, with no nets and an empty pile
+abbrev pub bare : Board → Session
+bare b = record { board = b; nets = []; pile = [] }
+
+-- "the blank session: row 0 from 0 to 1, no nets."
+abbrev pub blank : Session
+blank = bare (record { rows = record { left = 0; right = 1 } ∷ [] })

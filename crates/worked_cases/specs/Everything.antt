@@ -1,0 +1,39 @@
+-- `unfolding everything` in a theorem opens all definitions of the crates below, so that it is proved by computing.
+-- Defines nothing else.
+use mathlib.Core.Bool.{xor}
+use mathlib.Core.List.{flatMap, flatten}
+use Prim.Native.Nat.{ℕ}
+use Rattle.count.specs.Sum.{sum, count}
+use Rattle.count.specs.Lists.{select}
+use Rattle.board.specs.Path.{turn, turns}
+use Rattle.board.specs.Degree.{belowRight, belowLeft, aboveRight, aboveLeft, vertex?, edge?, degree, pins}
+use Rattle.board_convex.specs.Test.{rowsFit, contains?, peels, inLimits, isConvex}
+use Rattle.net.specs.Terminals.{terminals}
+use Rattle.cut.specs.Cut.{edges, crosses, crossing, margin, overfull?, cuts, overfullCuts}
+use Rattle.cut.specs.Odd.{odd?, oddVertices}
+use Rattle.routing_rules.specs.Routing.{edgesFrom, trails, uses}
+use Rattle.routing_rules.specs.Check.{path?, joins?, once?, routing?}
+use Rattle.session_rules.specs.Session.{holds, insert, remove, netOf, recorded}
+use Rattle.session_rules.specs.Add.{addLines, addRefused, accepts}
+use Rattle.session_rules.specs.Machine.{lay, added, withdrawn, reversed, takenBack, step, after, answers}
+use Rattle.session_rules.specs.Sound.{rising?, addable?, liftable?, lifts?, sound?, call}
+use Rattle.words.specs.BoardWord.{boardWord, asRow, asNet, asEnd}
+use Rattle.words.specs.RoutingWord.{routingWord, asPath, asRun, asRoutingEnd, runsOf, pathWords, pathsWords, routingWords}
+use Rattle.words.specs.Bytes.{wordsIn, bytesOf}
+use Rattle.call_rules.specs.Reading.{wordLines, takeWords, addListed, readNets, readTaken, readWords, readBytes}
+use Rattle.call_rules.specs.Writing.{boardWords, writeBoard}
+use Rattle.call_rules.specs.Shape.{wordsRefused, runsFrom, pathsFrom}
+use Rattle.call_rules.specs.Walk.{walkSteps, walkRuns, walkPath, walkPaths}
+use Rattle.call_rules.specs.Report.{directions, edgesUsed, turnsMade, turnsAt, turning, knockKnee, knockKnees, alike}
+use Rattle.call_rules.specs.Judge.{judged, judgeWords, compareWords, judgeBytes}
+use Rattle.call_rules.specs.Route.{routeRefused}
+
+unfoldable pub everything : ℕ
+unfolding sum count select turn turns belowRight belowLeft aboveRight aboveLeft vertex? edge? degree pins rowsFit contains? peels inLimits isConvex
+    terminals edges crosses crossing margin overfull? cuts overfullCuts odd? oddVertices edgesFrom trails uses path? joins? once? routing? holds
+    insert remove netOf recorded addLines addRefused accepts lay added withdrawn reversed takenBack step rising? addable? liftable? lifts? sound? call
+    boardWord asRow asNet asEnd routingWord asPath asRun asRoutingEnd runsOf pathWords pathsWords routingWords wordsIn bytesOf wordLines takeWords
+    addListed readNets readTaken readWords readBytes boardWords writeBoard wordsRefused runsFrom pathsFrom walkSteps walkRuns walkPath walkPaths
+    directions edgesUsed turnsMade turnsAt turning knockKnee knockKnees alike judged judgeWords compareWords judgeBytes routeRefused after answers xor
+    flatMap flatten
+everything = 0

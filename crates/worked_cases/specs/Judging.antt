@@ -1,0 +1,149 @@
+-- The definitions of judging at work: each refusal with its place, and which of two comes first. The session is the ring.
+-- Assumes nothing.
+use mathlib.Core.Path.{_≡_, refl}
+use mathlib.Core.Bool.{true, false}
+use mathlib.Core.List.{List, [], _∷_, map}
+use Prim.Native.Nat.{ℕ}
+use lib.ListN.{replicate}
+use Rattle.board.specs.Path.{turns}
+use Rattle.board.specs.declared.Direction.the-variants.{Up, Right, Down, Left}
+use Rattle.net.specs.declared.Change.the-variants.{Withdrawn}
+use Rattle.words.specs.RoutingWord.{routingWords}
+use Rattle.call_rules.specs.Result.{yes}
+use Rattle.call_rules.specs.Report.{knockKnees}
+use Rattle.call_rules.specs.Judge.{judgeWords, compareWords, judgeBytes}
+use Rattle.worked_cases.specs.Everything.{everything}
+use Rattle.worked_cases.specs.Boards.{row, net, session, ring, ringOutput, why}
+
+-- the ring's words are the routing words of its paths
+ring-words : routingWords (ring .nets) ((Right ∷ []) ∷ (Down ∷ []) ∷ (Left ∷ []) ∷ (Up ∷ []) ∷ []) ≡ ringOutput
+unfolding everything
+ring-words = refl
+
+-- word lists, and the refusal that each gets
+refusals : map (λ ws. why (judgeWords ring ws)) (
+    -- 41: no words
+    []
+    ∷  -- 42: another kind first
+    (0x10000001 ∷ 0x54000001 ∷ 0x40200001 ∷ 0x58000001 ∷ 0x40300001 ∷ 0x5C000001 ∷ 0x40400001 ∷ 0x50000001 ∷ 0xE0000004 ∷ [])
+    ∷  -- 42: a run word where a path word is due
+    (0x54000001 ∷ 0x54000001 ∷ 0x40200001 ∷ 0x58000001 ∷ 0x40300001 ∷ 0x5C000001 ∷ 0x40400001 ∷ 0x50000001 ∷ 0xE0000004 ∷ [])
+    ∷  -- 42: an unnamed bit of a path word
+    (0x40100001 ∷ 0x54000001 ∷ 0x40200801 ∷ 0x58000001 ∷ 0x40300001 ∷ 0x5C000001 ∷ 0x40400001 ∷ 0x50000001 ∷ 0xE0000004 ∷ [])
+    ∷  -- 42: an unnamed bit of a run word
+    (0x40100001 ∷ 0x54000001 ∷ 0x40200001 ∷ 0x58000021 ∷ 0x40300001 ∷ 0x5C000001 ∷ 0x40400001 ∷ 0x50000001 ∷ 0xE0000004 ∷ [])
+    ∷  -- 42: a path word where a run word is due
+    (0x40100001 ∷ 0x40200001 ∷ 0x40200001 ∷ 0x58000001 ∷ 0x40300001 ∷ 0x5C000001 ∷ 0x40400001 ∷ 0x50000001 ∷ 0xE0000004 ∷ [])
+    ∷  -- 42: the end word where a run word is due
+    (0x40100001 ∷ 0xE0000004 ∷ 0x40200001 ∷ 0x58000001 ∷ 0x40300001 ∷ 0x5C000001 ∷ 0x40400001 ∷ 0x50000001 ∷ 0xE0000004 ∷ [])
+    ∷  -- 42: length 0
+    (0x40100001 ∷ 0x54000000 ∷ 0x40200001 ∷ 0x58000001 ∷ 0x40300001 ∷ 0x5C000001 ∷ 0x40400001 ∷ 0x50000001 ∷ 0xE0000004 ∷ [])
+    ∷  -- 42: direction repeated
+    (0x40100002 ∷ 0x54000001 ∷ 0x54000001 ∷ 0x40200001 ∷ 0x58000001 ∷ 0x40300001 ∷ 0x5C000001 ∷ 0x40400001 ∷ 0x50000001 ∷ 0xE0000004 ∷ [])
+    ∷  -- a path may begin in the direction in which the one before ended: not 42; here the list is over early
+    (0x40100001 ∷ 0x58000001 ∷ 0x40200001 ∷ 0x58000001 ∷ [])
+    ∷  -- 42 before 43: an unnamed bit in a path word of another net
+    (0x40200801 ∷ 0x54000001 ∷ 0x40200001 ∷ 0x58000001 ∷ 0x40300001 ∷ 0x5C000001 ∷ 0x40400001 ∷ 0x50000001 ∷ 0xE0000004 ∷ [])
+    ∷  -- 43: path not of the next net
+    (0x40200001 ∷ 0x54000001 ∷ 0x40200001 ∷ 0x58000001 ∷ 0x40300001 ∷ 0x5C000001 ∷ 0x40400001 ∷ 0x50000001 ∷ 0xE0000004 ∷ [])
+    ∷  -- 43: end before all nets
+    (0x40100001 ∷ 0x54000001 ∷ 0x40200001 ∷ 0x58000001 ∷ 0x40300001 ∷ 0x5C000001 ∷ 0xE0000003 ∷ [])
+    ∷  -- 43: a path word where the end is due
+    (0x40100001 ∷ 0x54000001 ∷ 0x40200001 ∷ 0x58000001 ∷ 0x40300001 ∷ 0x5C000001 ∷ 0x40400001 ∷ 0x50000001 ∷ 0x40500000 ∷ 0xE0000005 ∷ [])
+    ∷  -- 43: end with another count
+    (0x40100001 ∷ 0x54000001 ∷ 0x40200001 ∷ 0x58000001 ∷ 0x40300001 ∷ 0x5C000001 ∷ 0x40400001 ∷ 0x50000001 ∷ 0xE0000003 ∷ [])
+    ∷  -- 43: list over early
+    (0x40100001 ∷ 0x54000001 ∷ 0x40200001 ∷ 0x58000001 ∷ 0x40300001 ∷ 0x5C000001 ∷ 0x40400001 ∷ 0x50000001 ∷ [])
+    ∷  -- 43: list over early within a path
+    (0x40100001 ∷ 0x54000001 ∷ 0x40200001 ∷ 0x58000001 ∷ 0x40300001 ∷ 0x5C000001 ∷ 0x40400001 ∷ [])
+    ∷  -- 43: word after the end, whatever it holds
+    (0x40100001 ∷ 0x54000001 ∷ 0x40200001 ∷ 0x58000001 ∷ 0x40300001 ∷ 0x5C000001 ∷ 0x40400001 ∷ 0x50000001 ∷ 0xE0000004 ∷ 0x00000000 ∷ [])
+    ∷  -- 43 before 44: the shape of the whole list first
+    (0x40100001 ∷ 0x50000001 ∷ 0x40200001 ∷ 0x58000001 ∷ 0x40300001 ∷ 0x5C000001 ∷ 0x40400001 ∷ 0x50000001 ∷ [])
+    ∷  -- 44: edge not on the board
+    (0x40100001 ∷ 0x50000001 ∷ 0x40200001 ∷ 0x58000001 ∷ 0x40300001 ∷ 0x5C000001 ∷ 0x40400001 ∷ 0x50000001 ∷ 0xE0000004 ∷ [])
+    ∷  -- 44: the second edge of a run is off the board
+    (0x40100001 ∷ 0x54000002 ∷ 0x40200001 ∷ 0x58000001 ∷ 0x40300001 ∷ 0x5C000001 ∷ 0x40400001 ∷ 0x50000001 ∷ 0xE0000004 ∷ [])
+    ∷  -- 45: edge used earlier by another path
+    (0x40100001 ∷ 0x54000001 ∷ 0x40200002 ∷ 0x5C000001 ∷ 0x58000001 ∷ 0x40300001 ∷ 0x5C000001 ∷ 0x40400001 ∷ 0x50000001 ∷ 0xE0000004 ∷ [])
+    ∷  -- 45: edge used earlier by the same path
+    (0x40100003 ∷ 0x54000001 ∷ 0x5C000001 ∷ 0x54000001 ∷ 0x40200001 ∷ 0x58000001 ∷ 0x40300001 ∷ 0x5C000001 ∷ 0x40400001 ∷ 0x50000001
+    ∷ 0xE0000004 ∷ [])
+    ∷  -- 46: not at the second terminal
+    (0x40100001 ∷ 0x58000001 ∷ 0x40200001 ∷ 0x58000001 ∷ 0x40300001 ∷ 0x5C000001 ∷ 0x40400001 ∷ 0x50000001 ∷ 0xE0000004 ∷ [])
+    ∷  -- 46: no run at all
+    (0x40100000 ∷ 0x40200001 ∷ 0x58000001 ∷ 0x40300001 ∷ 0x5C000001 ∷ 0x40400001 ∷ 0x50000001 ∷ 0xE0000004 ∷ [])
+    ∷  -- 46 of a path before 44 of the next
+    (0x40100001 ∷ 0x58000001 ∷ 0x40200001 ∷ 0x50000001 ∷ 0x40300001 ∷ 0x5C000001 ∷ 0x40400001 ∷ 0x50000001 ∷ 0xE0000004 ∷ [])
+    ∷ [])
+    ≡ (41 ∷ 0 ∷ [])
+    ∷ (42 ∷ 0 ∷ [])
+    ∷ (42 ∷ 0 ∷ [])
+    ∷ (42 ∷ 2 ∷ [])
+    ∷ (42 ∷ 3 ∷ [])
+    ∷ (42 ∷ 1 ∷ [])
+    ∷ (42 ∷ 1 ∷ [])
+    ∷ (42 ∷ 1 ∷ [])
+    ∷ (42 ∷ 2 ∷ [])
+    ∷ (43 ∷ 4 ∷ [])
+    ∷ (42 ∷ 0 ∷ [])
+    ∷ (43 ∷ 0 ∷ [])
+    ∷ (43 ∷ 6 ∷ [])
+    ∷ (43 ∷ 8 ∷ [])
+    ∷ (43 ∷ 8 ∷ [])
+    ∷ (43 ∷ 8 ∷ [])
+    ∷ (43 ∷ 7 ∷ [])
+    ∷ (43 ∷ 9 ∷ [])
+    ∷ (43 ∷ 8 ∷ [])
+    ∷ (44 ∷ 1 ∷ [])
+    ∷ (44 ∷ 1 ∷ [])
+    ∷ (45 ∷ 3 ∷ [])
+    ∷ (45 ∷ 2 ∷ [])
+    ∷ (46 ∷ 0 ∷ [])
+    ∷ (46 ∷ 0 ∷ [])
+    ∷ (46 ∷ 0 ∷ [])
+    ∷ []
+unfolding everything
+refusals = refl
+
+-- 41: 2,050 words
+too-many : why (judgeWords ring (replicate 2050 0xE0000004)) ≡ 41 ∷ 0 ∷ []
+unfolding everything
+too-many = refl
+
+-- 20 before 41, and before 10: the pile has a withdrawn net whose number is on the board
+unsound : why (judgeWords (record { board = ring .board; nets = ring .nets; pile = Withdrawn (net 1 0 0 0 1) ∷ [] }) []) ≡ 20 ∷ 0 ∷ []
+unfolding everything
+unsound = refl
+
+unsound-bytes : why (judgeBytes (record { board = ring .board; nets = ring .nets; pile = Withdrawn (net 1 0 0 0 1) ∷ [] }) (1 ∷ [])) ≡ 20 ∷ 0 ∷ []
+unfolding everything
+unsound-bytes = refl
+
+one-byte : why (judgeBytes ring (1 ∷ [])) ≡ 10 ∷ 0 ∷ []
+unfolding everything
+one-byte = refl
+
+-- two lists: the first is judged first; its place stands after 0, that of the second after 1
+compared : map (λ (ws : List ℕ). why (compareWords ring ringOutput ws)) ([] ∷ ringOutput ∷ []) ≡ (41 ∷ 1 ∷ 0 ∷ []) ∷ [] ∷ []
+unfolding everything
+compared = refl
+
+compared-first : why (compareWords ring [] []) ≡ 41 ∷ 0 ∷ 0 ∷ []
+unfolding everything
+compared-first = refl
+
+-- two routings of one net on two cells, of 1 and of 3 edges: not alike; each is alike to itself
+lengths : (compareWords (session (row 0 2 ∷ []) (net 1 0 1 1 1 ∷ []))
+    (routingWords (net 1 0 1 1 1 ∷ []) ((Down ∷ []) ∷ [])) (routingWords (net 1 0 1 1 1 ∷ []) ((Right ∷ Down ∷ Left ∷ []) ∷ [])) ≡ yes false)
+    × (compareWords (session (row 0 2 ∷ []) (net 1 0 1 1 1 ∷ []))
+    (routingWords (net 1 0 1 1 1 ∷ []) ((Down ∷ []) ∷ [])) (routingWords (net 1 0 1 1 1 ∷ []) ((Down ∷ []) ∷ [])) ≡ yes true)
+unfolding everything
+lengths = (refl, refl)
+
+-- a net that passes the vertex (1,1) twice, turning there twice, alone: no knock-knee
+twice : judgeWords (session (row 0 2 ∷ row 0 2 ∷ []) (net 1 0 1 1 2 ∷ []))
+    (routingWords (net 1 0 1 1 2 ∷ []) ((Down ∷ Left ∷ Down ∷ Right ∷ Up ∷ Right ∷ []) ∷ []))
+    ≡ yes (record { edges = 6; turns = 5; knockKnees = 0 })
+unfolding everything
+twice = refl

@@ -1,0 +1,112 @@
+-- The definitions of the list machine, of writing and of the call `route` at work: each refusal with its place, and which of two comes first.
+-- Assumes nothing.
+use mathlib.Core.Path.{_≡_, refl}
+use mathlib.Core.Bool.{true}
+use mathlib.Core.List.{List, [], _∷_, map}
+use mathlib.Core.Option.{Option, none, some}
+use Prim.Native.Nat.{ℕ, zero, suc}
+use lib.ListN.{length}
+use Rattle.net.specs.declared.Change.the-variants.{Added}
+use Rattle.session_rules.specs.Refusal.{Refusal}
+use Rattle.session_rules.specs.Machine.{Call, add, withdraw, takeBack, Answer, accepted, refused, after, answers}
+use Rattle.session_rules.specs.Sound.{sound?, call, bare, blank}
+use Rattle.call_rules.specs.Writing.{writeBoard}
+use Rattle.call_rules.specs.Route.{routeRefused}
+use Rattle.worked_cases.specs.Everything.{everything}
+use Rattle.worked_cases.specs.Boards.{row, board, net, session, ring, why}
+
+-- an answer as one list: a refusal's number and place; nothing where the call is accepted
+abbrev answerList : Answer → List ℕ
+answerList accepted = []
+answerList (refused r) = r .number ∷ r .place
+
+abbrev refusalList : Option Refusal → List ℕ
+refusalList none = []
+refusalList (some r) = r .number ∷ r .place
+
+-- one cell; each call meets the session that the calls before it left
+calls : map answerList (answers (bare (board (row 0 1 ∷ []))) (
+    takeBack
+    -- 21 before 23 and 24; 0 and 65
+    ∷ add (net 0 9 9 9 9) ∷ add (net 65 0 0 1 1)
+    ∷ add (net 1 0 0 1 1)
+    -- 22 before 23; 21 before 22 cannot be told apart, as no number that gets 21 is on a board
+    ∷ add (net 1 9 9 1 1)
+    -- 23 of the first terminal before the second, and before 24
+    ∷ add (net 2 2 0 0 2) ∷ add (net 2 0 0 0 2) ∷ add (net 2 5 5 5 5)
+    -- 24 before 25
+    ∷ add (net 2 0 0 1 1) ∷ add (net 3 0 0 0 0)
+    -- 25 of the first terminal before the second
+    ∷ add (net 3 0 0 1 1) ∷ add (net 3 0 1 1 1)
+    -- 26; 0 and 65 too
+    ∷ withdraw 3 ∷ withdraw 0 ∷ withdraw 65 ∷ withdraw 1
+    -- take back of both kinds, to the bottom
+    ∷ takeBack ∷ takeBack ∷ takeBack ∷ takeBack ∷ []))
+    ≡ (27 ∷ 0 ∷ [])
+    ∷ (21 ∷ 0 ∷ []) ∷ (21 ∷ 0 ∷ [])
+    ∷ []
+    ∷ (22 ∷ 0 ∷ [])
+    ∷ (23 ∷ 0 ∷ []) ∷ (23 ∷ 1 ∷ []) ∷ (23 ∷ 0 ∷ [])
+    ∷ [] ∷ (24 ∷ 0 ∷ [])
+    ∷ (25 ∷ 0 ∷ []) ∷ (25 ∷ 1 ∷ [])
+    ∷ (26 ∷ 0 ∷ []) ∷ (26 ∷ 0 ∷ []) ∷ (26 ∷ 0 ∷ []) ∷ []
+    ∷ [] ∷ [] ∷ [] ∷ (27 ∷ 0 ∷ []) ∷ []
+unfolding everything
+calls = refl
+
+-- what add, withdraw and take back leave: a withdrawn net returns with its terminals, in its place
+history : after (bare (board (row 0 1 ∷ []))) (add (net 2 0 0 1 1) ∷ add (net 1 1 0 0 1) ∷ withdraw 1 ∷ takeBack ∷ [])
+    ≡ record {
+      board = board (row 0 1 ∷ []);
+      nets = net 1 1 0 0 1 ∷ net 2 0 0 1 1 ∷ [];
+      pile = Added (net 1 1 0 0 1) ∷ Added (net 2 0 0 1 1) ∷ [];
+    }
+unfolding everything
+history = refl
+
+-- the 65th change: 33 times a net is added and withdrawn; the pile holds 64, the last change first
+abbrev upAndDown : ℕ → List Call
+upAndDown zero = []
+upAndDown (suc k) = add (net 1 0 0 1 1) ∷ withdraw 1 ∷ upAndDown k
+
+long-pile : length (after (bare (board (row 0 1 ∷ []))) (upAndDown 33) .pile) ≡ 64
+unfolding everything
+long-pile = refl
+
+-- 20 before 21: a pile with an added net that is not on the board
+unsound : answerList (call (record { board = board (row 0 1 ∷ []); nets = []; pile = Added (net 1 0 0 1 1) ∷ [] }) (add (net 0 0 0 1 1)) .answer)
+    ≡ 20 ∷ 0 ∷ []
+unfolding everything
+unsound = refl
+
+-- 20: case f as a session's board
+unsound-board : answerList (call (bare (board (row 0 1 ∷ row 1 2 ∷ []))) takeBack .answer) ≡ 20 ∷ 0 ∷ []
+unfolding everything
+unsound-board = refl
+
+blank-sound : sound? blank ≡ true
+unfolding everything
+blank-sound = refl
+
+-- ── writing: 20, then 18 ──
+writing : why (writeBoard ring 95) ∷ why (writeBoard ring 96) ∷ why (writeBoard (bare (board [])) 0) ∷ []
+    ≡ (18 ∷ 0 ∷ []) ∷ [] ∷ (20 ∷ 0 ∷ []) ∷ []
+unfolding everything
+writing = refl
+
+-- ── routing: 20, 31, 32, 33 in this order ──
+routing : map refusalList (
+    -- 20 before 31
+    routeRefused (bare (board [])) 0
+    -- 31 before 32: two cells and no nets
+    ∷ routeRefused (bare (board (row 0 2 ∷ []))) 2048
+    ∷ routeRefused (bare (board (row 0 2 ∷ []))) 2049
+    -- 33: case c, where both cuts are overfull; the row comes first
+    ∷ routeRefused (session (row 0 1 ∷ []) (net 1 0 0 1 1 ∷ net 2 0 0 1 1 ∷ net 3 0 1 1 0 ∷ net 4 0 1 1 0 ∷ [])) 2049
+    -- 33: a column alone is overfull
+    ∷ routeRefused (session (row 0 1 ∷ []) (net 1 0 0 0 1 ∷ net 2 0 0 0 1 ∷ net 3 1 0 1 1 ∷ net 4 1 0 1 1 ∷ [])) 2049
+    ∷ routeRefused ring 2049
+    ∷ [])
+    ≡ (20 ∷ 0 ∷ []) ∷ (31 ∷ 0 ∷ []) ∷ (32 ∷ 0 ∷ 1 ∷ []) ∷ (33 ∷ 0 ∷ 0 ∷ []) ∷ (33 ∷ 1 ∷ 0 ∷ []) ∷ [] ∷ []
+unfolding everything
+routing = refl
