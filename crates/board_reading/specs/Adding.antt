@@ -9,8 +9,8 @@ use Prim.Native.Nat.{ℕ, zero, suc, _+_, _<_, _≤_}
 use native.Mathlib.Omega.{arith}
 use lib.ListN.{length, drop, getD, replicate, length-set}
 use borrow.Author.Tests.{eq-eqb, ne-eqb}
-use Rattle.board.specs.Board.{Board}
 use Rattle.board.specs.Degree.{vertex?}
+use Rattle.board_block.specs.Block.{Block}
 use Rattle.net.specs.Terminals.{same}
 use Rattle.net.specs.View.{nothing}
 use Rattle.net.specs.declared.Net.{Net}
@@ -40,7 +40,7 @@ abbrev pub addedNet : Option Refusal → Net → List Place → Added
 addedNet none n ps = record { number = 0; nets = replaced ps (n .number) (holding (n .ends)) }
 addedNet (some r) n ps = record { number = r .number; nets = ps }
 
-unfoldable pub addedWord : Board → List Place → BoardWord → Added
+unfoldable pub addedWord : Block → List Place → BoardWord → Added
 addedWord b ps (word.Net n) = addedNet (addRefused b (netsOf ps) n) n ps
 addedWord b ps (word.Row r) = record { number = 0; nets = ps }
 addedWord b ps (word.End c) = record { number = 0; nets = ps }
@@ -62,12 +62,12 @@ module _ (t : Told) where
       let h : refused (refusal (t .number) (t .place)) ≡ refused r = rw (ne-eqb (t .number) 0 z) at e in
       (r, refl, ap (λ (x : Refusal). x .number) (let g : r ≡ refusal (t .number) (t .place) = cc in g))
 
-  pub told-added : (b : Board) (ps : List Place) (n : Net) → toldOf t ≡ answered (addRefused b (netsOf ps) n) → t .number ≡ 0
+  pub told-added : (b : Block) (ps : List Place) (n : Net) → toldOf t ≡ answered (addRefused b (netsOf ps) n) → t .number ≡ 0
       → addedWord b ps (word.Net n) ≡ record { number = 0; nets = replaced ps (n .number) (holding (n .ends)) }
   unfolding addedWord
   told-added b ps n e z = rw (told-accepted (addRefused b (netsOf ps) n) e z) refl
 
-  pub told-kept : (b : Board) (ps : List Place) (n : Net) → toldOf t ≡ answered (addRefused b (netsOf ps) n) → (t .number ≡ 0 → ⊥)
+  pub told-kept : (b : Block) (ps : List Place) (n : Net) → toldOf t ≡ answered (addRefused b (netsOf ps) n) → (t .number ≡ 0 → ⊥)
       → addedWord b ps (word.Net n) ≡ record { number = t .number; nets = ps }
   unfolding addedWord
   told-kept b ps n e z = let k = told-refused (addRefused b (netsOf ps) n) e z in rw (k .1, k .2) refl
@@ -86,13 +86,13 @@ line-number false false false false false true g r h = let q : r ≡ refusal 25 
 line-number false false false false false false true r h = let q : r ≡ refusal 25 1 = cc in omega (arith, ap (λ (x : Refusal). x .number) q)
 line-number false false false false false false false r h = absurd (let q : _≡_ {A = ℕ} 0 1 = cc in omega arith)
 
-refused-number : (b : Board) (ns : List Net) (n : Net) (r : Refusal) → addRefused b ns n ≡ some r → 1 ≤ r .number
+refused-number : (b : Block) (ns : List Net) (n : Net) (r : Refusal) → addRefused b ns n ≡ some r → 1 ≤ r .number
 unfolding addRefused addLines
 refused-number b ns n r h =
-    line-number (not (goodNumber (n .number))) (holds (n .number) ns) (not (vertex? b (n .ends .first))) (not (vertex? b (n .ends .second)))
+    line-number (not (goodNumber (n .number))) (holds (n .number) ns) (not (vertex? (b .board) (n .ends .first))) (not (vertex? (b .board) (n .ends .second)))
     (same (n .ends .first) (n .ends .second)) (full b ns (n .ends .first)) (full b ns (n .ends .second)) r h
 
-module _ (b : Board) (ps : List Place) (size : length ps ≡ 64) (i : ℕ) (ls : List Listed) where
+module _ (b : Block) (ps : List Place) (size : length ps ≡ 64) (i : ℕ) (ls : List Listed) where
   net-added : (n : Net) → addRefused b (netsOf ps) n ≡ none → netsOf (replaced ps (n .number) (holding (n .ends))) ≡ insert n (netsOf ps)
   unfolding accepts
   net-added n e =
@@ -135,7 +135,7 @@ net-size none n ps = go (n .number)
     go (suc k) = length-set ps k (holding (n .ends))
 net-size (some r) n ps = refl
 
-pub word-size : (b : Board) (ps : List Place) (w : BoardWord) → length (addedWord b ps w .nets) ≡ length ps
+pub word-size : (b : Block) (ps : List Place) (w : BoardWord) → length (addedWord b ps w .nets) ≡ length ps
 unfolding addedWord
 word-size b ps (word.Net n) = net-size (addRefused b (netsOf ps) n) n ps
 word-size b ps (word.Row r) = refl
@@ -144,21 +144,21 @@ word-size b ps word.Unknown = refl
 
 -- ── the loop ──
 -- DEFINITION: before word i the definition has still to add the nets of the words from i on to those in the places
-pub record Adding (b : Board) (ws : List ℕ) (i : ℕ) (ps : List Place) : Type 0 where
+pub record Adding (b : Block) (ws : List ℕ) (i : ℕ) (ps : List Place) : Type 0 where
   pub rest : addListed b [] (listed 0 ws) ≡ addListed b (netsOf ps) (listed i (drop i ws))
   pub size : length ps ≡ 64
 
 -- DEFINITION: what the pass promises: the refusal of the first net that is refused, or the nets of all words
-abbrev pub AllPromise : Board → List ℕ → AddedAll → Type 0
+abbrev pub AllPromise : Block → List ℕ → AddedAll → Type 0
 AllPromise b ws r =
     ((k : ℕ) × (r .number ≡ suc k) × (addListed b [] (listed 0 ws) ≡ no (refusal (suc k) (r .index))))
     ⊎ ((r .number ≡ 0) × (addListed b [] (listed 0 ws) ≡ yes (netsOf (r .nets))) × (length (r .nets) ≡ 64))
 
-pub adding-start : (b : Board) (ws : List ℕ) → Adding b ws 0 (replicate 64 nothing)
+pub adding-start : (b : Block) (ws : List ℕ) → Adding b ws 0 (replicate 64 nothing)
 unfolding netsOf netsFrom
 adding-start b ws = record { rest = refl; size = refl }
 
-module _ (b : Board) (ws : List ℕ) (i : ℕ) (ps : List Place) (A : Adding b ws i ps) where
+module _ (b : Block) (ws : List ℕ) (i : ℕ) (ps : List Place) (A : Adding b ws i ps) where
   pub adding-more : i < length ws → addedWord b ps (boardWord (getD ws i 0)) .number ≡ 0
       → Adding b ws (i + 1) (addedWord b ps (boardWord (getD ws i 0)) .nets)
   adding-more h z = record {

@@ -15,13 +15,16 @@ use Rattle.board.specs.Board.{Board, noRow}
 use Rattle.board.specs.View.{boardOf}
 use Rattle.board.specs.declared.Row.{Row}
 use Rattle.board.specs.declared.Board as code-board
+use Rattle.board_block.specs.Block.{plain}
+use Rattle.board_block.specs.View.{blockOf, plainOf}
+use Rattle.board_block.specs.declared.Block as code-block
 use Rattle.board_convex.specs.Test.{isConvex}
 use Rattle.net.specs.declared.Place.{Place}
 use Rattle.session_rules.specs.Refusal.{Refusal, refusal, line, firstRefusal}
-use Rattle.session_rules.specs.Session.{Session}
-use Rattle.session_rules.specs.Sound.{blank}
+use Rattle.session_rules.specs.Session.{Session, withNets}
+use Rattle.session_rules.specs.Sound.{bare, blank}
 use Rattle.net_places.specs.Places.{netsOf}
-use Rattle.session.specs.Value.{freshOf, blankBoard}
+use Rattle.session.specs.Value.{withPlaces, freshOf, blankBoard}
 use Rattle.session.specs.View.{sessionOf}
 use Rattle.session.specs.Promise.{FreshPromise}
 use Rattle.session.specs.declared.Session as code
@@ -33,6 +36,7 @@ use Rattle.call_rules.specs.Reading.{
   addListed,
   reverse,
   boardIn,
+  blockIn,
   readNets,
   readTaken,
   readWords,
@@ -45,7 +49,7 @@ use Rattle.words_bytes.specs.Words.{words-length, all-words, FilledWith}
 use Rattle.board_scan.specs.Follows.{Follows, count-is}
 use Rattle.board_scan.specs.Promise.{takeAll, ScanPromise}
 use Rattle.board_scan.specs.declared.Scanned.{Scanned}
-use Rattle.board_reading.specs.Value.{boardValue, valueFor, readValue, places-for}
+use Rattle.board_reading.specs.Value.{boardValue, blockValue, valueFor, readValue, places-for}
 use Rattle.board_reading.specs.Listed.{listed, taken-nets}
 use Rattle.board_reading.specs.Adding.{AllPromise}
 use Rattle.board_reading.specs.declared.AddedAll.{AddedAll}
@@ -72,7 +76,7 @@ pub record ReadPromise (x : Result Session) (r : AfterRead) : Type 0 where
 -- a refusal, with the blank session
 pub record RefusedPromise (n p : ℕ) (r : AfterRead) : Type 0 where
   pub answers : r .answer ≡ answer.Refused n p
-  pub value : r .session ≡ freshOf blankBoard
+  pub value : r .session ≡ freshOf (plainOf blankBoard)
   pub blank : sessionOf (r .session) ≡ blank
 
 pub refused-read : (x : Result Session) (n p : ℕ) (r : AfterRead) → RefusedPromise n p r → x ≡ no (refusal n p) → ReadPromise x r
@@ -106,12 +110,12 @@ module _ (ws : List ℕ) (t : Taken) (T : takeAll ws ≡ yes t) where
   unfolding readTaken
   convex-refused e = read-parts ws ∙ rw (T, e) refl
 
-  pub nets-refused : isConvex (boardIn t) ≡ true → (r : Refusal) → addListed (boardIn t) [] (listed 0 ws) ≡ no r → readWords ws ≡ no r
+  pub nets-refused : isConvex (boardIn t) ≡ true → (r : Refusal) → addListed (blockIn t) [] (listed 0 ws) ≡ no r → readWords ws ≡ no r
   unfolding readTaken readNets
   nets-refused e r f = read-parts ws ∙ rw (T, e, nets-listed, f) refl
 
-  pub all-read : isConvex (boardIn t) ≡ true → (ps : List Place) → addListed (boardIn t) [] (listed 0 ws) ≡ yes (netsOf ps)
-      → readWords ws ≡ yes (record { board = boardIn t; nets = netsOf ps; pile = [] })
+  pub all-read : isConvex (boardIn t) ≡ true → (ps : List Place) → addListed (blockIn t) [] (listed 0 ws) ≡ yes (netsOf ps)
+      → readWords ws ≡ yes (withNets (bare (blockIn t)) (netsOf ps) [])
   unfolding readTaken readNets
   all-read e ps f = read-parts ws ∙ rw (T, e, nets-listed, f) refl
 
@@ -121,16 +125,17 @@ board-value b rs e f = λ i. record { count = e i; rows = f i }
 
 pub read-done : (x : Result Session) (t : Taken) (b : code-board.Board) (ps : List Place) (s : code.Session)
     → boardOf b ≡ boardIn t → b .count ≡ length (t .rows) → b .rows ≡ t .rows ++ replicate (31 - length (t .rows)) noRow
-    → length ps ≡ 64 → FreshPromise b s → x ≡ yes (record { board = boardIn t; nets = netsOf ps; pile = [] })
-    → ReadPromise x (record { answer = answer.Accepted; session = record { board = b; nets = ps; pile = s .pile } })
+    → length ps ≡ 64 → FreshPromise (plainOf b) s → x ≡ yes (withNets (bare (blockIn t)) (netsOf ps) [])
+    → ReadPromise x (record { answer = answer.Accepted; session = withPlaces s ps (s .pile) })
 unfolding valueFor freshOf
 read-done x t b ps s e c a l f h =
     let v : b ≡ boardValue (t .rows) = board-value b (t .rows) c a in
-    let p : s .pile ≡ freshOf (boardValue (t .rows)) .pile = ap (λ (z : code.Session). z .pile) (f .value) in
+    let same : s ≡ freshOf (plainOf (boardValue (t .rows))) = f .value ∙ ap (λ (z : code-board.Board). freshOf (plainOf z)) v in
+    let start : sessionOf s ≡ bare (blockIn t) = f .bare ∙ ap (λ (z : Board). bare (plain z)) e in
     rw h (record {
       answers = refl;
-      value = λ i. record { board = v i; nets = sym (places-for ps l) i; pile = p i };
-      session = λ i. record { board = e i; nets = netsOf ps; pile = ap (λ (z : Session). z .pile) (f .bare) i };
+      value = λ i. withPlaces (same i) (sym (places-for ps l) i) (same i .pile);
+      session = λ i. withNets (start i) (netsOf ps) (start i .pile);
     })
 
 -- ── what the two passes over the words promise, put together ──
@@ -146,27 +151,23 @@ module _ (ws : List ℕ) (r : Scanned) (S : ScanPromise ws r) (z : r .number ≡
   pub bent-refused : isConvex (boardOf (r .scan .board)) ≡ false → readWords ws ≡ no (refusal 16 0)
   bent-refused e = let t = scan-taken ws r S z in convex-refused ws (t .0) (t .1) (rw (t .2 .board-is) at e)
 
-  pub net-refused : isConvex (boardOf (r .scan .board)) ≡ true → (a : AddedAll) → AllPromise (boardOf (r .scan .board)) ws a → (a .number ≡ 0 → ⊥)
+  pub net-refused : isConvex (boardOf (r .scan .board)) ≡ true → (a : AddedAll) → AllPromise (blockOf (plainOf (r .scan .board))) ws a → (a .number ≡ 0 → ⊥)
       → readWords ws ≡ no (refusal (a .number) (a .index))
   net-refused e a A y = go A
     where
-      go : AllPromise (boardOf (r .scan .board)) ws a → readWords ws ≡ no (refusal (a .number) (a .index))
+      go : AllPromise (blockOf (plainOf (r .scan .board))) ws a → readWords ws ≡ no (refusal (a .number) (a .index))
       go (inl (k, f, g)) =
           let t = scan-taken ws r S z in
           nets-refused ws (t .0) (t .1) (rw (t .2 .board-is) at e) (refusal (a .number) (a .index)) (rw f (rw (t .2 .board-is) at g))
       go (inr g) = absurd (y (g .0))
 
-  pub session-read : isConvex (boardOf (r .scan .board)) ≡ true → (a : AddedAll) → AllPromise (boardOf (r .scan .board)) ws a → a .number ≡ 0
-      → (s : code.Session) → FreshPromise (r .scan .board) s
-      → ReadPromise (readWords ws) (record { answer = answer.Accepted; session = record { board = r .scan .board; nets = a .nets; pile = s .pile } })
+  pub session-read : isConvex (boardOf (r .scan .board)) ≡ true → (a : AddedAll) → AllPromise (blockOf (plainOf (r .scan .board))) ws a → a .number ≡ 0
+      → (s : code.Session) → FreshPromise (plainOf (r .scan .board)) s
+      → ReadPromise (readWords ws) (record { answer = answer.Accepted; session = withPlaces s (a .nets) (s .pile) })
   session-read e a A y s f = go A
     where
-      go : AllPromise (boardOf (r .scan .board)) ws a
-          → ReadPromise (readWords ws) (record {
-            answer = answer.Accepted;
-            session =
-                record { board = r .scan .board; nets = a .nets; pile = s .pile };
-          })
+      go : AllPromise (blockOf (plainOf (r .scan .board))) ws a
+          → ReadPromise (readWords ws) (record { answer = answer.Accepted; session = withPlaces s (a .nets) (s .pile) })
       go (inl (k, g, h)) = absurd (omega arith)
       go (inr (g, h, l)) =
           let t = scan-taken ws r S z in

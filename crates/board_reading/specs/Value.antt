@@ -11,6 +11,9 @@ use Rattle.count.specs.Lists.{upTo, length-rising, getD-rising}
 use Rattle.board.specs.Board.{noRow}
 use Rattle.board.specs.declared.Row.{Row}
 use Rattle.board.specs.declared.Board as code-board
+use Rattle.board_block.specs.Block.{Block}
+use Rattle.board_block.specs.View.{plainOf}
+use Rattle.board_block.specs.declared.Block as code-block
 use Rattle.net.specs.View.{nothing}
 use Rattle.net.specs.declared.Net.{Net}
 use Rattle.net.specs.declared.Held.{Held}
@@ -19,7 +22,7 @@ use Rattle.net.specs.declared.Place.{Place}
 use Rattle.session_rules.specs.Session.{Session, netOf}
 use Rattle.net_places.specs.Places.{holding, netsOf}
 use Rattle.net_places.specs.Nets.{heldAs, net-of}
-use Rattle.session.specs.Value.{freshOf, blankBoard}
+use Rattle.session.specs.Value.{withPlaces, freshOf, blankBoard}
 use Rattle.session.specs.declared.Session as code
 use Rattle.call_rules.specs.Result.{Result, no, yes}
 
@@ -35,13 +38,16 @@ placeFor (some n) = holding (n .ends)
 unfoldable pub placesFor : List Net → List Place
 placesFor ns = map (λ i. placeFor (netOf (suc i) ns)) (upTo 64)
 
--- the session, with the empty pile of a fresh one
+abbrev pub blockValue : Block → code-block.Block
+blockValue b = plainOf (boardValue (b .board .rows))
+
+-- a fresh session on the block, with these nets
 unfoldable pub valueFor : Session → code.Session
-valueFor s = record { board = boardValue (s .board .rows); nets = placesFor (s .nets); pile = freshOf (boardValue (s .board .rows)) .pile }
+valueFor s = withPlaces (freshOf (blockValue (s .block))) (placesFor (s .nets)) (freshOf (blockValue (s .block)) .pile)
 
 -- what a reading hands back: "A refused reading gives the blank session"
 abbrev pub readValue : Result Session → code.Session
-readValue (no r) = freshOf blankBoard
+readValue (no r) = freshOf (plainOf blankBoard)
 readValue (yes s) = valueFor s
 
 -- ── 64 places are determined by their nets ──

@@ -1,10 +1,10 @@
 // Reading a board from words and from bytes: a session with an empty pile, or a refusal and the blank session.
 ghost use mathlib.Core.Path.{_≡_};
-ghost use Rattle.board.specs.View.{boardOf};
+ghost use Rattle.board_block.specs.View.{blockOf};
 ghost use Rattle.call_rules.specs.Reading.{readWords, readBytes};
 ghost use Rattle.board_reading.specs.Adding.{addedWord, AllPromise};
 ghost use Rattle.board_reading.specs.Promise.{RefusedPromise, ReadPromise};
-use board::Board;
+use board_block::Block;
 use net::Held;
 use net::Place;
 use session::Session;
@@ -36,8 +36,8 @@ pub struct AddedAll {
 }
 
 // The net of a word is added, any other word is passed over.
-fn add_word(b: Board, nets: [Place; 64], w: BoardWord) -> Added
-    ensures { λ r. ⌜ r ≡ addedWord (boardOf b) nets w ⌝ }
+fn add_word(b: Block, nets: [Place; 64], w: BoardWord) -> Added
+    ensures { λ r. ⌜ r ≡ addedWord (blockOf b) nets w ⌝ }
 {
     match w {
         BoardWord::Net(net) => {
@@ -68,8 +68,8 @@ fn add_word(b: Board, nets: [Place; 64], w: BoardWord) -> Added
 }
 
 // The nets of the words, added in their order to the bare board.
-fn add_words(b: Board, words: &[u32]) -> AddedAll
-    ensures { λ r. ⌜ AllPromise (boardOf b) (now (words .entry)) r ⌝ }
+fn add_words(b: Block, words: &[u32]) -> AddedAll
+    ensures { λ r. ⌜ AllPromise (blockOf b) (now (words .entry)) r ⌝ }
 {
     let mut nets = [Place {
         held: Held::Nothing,
@@ -118,16 +118,17 @@ pub fn read_words(words: &[u32]) -> AfterRead
     if bent {
         return refused(16, 0);
     }
-    let added = add_words(board, words);
+    let block = board_block::plain(board);
+    let added = add_words(block, words);
     if added.number != 0 {
         return refused(added.number, added.index);
     }
-    let fresh = session::fresh(board);
+    let fresh = session::fresh(block);
     let nets = added.nets;
     let pile = fresh.pile;
     AfterRead {
         answer: ReadAnswer::Accepted,
-        session: Session { board, nets, pile },
+        session: fresh.with_places(nets, pile),
     }
 }
 

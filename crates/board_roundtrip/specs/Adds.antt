@@ -9,7 +9,7 @@ use native.Mathlib.Omega.{arith}
 use borrow.Author.Tests.{le-ltb}
 use Rattle.count.specs.Truth.{clash, and-true, and-yes}
 use Rattle.count.specs.Each.{each-append}
-use Rattle.board.specs.Board.{Board}
+use Rattle.board_block.specs.Block.{Block}
 use Rattle.net.specs.declared.Net.{Net}
 use Rattle.session_rules.specs.Refusal.{Refusal}
 use Rattle.session_rules.specs.Session.{insert}
@@ -36,7 +36,7 @@ below-last n ns h =
     each-append (λ (m : Net). m .number < suc (n .number)) ns (n ∷ []) (below-more (n .number) (suc (n .number)) ns (omega arith) h) (omega arith, tt)
 
 -- ── a net that was accepted ──
-accepted-none : (b : Board) (on : List Net) (n : Net) → accepts b on n ≡ true → addRefused b on n ≡ none
+accepted-none : (b : Block) (on : List Net) (n : Net) → accepts b on n ≡ true → addRefused b on n ≡ none
 unfolding accepts
 accepted-none b on n e = go (addRefused b on n) e
   where
@@ -44,7 +44,7 @@ accepted-none b on n e = go (addRefused b on n) e
     go none e = refl
     go (some r) e = absurd (clash e refl)
 
-none-accepted : (b : Board) (on : List Net) (n : Net) (i : ℕ) → placedAt i (addRefused b on n) ≡ none → accepts b on n ≡ true
+none-accepted : (b : Block) (on : List Net) (n : Net) (i : ℕ) → placedAt i (addRefused b on n) ≡ none → accepts b on n ≡ true
 unfolding accepts
 none-accepted b on n i e = go (addRefused b on n) e
   where
@@ -59,7 +59,7 @@ one-more n on ns h = rw (insert-last n on h) (append-assoc on (n ∷ []) ns)
 below-next : (n : Net) (on : List Net) → Below (n .number) on → Below (suc (n .number)) (insert n on)
 below-next n on h = rw (insert-last n on h) (below-last n on h)
 
-pub addable-listed : (b : Board) (on : List Net) (ls : List Listed) (k : ℕ) → Below k on → From k (netsIn ls) → addable? b on (netsIn ls) ≡ true
+pub addable-listed : (b : Block) (on : List Net) (ls : List Listed) (k : ℕ) → Below k on → From k (netsIn ls) → addable? b on (netsIn ls) ≡ true
     → addListed b on ls ≡ yes (on ++ netsIn ls)
 unfolding addListed addable?
 addable-listed b on [] k h f e = ap (λ (ns : List Net). yes ns) (sym (append-nil on))
@@ -70,7 +70,7 @@ addable-listed b on (l ∷ ls) k h f e =
     (addable-listed b (insert (l .net) on) ls (suc (l .net .number)) (below-next (l .net) on g) (f .1) (t .1)
     ∙ ap (λ (ns : List Net). yes ns) (one-more (l .net) on (netsIn ls) g))
 
-pub listed-addable : (b : Board) (on : List Net) (ls : List Listed) (ns : List Net) (k : ℕ) → Below k on → From k (netsIn ls)
+pub listed-addable : (b : Block) (on : List Net) (ls : List Listed) (ns : List Net) (k : ℕ) → Below k on → From k (netsIn ls)
     → addListed b on ls ≡ yes ns → (ns ≡ on ++ netsIn ls) × (addable? b on (netsIn ls) ≡ true)
 unfolding addListed addable?
 listed-addable b on [] ns k h f e = (sym (yes-same on ns e) ∙ sym (append-nil on), refl)

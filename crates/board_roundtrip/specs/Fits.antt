@@ -12,6 +12,7 @@ use Rattle.board.specs.Tests.{vertex-exact}
 use Rattle.board.specs.declared.Row.{Row}
 use Rattle.board.specs.declared.Vertex.{Vertex}
 use Rattle.board_convex.specs.Places.{vertex-in-row}
+use Rattle.board_block.specs.Block.{Block}
 use Rattle.net.specs.declared.Net.{Net}
 use Rattle.session_laws.specs.Rising.{From}
 use Rattle.session_laws.specs.Fine.{AllGood}
@@ -31,19 +32,19 @@ vertex-fits b v w e =
     let k = vertex-in-row b v (vertex-exact b v .0 e) in let x = k .1 in
     (omega (arith, x .row, x .high, w .few), omega (arith, x .to, w .fits (k .0) (x .row)))
 
-pub nets-fit : (b : Board) (ns : List Net) → Within b → AllGood b ns → NetsFit ns
+pub nets-fit : (b : Block) (ns : List Net) → Within (b .board) → AllGood b ns → NetsFit ns
 nets-fit b [] w g = tt
 nets-fit b (n ∷ ns) w g =
     let k = g .0 in
-    ((omega (arith, k .high), vertex-fits b (n .ends .first) w (k .first), vertex-fits b (n .ends .second) w (k .second)), nets-fit b ns w (g .1))
+    ((omega (arith, k .high), vertex-fits (b .board) (n .ends .first) w (k .first), vertex-fits (b .board) (n .ends .second) w (k .second)), nets-fit b ns w (g .1))
 
 -- numbers that rise from k on and end by 64
-rising-few : (b : Board) (k : ℕ) (ns : List Net) → k ≤ 65 → From k ns → AllGood b ns → length ns + k ≤ 65
+rising-few : (b : Block) (k : ℕ) (ns : List Net) → k ≤ 65 → From k ns → AllGood b ns → length ns + k ≤ 65
 rising-few b k [] h f g = omega arith
 rising-few b k (n ∷ ns) h f g =
     let l = f .0 in let m = g .0 .high in
     omega (arith, rising-few b (suc (n .number)) ns (omega arith) (f .1) (g .1))
 
-pub few-nets : (b : Board) (ns : List Net) → From 0 ns → AllGood b ns → length ns ≤ 64
+pub few-nets : (b : Block) (ns : List Net) → From 0 ns → AllGood b ns → length ns ≤ 64
 few-nets b [] f g = omega arith
 few-nets b (n ∷ ns) f g = omega (arith, rising-few b 1 (n ∷ ns) (omega arith) (g .0 .low, f .1) g)

@@ -76,11 +76,11 @@ net-words (n ∷ ns) f = let k = f .0 in (omega arith, net-words ns (f .1))
 pub sound-words : (s : Session) → Sound s → Words (boardWords s)
 unfolding boardWords
 sound-words s h =
-    let rs = s .board .rows in let ns = s .nets in let f = sound-fine s h in let w = h .within in
-    let most = w .few in let few = few-nets (s .board) ns (f .rising) (f .good) in
+    let rs = s .block .board .rows in let ns = s .nets in let f = sound-fine s h in let w = h .within in
+    let most = w .few in let few = few-nets (s .block) ns (f .rising) (f .good) in
     let word : ℕ → Type 0 = λ (x : ℕ). x < 2 ^ 32 in let end = endWord (length rs) (length ns) ∷ [] in
-    each-append word (map rowWord rs) (map netWord ns ++ end) (row-words rs (rows-fit (s .board) w))
-    (each-append word (map netWord ns) end (net-words ns (nets-fit (s .board) ns w (f .good))) (omega arith, tt))
+    each-append word (map rowWord rs) (map netWord ns ++ end) (row-words rs (rows-fit (s .block .board) w))
+    (each-append word (map netWord ns) end (net-words ns (nets-fit (s .block) ns w (f .good))) (omega arith, tt))
 
 -- ── reading bytes is reading their words ──
 pub even-read : (bs : List ℕ) → length bs % 4 ≡ 0 → readBytes bs ≡ readWords (wordsIn bs)

@@ -6,7 +6,7 @@ use Prim.Native.Nat.{ℕ, suc, _≤_, _<_, _^_}
 use Rattle.count.specs.Each.{Each}
 use Rattle.board.specs.declared.Row.{Row}
 use Rattle.net.specs.declared.Net.{Net}
-use Rattle.session_rules.specs.Session.{Session}
+use Rattle.session_rules.specs.Session.{Session, withNets}
 use Rattle.words.specs.BoardWord.{rowWord, netWord}
 use Rattle.words.specs.Inverse.{NetFits}
 use Rattle.call_rules.specs.Reading.{Listed, Taken, notAbove}
@@ -65,6 +65,6 @@ abbrev pub Bytes : List ℕ → Type 0
 Bytes bs = Each (λ (b : ℕ). b < 2 ^ 8) bs
 
 -- ── sessions ──
--- the same board and nets, with an empty pile
+-- the same in all but the pile, which is empty
 abbrev pub unpiled : Session → Session
-unpiled s = record { board = s .board; nets = s .nets; pile = [] }
+unpiled s = withNets s (s .nets) []

@@ -11,12 +11,12 @@ use Rattle.board_convex.specs.Test.{isConvex}
 use Rattle.board_convex.specs.Exact.{is-convex}
 use Rattle.net.specs.declared.Net.{Net}
 use Rattle.session_rules.specs.Refusal.{line, firstRefusal}
-use Rattle.session_rules.specs.Session.{Session}
-use Rattle.session_rules.specs.Sound.{Sound, addable?, lifts?}
+use Rattle.session_rules.specs.Session.{Session, withNets}
+use Rattle.session_rules.specs.Sound.{bare, Sound, addable?, lifts?}
 use Rattle.session_laws.specs.Rising.{From, from-rising}
 use Rattle.words.specs.BoardWord.{rowWord, endWord}
 use Rattle.call_rules.specs.Result.{yes, andThen}
-use Rattle.call_rules.specs.Reading.{Taken, nothingTaken, takeWords, addListed, reverse, boardIn, readNets, readTaken, badLength, readWords}
+use Rattle.call_rules.specs.Reading.{Taken, nothingTaken, takeWords, addListed, reverse, boardIn, blockIn, readNets, readTaken, badLength, readWords}
 use Rattle.call_rules.specs.Writing.{boardWords}
 use Rattle.board_roundtrip.specs.Parts.{netsIn, netsThen}
 use Rattle.call_rules.specs.Results.{yes-same, passed, line-passed, then-yes}
@@ -31,7 +31,7 @@ pub record Holds (ws : List ℕ) (s : Session) : Type 0 where
 
 -- DEFINITION: the session of what was taken
 abbrev sessionIn : Taken → Session
-sessionIn u = record { board = boardIn u; nets = netsIn (reverse (u .nets) []); pile = [] }
+sessionIn u = withNets (bare (blockIn u)) (netsIn (reverse (u .nets) [])) []
 
 -- its words are those that were taken
 session-words : (u : Taken) → boardWords (sessionIn u) ≡ map rowWord (u .rows)
@@ -43,7 +43,7 @@ session-words u =
 
 -- and it is sound
 session-sound : (u : Taken) → isConvex (boardIn u) ≡ true → From 0 (netsIn (reverse (u .nets) []))
-    → addable? (boardIn u) [] (netsIn (reverse (u .nets) [])) ≡ true → Sound (sessionIn u)
+    → addable? (blockIn u) [] (netsIn (reverse (u .nets) [])) ≡ true → Sound (sessionIn u)
 unfolding lifts?
 session-sound u c f a = let k = is-convex (boardIn u) .0 c in record {
   within = k .0;
@@ -55,11 +55,11 @@ session-sound u c f a = let k = is-convex (boardIn u) .0 c in record {
 }
 
 taken-holds : (ws : List ℕ) (u : Taken) (ns : List Net) → takeWords 0 nothingTaken ws ≡ yes u → isConvex (boardIn u) ≡ true
-    → addListed (boardIn u) [] (reverse (u .nets) []) ≡ yes ns → Holds ws (record { board = boardIn u; nets = ns; pile = [] })
+    → addListed (blockIn u) [] (reverse (u .nets) []) ≡ yes ns → Holds ws (withNets (bare (blockIn u)) ns [])
 taken-holds ws u ns e c n =
     let t = taken-said ws 0 nothingTaken u refl tt e in
     let f = falling-from (u .nets) [] (t .falling) tt in
-    let a = listed-addable (boardIn u) [] (reverse (u .nets) []) ns 0 tt f n in
+    let a = listed-addable (blockIn u) [] (reverse (u .nets) []) ns 0 tt f n in
     rw (a .0) (record { words = session-words u ∙ sym (t .words); sound = session-sound u c f (a .1); bare-pile = refl })
 
 pub read-holds : (ws : List ℕ) (s : Session) → readWords ws ≡ yes s → Holds ws s
@@ -69,6 +69,6 @@ read-holds ws s e =
     let q = then-yes (takeWords 0 nothingTaken ws) readTaken s (p .1) in
     let u = q .0 in let b = boardIn u in
     let r = passed (firstRefusal (line (not (isConvex b)) 16 0 ∷ [])) (readNets u) s (q .2) in
-    let v = then-yes (addListed b [] (reverse (u .nets) [])) (λ (ns : List Net). yes (record { board = b; nets = ns; pile = [] })) s (r .1) in
-    subst (λ (x : Session). Holds ws x) (yes-same (record { board = b; nets = v .0; pile = [] }) s (v .2))
+    let v = then-yes (addListed (blockIn u) [] (reverse (u .nets) [])) (λ (ns : List Net). yes (withNets (bare (blockIn u)) ns [])) s (r .1) in
+    subst (λ (x : Session). Holds ws x) (yes-same (withNets (bare (blockIn u)) (v .0) []) s (v .2))
     (taken-holds ws u (v .0) (q .1) (not-false (isConvex b) (line-passed (not (isConvex b)) 16 0 [] (r .0) .0)) (v .1))

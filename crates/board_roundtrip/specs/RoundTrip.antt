@@ -26,7 +26,7 @@ use Rattle.board_roundtrip.specs.InBytes.{words-back, bytes-even, bytes-
 
 -- ── words ──
 -- "A session written as words reads back with the same board and nets"; "Reading gives a session with an empty pile."
-pub written-reads : (s : Session) → Sound s → readWords (boardWords s) ≡ yes (record { board = s .board; nets = s .nets; pile = [] })
+pub written-reads : (s : Session) → Sound s → readWords (boardWords s) ≡ yes (unpiled s)
 written-reads s h = words-read s h
 
 -- "accepted words write back as the same words"

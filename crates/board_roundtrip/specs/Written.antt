@@ -23,10 +23,10 @@ use Rattle.board_roundtrip.specs.Packed.{take-rows, take-nets, take-end,
 use Rattle.board_roundtrip.specs.Fits.{rows-fit, nets-fit, few-nets}
 
 -- ── their count ──
-pub words-length : (s : Session) → length (boardWords s) ≡ length (s .board .rows) + length (s .nets) + 1
+pub words-length : (s : Session) → length (boardWords s) ≡ length (s .block .board .rows) + length (s .nets) + 1
 unfolding boardWords
 words-length s =
-    let rs = s .board .rows in let ns = s .nets in let end = endWord (length rs) (length ns) ∷ [] in
+    let rs = s .block .board .rows in let ns = s .nets in let end = endWord (length rs) (length ns) ∷ [] in
     omega (
       arith,
       length-append (map rowWord rs) (map netWord ns ++ end),
@@ -37,39 +37,39 @@ words-length s =
 
 module _ (s : Session) (h : Sound s) where
   few : length (s .nets) ≤ 64
-  few = let f = sound-fine s h in few-nets (s .board) (s .nets) (f .rising) (f .good)
+  few = let f = sound-fine s h in few-nets (s .block) (s .nets) (f .rising) (f .good)
 
   pub words-few : length (boardWords s) ≤ 96
   words-few = omega (arith, words-length s, few, h .within .few)
 
   -- ── they are taken one by one ──
-  written-taken : takeWords 0 nothingTaken (boardWords s) ≡ yes (taken (s .board .rows) (listedOnto (0 + length (s .board .rows)) (s .nets) []) true)
+  written-taken : takeWords 0 nothingTaken (boardWords s) ≡ yes (taken (s .block .board .rows) (listedOnto (0 + length (s .block .board .rows)) (s .nets) []) true)
   unfolding boardWords
   written-taken =
-      let rs = s .board .rows in let ns = s .nets in let i = 0 + length rs in
+      let rs = s .block .board .rows in let ns = s .nets in let i = 0 + length rs in
       let f = sound-fine s h in let w = h .within in
       let some = w .some in let most = w .few in let nets = few in
       let l : length (listedOnto i ns []) ≡ length ns = omega (arith, length-onto ns i []) in
       let end = endWord (length rs) (length ns) ∷ [] in
-      take-rows rs [] 0 (map netWord ns ++ end) (rows-fit (s .board) w) (omega arith)
-      ∙ take-nets ns i 0 rs [] end (omega arith) (nets-fit (s .board) ns w (f .good)) (f .rising) (λ j p. refl)
+      take-rows rs [] 0 (map netWord ns ++ end) (rows-fit (s .block .board) w) (omega arith)
+      ∙ take-nets ns i 0 rs [] end (omega arith) (nets-fit (s .block) ns w (f .good)) (f .rising) (λ j p. refl)
       ∙ take-end (i + length ns) rs (listedOnto i ns []) (length ns) (omega arith) (omega arith) (omega arith) l
 
   -- ── the board is convex, and each net is accepted ──
-  listed-all : (i : ℕ) → addListed (s .board) [] (reverse (listedOnto i (s .nets) []) []) ≡ yes (s .nets)
+  listed-all : (i : ℕ) → addListed (s .block) [] (reverse (listedOnto i (s .nets) []) []) ≡ yes (s .nets)
   listed-all i =
       let ns = s .nets in let e = nets-from ns i in
       let f : From 0 (netsIn (listedFrom i ns)) = rw e (sound-fine s h .rising) in
-      let a : addable? (s .board) [] (netsIn (listedFrom i ns)) ≡ true = rw e (h .addable) in
+      let a : addable? (s .block) [] (netsIn (listedFrom i ns)) ≡ true = rw e (h .addable) in
       rw (reverse-onto ns i [] [], append-nil (listedFrom i ns))
-      (addable-listed (s .board) [] (listedFrom i ns) 0 tt f a ∙ ap (λ (ms : List Net). yes ms) e)
+      (addable-listed (s .block) [] (listedFrom i ns) 0 tt f a ∙ ap (λ (ms : List Net). yes ms) e)
 
-  taken-read : (i : ℕ) → readTaken (taken (s .board .rows) (listedOnto i (s .nets) []) true) ≡ yes (unpiled s)
+  taken-read : (i : ℕ) → readTaken (taken (s .block .board .rows) (listedOnto i (s .nets) []) true) ≡ yes (unpiled s)
   unfolding readTaken readNets
-  taken-read i = rw (is-convex (s .board) .1 (h .within, h .convex), listed-all i) refl
+  taken-read i = rw (is-convex (s .block .board) .1 (h .within, h .convex), listed-all i) refl
 
   pub words-read : readWords (boardWords s) ≡ yes (unpiled s)
   unfolding readWords
   words-read =
       let n = length (boardWords s) in
-      rw (ne-eqb n 0 (λ e. omega (arith, words-length s)), le-ltb 96 n words-few, written-taken) (taken-read (0 + length (s .board .rows)))
+      rw (ne-eqb n 0 (λ e. omega (arith, words-length s)), le-ltb 96 n words-few, written-taken) (taken-read (0 + length (s .block .board .rows)))

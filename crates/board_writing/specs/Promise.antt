@@ -40,36 +40,36 @@ pub record WrittenWords (ws before after : List ℕ) (r : ℕ) : Type 0 where
 
 -- ── rows, nets and end ──
 parts : (s : code.Session) → length (s .nets) ≡ 64
-    → boardWords (sessionOf s) ≡ (rowWords (s .board .rows) (s .board .count) ++ netWords (s .nets) 64)
-    ++ (endWord (s .board .count) (length (netWords (s .nets) 64)) ∷ [])
+    → boardWords (sessionOf s) ≡ (rowWords (s .block .board .rows) (s .block .board .count) ++ netWords (s .nets) 64)
+    ++ (endWord (s .block .board .count) (length (netWords (s .nets) 64)) ∷ [])
 unfolding boardWords
 parts s e =
     let n : netWords (s .nets) 64 ≡ map netWord (netsOf (s .nets)) = rw e at (net-words-all (s .nets)) in
     let l : length (netWords (s .nets) 64) ≡ length (netsOf (s .nets)) = ap length n ∙ length-map (netsOf (s .nets)) netWord in
-    rw (← row-words-all (s .board), ← n, height-of (s .board), ← l)
-    (sym (append-assoc (rowWords (s .board .rows) (s .board .count)) (netWords (s .nets) 64)
-    (endWord (s .board .count) (length (netWords (s .nets) 64)) ∷ [])))
+    rw (← row-words-all (s .block .board), ← n, height-of (s .block .board), ← l)
+    (sym (append-assoc (rowWords (s .block .board .rows) (s .block .board .count)) (netWords (s .nets) 64)
+    (endWord (s .block .board .count) (length (netWords (s .nets) 64)) ∷ [])))
 
-pub all-written : (s : code.Session) (before mid after : List ℕ) (rows at w : ℕ) → length (s .nets) ≡ 64 → s .board .count ≤ 31 → 96 ≤ length before
-    → rows ≡ s .board .count → mid ≡ startWith (rowWords (s .board .rows) (s .board .count)) before
+pub all-written : (s : code.Session) (before mid after : List ℕ) (rows at w : ℕ) → length (s .nets) ≡ 64 → s .block .board .count ≤ 31 → 96 ≤ length before
+    → rows ≡ s .block .board .count → mid ≡ startWith (rowWords (s .block .board .rows) (s .block .board .count)) before
     → Continues (netWords (s .nets) 64) mid after rows at
-    → w ≡ endWord (s .board .count) ((at - rows) % 256)
+    → w ≡ endWord (s .block .board .count) ((at - rows) % 256)
     → (at < length before) × (length after ≡ length before) × WrittenWords (boardWords (sessionOf s)) before (set after at w) (at + 1)
 all-written s before mid after rows at w e h r q m C f =
-    let R = rowWords (s .board .rows) (s .board .count) in let N = netWords (s .nets) 64 in
-    let lr : length R ≡ s .board .count = row-words-length (s .board .rows) (s .board .count) in
+    let R = rowWords (s .block .board .rows) (s .block .board .count) in let N = netWords (s .nets) 64 in
+    let lr : length R ≡ s .block .board .count = row-words-length (s .block .board .rows) (s .block .board .count) in
     let ln : length N ≤ 64 = net-words-le (s .nets) 64 (omega arith) in
     let i : at ≡ rows + length N = C .index in
     let c : (at - rows) % 256 ≡ length N = omega arith in
     let b : after ≡ startWith (R ++ N) before = C .buffer R before (omega arith) m in
     let l : length (R ++ N) ≡ at = omega (arith, length-append R N) in
-    let x : w ≡ endWord (s .board .count) (length N) = rw c at f in
+    let x : w ≡ endWord (s .block .board .count) (length N) = rw c at f in
     let p = parts s e in (
       omega arith,
       stored-length (R ++ N) after before (omega arith) b,
       rw p (record {
-        count = omega (arith, length-append (R ++ N) (endWord (s .board .count) (length N) ∷ []));
-        buffer = rw x (store-next (R ++ N) after before at (endWord (s .board .count) (length N)) l (omega arith) b);
+        count = omega (arith, length-append (R ++ N) (endWord (s .block .board .count) (length N) ∷ []));
+        buffer = rw x (store-next (R ++ N) after before at (endWord (s .block .board .count) (length N)) l (omega arith) b);
       }),
     )
 

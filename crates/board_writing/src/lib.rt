@@ -69,11 +69,11 @@ fn write_nets(nets: [Place; 64], out: &mut [u32], from: usize) -> usize
 
 // The board and the nets of a sound session, from the start of the buffer.
 fn write_sound(s: Session, out: &mut [u32]) -> usize
-    requires { ⌜ s .board .count ≤ 31 ⌝ }
+    requires { ⌜ s .block .board .count ≤ 31 ⌝ }
     requires { ⌜ 96 ≤ length (now out) ⌝ }
     ensures { λ r. ⌜ WrittenWords (boardWords (sessionOf s)) (now (out .entry)) (now (out .exit)) r ⌝ }
 {
-    let board = s.board;
+    let board = s.block.board;
     let nets = s.nets;
     let rows = wide(board.count);
     write_rows(board, out);

@@ -22,7 +22,7 @@ unfoldable pub judged : Session → List ℕ → Result (List (List Direction))
 judged s ws =
     unless (firstRefusal (line (badCount ws) 41 0 ∷ []))
     (unless (wordsRefused (length (s .nets)) 0 between (s .nets) ws)
-    (andThen (walkPaths (s .board) (pathsFrom 0 (s .nets) ws) []) (λ used. yes (pathsIn (pathsFrom 0 (s .nets) ws)))))
+    (andThen (walkPaths (s .block .board) (pathsFrom 0 (s .nets) ws) []) (λ used. yes (pathsIn (pathsFrom 0 (s .nets) ws)))))
 
 abbrev pub ifSound : {A : Type 0} → Session → Result A → Result A
 ifSound s x = unless (firstRefusal (line (not (sound? s)) 20 0 ∷ [])) x

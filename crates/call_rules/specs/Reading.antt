@@ -7,12 +7,13 @@ use lib.Dec.{leb, ltb, eqb}
 use lib.ListN.{length}
 use Rattle.board.specs.Board.{Board}
 use Rattle.board.specs.declared.Row.{Row}
+use Rattle.board_block.specs.Block.{Block, plain}
 use Rattle.board_convex.specs.Test.{isConvex}
 use Rattle.net.specs.declared.Net.{Net}
 use Rattle.session_rules.specs.Refusal.{Refusal, refusal, Line, line, firstRefusal}
-use Rattle.session_rules.specs.Session.{Session, insert}
+use Rattle.session_rules.specs.Session.{Session, withNets, insert}
 use Rattle.session_rules.specs.Add.{addRefused}
-use Rattle.session_rules.specs.Sound.{blank}
+use Rattle.session_rules.specs.Sound.{bare, blank}
 use Rattle.words.specs.BoardWord.{boardWord}
 use Rattle.words.specs.Bytes.{wordsIn, uneven}
 use Rattle.words.specs.declared.BoardWord.{BoardWord}
@@ -106,7 +107,7 @@ abbrev pub placedAt : ℕ → Option Refusal → Option Refusal
 placedAt i none = none
 placedAt i (some r) = some (refusal (r .number) i)
 
-unfoldable pub addListed : Board → List Net → List Listed → Result (List Net)
+unfoldable pub addListed : Block → List Net → List Listed → Result (List Net)
 addListed b on [] = yes on
 addListed b on (n ∷ ns) = unless (placedAt (n .index) (addRefused b on (n .net))) (addListed b (insert (n .net) on) ns)
 
@@ -117,11 +118,14 @@ reverse (n ∷ ns) back = reverse ns (n ∷ back)
 abbrev pub boardIn : Taken → Board
 boardIn t = record { rows = t .rows }
 
+abbrev pub blockIn : Taken → Block
+blockIn t = plain (boardIn t)
+
 -- "Reading gives a session with an empty pile."
 unfoldable pub readNets : Taken → Result Session
 readNets t =
-    andThen (addListed (boardIn t) [] (reverse (t .nets) []))
-    (λ ns. yes (record { board = boardIn t; nets = ns; pile = [] }))
+    andThen (addListed (blockIn t) [] (reverse (t .nets) []))
+    (λ ns. yes (withNets (bare (blockIn t)) ns []))
 
 -- "then 16"
 unfoldable pub readTaken : Taken → Result Session

@@ -52,14 +52,14 @@ overfullRefused (some x) = some (overfullRefusal x)
 unfoldable pub routeRefused : Session → (room : ℕ) → Option Refusal
 routeRefused s room =
     orElse (firstRefusal (line (not (sound? s)) 20 0 ∷ line (ltb room (routeRoom s)) 31 0 ∷ []))
-    (orElse (oddRefused (head? (oddVertices (s .board) (pairs (s .nets)))))
-    (overfullRefused (head? (overfullCuts (s .board) (pairs (s .nets))))))
+    (orElse (oddRefused (head? (oddVertices (s .block .board) (pairs (s .nets)))))
+    (overfullRefused (head? (overfullCuts (s .block .board) (pairs (s .nets))))))
 
 -- "A routing is handed back as its routing words at the start of the buffer, as many as that answer."
 -- "Which routing is handed back is left open; that it is one is not."
 pub record HandsBack (s : Session) (before after : List ℕ) (count : ℕ) : Type 0 where
   pub paths : List (List Direction)
-  pub routing : Routing (s .board) (pairs (s .nets)) paths
+  pub routing : Routing (s .block .board) (pairs (s .nets)) paths
   pub words : after ≡ writtenInto before (routingWords (s .nets) paths)
   pub counted : count ≡ length (routingWords (s .nets) paths)
 
@@ -72,7 +72,7 @@ pub data Routes (s : Session) (before : List ℕ) : Result ℕ → (after : List
 -- ── on a buffer of bytes: "A buffer of bytes to be written counts as its whole groups of four." ──
 pub record HandsBackBytes (s : Session) (before after : List ℕ) (count : ℕ) : Type 0 where
   pub paths : List (List Direction)
-  pub routing : Routing (s .board) (pairs (s .nets)) paths
+  pub routing : Routing (s .block .board) (pairs (s .nets)) paths
   pub bytes : after ≡ writtenInto before (bytesOf (routingWords (s .nets) paths))
   pub counted : count ≡ length (routingWords (s .nets) paths)
 

@@ -14,7 +14,7 @@ use Rattle.call_rules.specs.Reading.{boardLimit}
 -- "Row words top to bottom, then net words in rising number, then one end word."
 unfoldable pub boardWords : Session → List ℕ
 boardWords s =
-    map rowWord (s .board .rows) ++ (map netWord (s .nets) ++ (endWord (length (s .board .rows)) (length (s .nets)) ∷ []))
+    map rowWord (s .block .board .rows) ++ (map netWord (s .nets) ++ (endWord (length (s .block .board .rows)) (length (s .nets)) ∷ []))
 
 -- the words written into a buffer: "words after the end word are untouched"
 abbrev pub writtenInto : List ℕ → List ℕ → List ℕ

@@ -4,7 +4,7 @@ use mathlib.Core.Path.{_≡_, refl, ap}
 use mathlib.Core.Bool.{Bool, true, false, xor}
 use mathlib.Core.List.{List, [], _∷_}
 use mathlib.Core.Logic.{inl, inr}
-use Prim.Native.Nat.{_-_, _≤_}
+use Prim.Native.Nat.{ℕ, _-_, _≤_}
 use native.Mathlib.Omega.{arith}
 use Rattle.count.specs.Truth.{bool, one}
 use Rattle.board.specs.Board.{Board, IsVertex}
@@ -42,18 +42,19 @@ on-vertex b v h = elim (bool (vertex? b v)) [
   | inr e ↦ absurd (let z : pins b v ≡ 0 = rw e refl in omega arith)
 ]
 
--- no pin where there is no vertex: with no more terminals than pins, every terminal stands on a vertex
-pub pins-stand : (b : Board) (ps : List Pair) → ((v : Vertex) → terminals ps v ≤ pins b v) → All (IsVertex b) ps
-unfolding terminals
-pins-stand b [] h = tt
-pins-stand b (p ∷ ps) h = (
-  on-vertex b (p .first) (omega (arith, h (p .first), ap one (same-self (p .first)))),
-  on-vertex b (p .second) (omega (arith, h (p .second), ap one (same-self (p .second)))),
-  pins-stand b ps (λ v. omega (arith, h v)),
-)
+-- Whatever count of pins each vertex has, never above the board's own: where no vertex has more terminals than pins,
+module _ (b : Board) (P : Vertex → ℕ) (few : (v : Vertex) → P v ≤ pins b v) where
+  -- every terminal stands on a vertex, since there is no pin elsewhere,
+  pub pins-stand : (ps : List Pair) → ((v : Vertex) → terminals ps v ≤ P v) → All (IsVertex b) ps
+  unfolding terminals
+  pins-stand [] h = tt
+  pins-stand (p ∷ ps) h = (
+    on-vertex b (p .first) (omega (arith, h (p .first), few (p .first), ap one (same-self (p .first)))),
+    on-vertex b (p .second) (omega (arith, h (p .second), few (p .second), ap one (same-self (p .second)))),
+    pins-stand ps (λ v. omega (arith, h v)),
+  )
 
--- and it has no more than 4 minus its degree
-pub pins-room : (b : Board) (ps : List Pair) → ((v : Vertex) → terminals ps v ≤ pins b v) → (v : Vertex) → IsVertex b v
-    → terminals ps v ≤ 4 - degree b v
-unfolding pins
-pins-room b ps h v k = let e : pins b v ≡ 4 - degree b v = rw (vertex-exact b v .1 k) refl in omega (arith, h v)
+  -- and no vertex has more than 4 minus its degree
+  pub pins-room : (ps : List Pair) → ((v : Vertex) → terminals ps v ≤ P v) → (v : Vertex) → IsVertex b v → terminals ps v ≤ 4 - degree b v
+  unfolding pins
+  pins-room ps h v k = let e : pins b v ≡ 4 - degree b v = rw (vertex-exact b v .1 k) refl in omega (arith, h v, few v)

@@ -15,6 +15,8 @@ use Rattle.board.specs.Board.{Board, Within}
 use Rattle.board.specs.Path.{Convex}
 use Rattle.board.specs.View.{boardOf}
 use Rattle.board.specs.declared.Board as code-board
+use Rattle.board_block.specs.View.{blockOf}
+use Rattle.board_block.specs.declared.Block as code-block
 use Rattle.board.specs.declared.Direction.{Direction}
 use Rattle.board_convex.specs.Test.{isConvex}
 use Rattle.net.specs.declared.Net.{Net}
@@ -50,7 +52,7 @@ use Rattle.route_call.specs.declared.RouteAnswer.{RouteAnswer}
 use Rattle.route_call.specs.Answers.{routeAnswer}
 use Rattle.cidrask.specs.Told.{tell, refusedTold, judgeTold, RoutePromise, JudgePromise}
 use Rattle.session_history.specs.Made.{Made, Chain}
-use Rattle.session_history.specs.Routing as history
+use Rattle.session_history.specs.Demand as history
 
 -- ── 1 ──
 -- "Every accepted call .. gives exactly what document 01 lays down for its input, or, for a routing, one of those allowed there. Every refused
@@ -102,7 +104,7 @@ pub record Demand1 : Type 0 where
 -- the words are those of a routing of the session's nets, which has the paths dss
 pub record IsRouting (s : Session) (ws : List ℕ) (dss : List (List Direction)) : Type 0 where
   pub words : ws ≡ routingWords (sessionOf s .nets) dss
-  pub routing : Routing (sessionOf s .board) (pairs (sessionOf s .nets)) dss
+  pub routing : Routing (sessionOf s .block .board) (pairs (sessionOf s .nets)) dss
 
 pub record Demand2 : Type 0 where
   -- "A board is taken as convex exactly when any two of its vertices are joined inside it by a path with at most one bend."
@@ -117,7 +119,7 @@ pub record Demand2 : Type 0 where
   pub reads-back : (s : Session) (before : List ℕ) (w : WriteAnswer) (after : List ℕ) → Sound (sessionOf s) → 96 ≤ length before
       → WritePromise (sessionOf s) before w after
       → (n : ℕ) × (writeAnswer w ≡ yes n) × ((r : AfterRead) → ReadPromise (readWords (take n after)) r
-      → (readAnswer (r .answer) ≡ none) × (sessionOf (r .session) .board ≡ sessionOf s .board) × (sessionOf (r .session) .nets ≡ sessionOf s .nets))
+      → (readAnswer (r .answer) ≡ none) × (sessionOf (r .session) .block ≡ sessionOf s .block) × (sessionOf (r .session) .nets ≡ sessionOf s .nets))
   -- and accepted words write back as the same words."
   pub writes-back : (ws : List ℕ) (r : AfterRead) (before : List ℕ) (w : WriteAnswer) (after : List ℕ) → ReadPromise (readWords ws) r
       → readAnswer (r .answer) ≡ none → 96 ≤ length before → WritePromise (sessionOf (r .session)) before w after
@@ -125,8 +127,8 @@ pub record Demand2 : Type 0 where
 
 -- ── 3 ──
 -- "For every list of adds, withdrawals, take-backs and routing calls, refused ones included, from a fresh session on any convex board": what then
--- holds is `Demand3` of crate session_history, file Routing, in the demand's own words. A session that `fresh` hands back on a convex board is fresh.
+-- holds is `Demand3` of crate session_history, file Demand, in the demand's own words. A session that `fresh` hands back on a convex board is fresh.
 pub record Demand3 : Type 0 where
   pub whole : (s : Session) (calls : List Made) → Fresh (sessionOf s) → Chain s calls → history.Demand3 s calls
-  pub start : (b : code-board.Board) (s : Session) → Within (boardOf b) → Convex (boardOf b) → FreshPromise b s
-      → Fresh (sessionOf s) × (sessionOf s ≡ bare (boardOf b))
+  pub start : (b : code-block.Block) (s : Session) → Within (blockOf b .board) → Convex (blockOf b .board) → FreshPromise b s
+      → Fresh (sessionOf s) × (sessionOf s ≡ bare (blockOf b))

@@ -8,7 +8,7 @@ use native.Mathlib.Omega.{arith}
 use lib.ListN.{length, take}
 use borrow.Author.Tests.{le-ltb}
 use Rattle.count.specs.Truth.{not-true}
-use Rattle.board.specs.Board.{Board}
+use Rattle.board_block.specs.Block.{Block}
 use Rattle.board.specs.declared.Direction.{Direction}
 use Rattle.net.specs.declared.Net.{Net}
 use Rattle.session_rules.specs.Refusal.{Refusal, refusal}
@@ -113,9 +113,9 @@ c-judged board list = (λ q e. rw e refl, λ s e. rw e refl)
 
 pub demand-1 : Demand1
 demand-1 = record {
-  add = λ s n r P. (P .answers, P .next, P .kept);
-  withdraw = λ s k r P. (P .answers, P .next, P .kept);
-  take-back = λ s r P. (P .answers, P .next, P .kept);
+  add = λ s n r P. (P .call .answers, P .call .next, P .call .kept);
+  withdraw = λ s k r P. (P .call .answers, P .call .next, P .call .kept);
+  take-back = λ s r P. (P .call .answers, P .call .next, P .call .kept);
   read = λ x r P. (P .answers, P .session, λ q e. P .session ∙ ap handedBack e);
   write = λ s before r after P. (
     P .answers,
@@ -142,7 +142,7 @@ demand-1 = record {
 }
 
 -- ── 2 ──
-numbered : (b : Board) (ns : List Net) → AllGood b ns → Numbered ns
+numbered : (b : Block) (ns : List Net) → AllGood b ns → Numbered ns
 numbered b [] g = tt
 numbered b (n ∷ ns) g = (omega (arith, g .0 .high), numbered b ns (g .1))
 
@@ -174,7 +174,7 @@ demand-2 = record {
   convex = λ b r D W. (λ e. D .exact .0 e .1, λ C. D .exact .1 (W, C));
   passes = λ s ws r S e.
       let m = sessionOf s in let F = sound-fine m S in
-      let X = passes-exactly m (S .within) (numbered (m .board) (m .nets) (F .good)) (few-nets (m .board) (m .nets) (F .rising) (F .good)) ws in
+      let X = passes-exactly m (S .within) (numbered (m .block) (m .nets) (F .good)) (few-nets (m .block) (m .nets) (F .rising) (F .good)) ws in
       let j = e ∙ judged-yes m ws S in (
         λ k. let p = paths-of m (judged m ws) (k .0) (sym j ∙ k .1) in let q = X (p .0) .0 (p .1) in
             (p .0, record { words = q .words; routing = q .routing }),
@@ -194,7 +194,7 @@ demand-2 = record {
             let f = buffer-reads m before (length (boardWords m)) c in
             let k = read-as (readWords (take (length (boardWords m)) after)) (unpiled m) r
             (ap (λ (t : List ℕ). readWords (take (length (boardWords m)) t)) (W .buffer) ∙ f) P in
-            (k .0, ap (λ (t : machine.Session). t .board) (k .1), ap (λ (t : machine.Session). t .nets) (k .1)),
+            (k .0, ap (λ (t : machine.Session). t .block) (k .1), ap (λ (t : machine.Session). t .nets) (k .1)),
       );
   writes-back = λ ws r before w after P e l W.
       let m = sessionOf (r .session) in

@@ -15,6 +15,7 @@ ghost use Rattle.board_writing.specs.Promise.{WritePromise};
 ghost use Rattle.judge_call.specs.Answers.{judgementOf, likenessOf};
 ghost use Rattle.route_call.specs.Answers.{routeAnswer};
 use board::Board;
+use board_block::Block;
 use board_reading::AfterRead;
 use board_writing::WriteAnswer;
 use judge_call::Judgement;
@@ -33,8 +34,8 @@ pub fn is_convex(b: Board) -> bool
     board_convex::is_convex(b)
 }
 
-// A session on the board, with no nets and an empty pile.
-pub fn fresh(b: Board) -> Session
+// A session on the block, with no nets and an empty pile.
+pub fn fresh(b: Block) -> Session
     ensures { λ r. ⌜ FreshPromise b r ⌝ }
 {
     session::fresh(b)

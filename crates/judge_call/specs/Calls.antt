@@ -24,7 +24,7 @@ module _ (s : Session) where
   unfolding judgeWords
   judge-unsound ws e = rw e refl
 
-  pub judge-sound : (ws : List ℕ) → sound? s ≡ true → judgeWords s ws ≡ verdictOn (s .board) (s .nets) ws
+  pub judge-sound : (ws : List ℕ) → sound? s ≡ true → judgeWords s ws ≡ verdictOn (s .block .board) (s .nets) ws
   unfolding judgeWords judged
   judge-sound ws e = rw e refl
 
@@ -32,7 +32,7 @@ module _ (s : Session) where
   unfolding compareWords
   compare-unsound vs ws e = rw e refl
 
-  pub compare-sound : (vs ws : List ℕ) → sound? s ≡ true → compareWords s vs ws ≡ comparisonOn (s .board) (s .nets) vs ws
+  pub compare-sound : (vs ws : List ℕ) → sound? s ≡ true → compareWords s vs ws ≡ comparisonOn (s .block .board) (s .nets) vs ws
   unfolding compareWords judged
   compare-sound vs ws e = rw e refl
 

@@ -31,7 +31,7 @@ pub fn judge_words(s: Session, words: &[u32]) -> Judgement
     if !s.sound() {
         Judgement::Unsound
     } else {
-        let board = s.board;
+        let board = s.block.board;
         let nets = s.nets;
         match judge_list::judge(board, nets, words) {
             Verdict::Passed(report) => Judgement::Passed(report),
@@ -47,7 +47,7 @@ pub fn compare_words(s: Session, first: &[u32], second: &[u32]) -> Likeness
     if !s.sound() {
         return Likeness::Unsound;
     }
-    let board = s.board;
+    let board = s.block.board;
     let nets = s.nets;
     match judge_list::compare(board, nets, first, second) {
         Comparison::Alike(alike) => Likeness::Alike(alike),

@@ -33,7 +33,7 @@ use Rattle.judge_laws.specs.Edges.{edges-few, joins-edges, length-edges}
 
 -- DEFINITION: the words are those of a routing of the session's nets, with the paths dss
 pub record Passing (s : Session) (ws : List ℕ) (dss : List (List Direction)) : Type 0 where
-  pub routing : Routing (s .board) (pairs (s .nets)) dss
+  pub routing : Routing (s .block .board) (pairs (s .nets)) dss
   pub words : ws ≡ routingWords (s .nets) dss
 
 -- the terminals of the paths in a list are those of the nets
@@ -53,13 +53,13 @@ at-most k m n e h = omega arith
 
 walked : (s : Session) (ws : List ℕ) (dss : List (List Direction)) → wordsRefused (length (s .nets)) 0 between (s .nets) ws ≡ none
     → (x : Result (List Edge))
-    → walkPaths (s .board) (pathsFrom 0 (s .nets) ws) [] ≡ x → andThen x (λ used. yes (pathsIn (pathsFrom 0 (s .nets) ws))) ≡ yes dss
+    → walkPaths (s .block .board) (pathsFrom 0 (s .nets) ws) [] ≡ x → andThen x (λ used. yes (pathsIn (pathsFrom 0 (s .nets) ws))) ≡ yes dss
     → Passing s ws dss
 unfolding routingWords uses
 walked s ws dss h (no r) e f = no-yes f
 walked s ws dss h (yes used) e f =
     let r = shape-read (length (s .nets)) 0 between (s .nets) ws h in
-    let w = paths-went (s .board) (pathsFrom 0 (s .nets) ws) [] used e in
+    let w = paths-went (s .block .board) (pathsFrom 0 (s .nets) ws) [] used e in
     let d : pathsIn (pathsFrom 0 (s .nets) ws) ≡ dss = yes-eq f in
     let p : pathsIn (pathsFrom 0 (s .nets) ws) ≡ map steps (r .runs) =
     ap (λ (v : List ℕ). pathsIn (pathsFrom 0 (s .nets) v)) (r .words) ∙ paths-in-words (length (s .nets)) 0 (r .each) in
@@ -79,9 +79,9 @@ walked s ws dss h (yes used) e f =
     }
 
 shaped : (s : Session) (ws : List ℕ) (dss : List (List Direction)) (x : Option Refusal) → wordsRefused (length (s .nets)) 0 between (s .nets) ws ≡ x
-    → unless x (andThen (walkPaths (s .board) (pathsFrom 0 (s .nets) ws) []) (λ used. yes (pathsIn (pathsFrom 0 (s .nets) ws)))) ≡ yes dss
+    → unless x (andThen (walkPaths (s .block .board) (pathsFrom 0 (s .nets) ws) []) (λ used. yes (pathsIn (pathsFrom 0 (s .nets) ws)))) ≡ yes dss
     → Passing s ws dss
-shaped s ws dss none e f = walked s ws dss e (walkPaths (s .board) (pathsFrom 0 (s .nets) ws) []) refl f
+shaped s ws dss none e f = walked s ws dss e (walkPaths (s .block .board) (pathsFrom 0 (s .nets) ws) []) refl f
 shaped s ws dss (some r) e f = no-yes f
 
 -- a list that passes is the routing words of a routing
@@ -126,27 +126,27 @@ steps-map : (dss : List (List Direction)) → map steps (map runsOf dss) ≡ dss
 steps-map [] = refl
 steps-map (ds ∷ dss) = rw (steps-back ds, steps-map dss) refl
 
-pub passes-complete : (s : Session) → Within (s .board) → Numbered (s .nets) → length (s .nets) ≤ 64 → (dss : List (List Direction))
-    → Routing (s .board) (pairs (s .nets)) dss → judged s (routingWords (s .nets) dss) ≡ yes dss
+pub passes-complete : (s : Session) → Within (s .block .board) → Numbered (s .nets) → length (s .nets) ≤ 64 → (dss : List (List Direction))
+    → Routing (s .block .board) (pairs (s .nets)) dss → judged s (routingWords (s .nets) dss) ≡ yes dss
 unfolding judged routingWords uses
 passes-complete s w m l dss r =
     let all = length (s .nets) in
-    let few = edges-few (s .board) w (flatten (trails (pairs (s .nets)) dss)) (joins-edges (s .board) (pairs (s .nets)) dss (r .joins)) (r .once) in
-    let each = each-runs (s .board) w (s .nets) dss (r .joins) few in
+    let few = edges-few (s .block .board) w (flatten (trails (pairs (s .nets)) dss)) (joins-edges (s .block .board) (pairs (s .nets)) dss (r .joins)) (r .once) in
+    let each = each-runs (s .block .board) w (s .nets) dss (r .joins) few in
     let ws = routingWords (s .nets) dss in
     let same : ws ≡ wordsBy all (s .nets) (map runsOf dss) =
     sym (words-back all each ∙ ap (λ (x : List (List Direction)). pathsWords (s .nets) x ++ (routingEndWord all ∷ [])) (steps-map dss)) in
     let count = length-append (pathsWords (s .nets) dss) (routingEndWord all ∷ []) in
-    let short = words-few (s .board) (s .nets) dss (r .joins) in
+    let short = words-few (s .block .board) (s .nets) dss (r .joins) in
     let shape : wordsRefused all 0 between (s .nets) ws ≡ none = rw same (shape-passes all 0 (omega arith) each m) in
     let ends : endsOf (pathsFrom 0 (s .nets) ws) ≡ pairs (s .nets) = rw same (ends-in-words all 0 each) in
     let paths : pathsIn (pathsFrom 0 (s .nets) ws) ≡ dss = rw same (paths-in-words all 0 each ∙ steps-map dss) in
-    let (used, q) = paths-can (s .board) (pathsFrom 0 (s .nets) ws) [] (rw (ends, paths) (r .joins))
+    let (used, q) = paths-can (s .block .board) (pathsFrom 0 (s .nets) ws) [] (rw (ends, paths) (r .joins))
     (rw (ends, paths) (λ e. omega (arith, r .once e))) in
     rw (ne-eqb (length ws) 0 (λ z. omega arith), le-ltb 2049 (length ws) (omega arith), shape, q) (ap yes paths)
 
 -- THE LAW: a list passes, with the paths dss, exactly when it is the routing words of a routing of the nets with those paths.
-pub passes-exactly : (s : Session) → Within (s .board) → Numbered (s .nets) → length (s .nets) ≤ 64 → (ws : List ℕ) (dss : List (List Direction))
+pub passes-exactly : (s : Session) → Within (s .block .board) → Numbered (s .nets) → length (s .nets) ≤ 64 → (ws : List ℕ) (dss : List (List Direction))
     → (judged s ws ≡ yes dss) ↔ Passing s ws dss
 passes-exactly s w m l ws dss = (
   passes-sound s ws dss,

@@ -28,7 +28,7 @@ pub record Reported (s : Session) (ws : List ℕ) (r : Report) : Type 0 where
   pub passing : Passing s ws paths
   pub report : r ≡ reportOf (pairs (s .nets)) paths
 
-pub reports-exactly : (s : Session) → Within (s .board) → Numbered (s .nets) → length (s .nets) ≤ 64 → (ws : List ℕ) (r : Report)
+pub reports-exactly : (s : Session) → Within (s .block .board) → Numbered (s .nets) → length (s .nets) ≤ 64 → (ws : List ℕ) (r : Report)
     → (andThen (judged s ws) (λ dss. yes (reportOf (pairs (s .nets)) dss)) ≡ yes r) ↔ Reported s ws r
 reports-exactly s w m l ws r = (
   λ h. go (judged s ws) refl h,

@@ -7,10 +7,12 @@ use mathlib.Core.Option.{Option, none, some}
 use Prim.Native.Nat.{ℕ}
 use lib.ListN.{length, replicate}
 use Rattle.board.specs.Board.{Board}
+use Rattle.board_block.specs.Block.{plain}
 use Rattle.net.specs.declared.Net.{Net}
 use Rattle.session_rules.specs.Refusal as machine
 use Rattle.session_rules.specs.Refusal.{line, firstRefusal}
-use Rattle.session_rules.specs.Session.{Session, pairs}
+use Rattle.session_rules.specs.Session.{Session, withNets, pairs}
+use Rattle.session_rules.specs.Sound.{bare}
 use Rattle.call_rules.specs.Result.{Result, no, yes, andThen, unless}
 use Rattle.call_rules.specs.Shape.{between, badCount, wordsRefused, pathsFrom}
 use Rattle.call_rules.specs.Walk.{walkPaths}
@@ -33,10 +35,10 @@ use Rattle.judge_list.specs.declared.Comparison.the-variants as comparis
 
 -- a session on a board, with these nets and an empty pile
 abbrev pub on : Board → List Net → Session
-on b ns = record { board = b; nets = ns; pile = [] }
+on b ns = withNets (bare (plain b)) ns []
 
 -- the pile plays no part in judging
-pub judged-any : (s : Session) (ws : List ℕ) → judged s ws ≡ judged (on (s .board) (s .nets)) ws
+pub judged-any : (s : Session) (ws : List ℕ) → judged s ws ≡ judged (on (s .block .board) (s .nets)) ws
 unfolding judged
 judged-any s ws = refl
 

@@ -56,10 +56,10 @@ fn net_of(number: u8) -> Net {
 
 fn full() -> Session {
     let row = Row { left: 0, right: 31 };
-    let mut session = session::fresh(Board {
+    let mut session = session::fresh(board_block::plain(Board {
         count: 31,
         rows: [row; 31],
-    });
+    }));
     let mut number: u8 = 1;
     while number <= 64 {
         let after = session.add(net_of(number));

@@ -20,9 +20,9 @@ use net::Held;
 use net::Net;
 use net::Pair;
 use net::Place;
-use net_places::Pile;
 use session::Session;
 use session_answers::Told;
+use session_pile::Pile;
 
 // A number that was read, and where it ended.
 struct Read {
@@ -229,7 +229,7 @@ fn row_line(session: Session, s: &[u8], at: usize) -> Session {
         left: left.value,
         right: right.value,
     };
-    session::fresh(with_row(session.board, row))
+    session::fresh(board_block::plain(with_row(session.block.board, row)))
 }
 
 fn add_line(session: Session, s: &[u8], at: usize) -> Session {
@@ -283,10 +283,10 @@ fn line(session: Session, s: &[u8], at: usize) -> Session {
 
 fn replay(s: &[u8]) -> Session {
     let none = Row { left: 0, right: 0 };
-    let mut session = session::fresh(Board {
+    let mut session = session::fresh(board_block::plain(Board {
         count: 0,
         rows: [none; 31],
-    });
+    }));
     let mut at: usize = 0;
     let mut turns = s.len();
     while 0 < turns {

@@ -46,14 +46,14 @@ written (answer.Overfull x) = 0
 -- a sound session with no odd vertex
 pub record Even (s : Session) : Type 0 where
   pub sound : sound? s ≡ true
-  pub even : oddVertices (s .board) (pairs (s .nets)) ≡ []
+  pub even : oddVertices (s .block .board) (pairs (s .nets)) ≡ []
 
 pub even-sound : (s : Session) → Even s → Sound s
 even-sound s E = sound-exact s .0 (E .sound)
 
 -- and with no overfull cut
 abbrev pub Roomy : Session → Type 0
-Roomy s = overfullCuts (s .board) (pairs (s .nets)) ≡ []
+Roomy s = overfullCuts (s .block .board) (pairs (s .nets)) ≡ []
 
 module _ (s : Session) (before : List ℕ) where
   pub route-unsound : sound? s ≡ false → Routes s before (no (refusal 20 0)) before
@@ -64,12 +64,12 @@ module _ (s : Session) (before : List ℕ) where
   unfolding routeRefused
   route-short e h = refused {r = refusal 31 0} (rw (e, lt-ltb (length before) 2049 h) refl)
 
-  pub route-odd : sound? s ≡ true → 2049 ≤ length before → (v : Vertex) → head? (oddVertices (s .board) (pairs (s .nets))) ≡ some v
+  pub route-odd : sound? s ≡ true → 2049 ≤ length before → (v : Vertex) → head? (oddVertices (s .block .board) (pairs (s .nets))) ≡ some v
       → Routes s before (no (oddRefusal v)) before
   unfolding routeRefused
   route-odd e h v f = refused {r = oddRefusal v} (rw (e, le-ltb (length before) 2049 h, f) refl)
 
-  pub route-overfull : Even s → 2049 ≤ length before → (x : Cut) → head? (overfullCuts (s .board) (pairs (s .nets))) ≡ some x
+  pub route-overfull : Even s → 2049 ≤ length before → (x : Cut) → head? (overfullCuts (s .block .board) (pairs (s .nets))) ≡ some x
       → Routes s before (no (overfullRefusal x)) before
   unfolding routeRefused
   route-overfull E h x f = refused {r = overfullRefusal x} (rw (E .sound, le-ltb (length before) 2049 h, E .even, f) refl)
@@ -81,16 +81,16 @@ module _ (s : Session) (before : List ℕ) where
 
 -- ── what the searches answer, of the session's own list of pairs ──
 module _ (s : Session) (ps : List Pair) (same : pairs (s .nets) ≡ ps) where
-  pub odd-at : (v : Vertex) → code-vertex.the-variants.At v ≡ foundVertex (head? (oddVertices (s .board) ps))
-      → head? (oddVertices (s .board) (pairs (s .nets))) ≡ some v
+  pub odd-at : (v : Vertex) → code-vertex.the-variants.At v ≡ foundVertex (head? (oddVertices (s .block .board) ps))
+      → head? (oddVertices (s .block .board) (pairs (s .nets))) ≡ some v
   odd-at v e = rw same (vertex-some _ v e)
 
-  pub none-odd : code-vertex.the-variants.Nothing ≡ foundVertex (head? (oddVertices (s .board) ps)) → oddVertices (s .board) (pairs (s .nets)) ≡ []
-  none-odd e = rw same (head-none (oddVertices (s .board) ps) .0 (vertex-none _ e))
+  pub none-odd : code-vertex.the-variants.Nothing ≡ foundVertex (head? (oddVertices (s .block .board) ps)) → oddVertices (s .block .board) (pairs (s .nets)) ≡ []
+  none-odd e = rw same (head-none (oddVertices (s .block .board) ps) .0 (vertex-none _ e))
 
-  pub overfull-at : (x : Cut) → code-cut.the-variants.At x ≡ foundCut (head? (overfullCuts (s .board) ps))
-      → head? (overfullCuts (s .board) (pairs (s .nets))) ≡ some x
+  pub overfull-at : (x : Cut) → code-cut.the-variants.At x ≡ foundCut (head? (overfullCuts (s .block .board) ps))
+      → head? (overfullCuts (s .block .board) (pairs (s .nets))) ≡ some x
   overfull-at x e = rw same (found-some _ x e)
 
-  pub none-overfull : code-cut.the-variants.Nothing ≡ foundCut (head? (overfullCuts (s .board) ps)) → overfullCuts (s .board) (pairs (s .nets)) ≡ []
-  none-overfull e = rw same (head-none (overfullCuts (s .board) ps) .0 (found-none _ e))
+  pub none-overfull : code-cut.the-variants.Nothing ≡ foundCut (head? (overfullCuts (s .block .board) ps)) → overfullCuts (s .block .board) (pairs (s .nets)) ≡ []
+  none-overfull e = rw same (head-none (overfullCuts (s .block .board) ps) .0 (found-none _ e))

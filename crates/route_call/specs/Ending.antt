@@ -61,19 +61,19 @@ room-edge b ps P S' A e = elim (bool (leftOf S' false (lo e) && leftOf S' false 
       omega (arith, ap one j, one-le (leftOf S' false (lo e) && leftOf S' false (hi e)))
 ]
 
-module _ (s : Session) (P : Problem (s .board) (pairs (s .nets))) (even : oddVertices (s .board) (pairs (s .nets)) ≡ [])
-    (roomy : overfullCuts (s .board) (pairs (s .nets)) ≡ []) {first second : List ℕ} {h : ℕ} (tall : h ≡ height (s .board))
-    (L : Lined (s .board) first second (h + 1))
+module _ (s : Session) (P : Problem (s .block .board) (pairs (s .nets))) (even : oddVertices (s .block .board) (pairs (s .nets)) ≡ [])
+    (roomy : overfullCuts (s .block .board) (pairs (s .nets)) ≡ []) {first second : List ℕ} {h : ℕ} (tall : h ≡ height (s .block .board))
+    (L : Lined (s .block .board) first second (h + 1))
     {la lb ids s1 s2 : List ℕ} {n : ℕ} (T : Table (pairs (s .nets)) n la lb ids s1 s2) (most : n ≤ 64) where
   abbrev R : Run
-  R = R0 (s .board) (pairs (s .nets)) P even roomy tall L T
+  R = R0 (s .block .board) (pairs (s .nets)) P even roomy tall L T
 
   count : n ≡ length (s .nets)
   count = T .count ∙ length-map (s .nets) (λ m. m .ends)
 
   ends : pairs (s .nets) ≡ pairsFrom (rowR R) 0 (length (s .nets))
   ends =
-      let e = row-is (s .board) (pairs (s .nets)) P even roomy tall L T in
+      let e = row-is (s .block .board) (pairs (s .nets)) P even roomy tall L T in
       let f : pairs (s .nets) ≡ pairsFrom (rowR R) 0 (length (pairs (s .nets))) = pairs-from (rowR R) noPair 0 (pairs (s .nets)) (λ i l.
       let z : 0 + i ≡ i = omega arith in
       rw z (ap (λ (x : Item). pair (x .a) (x .b)) (e i (omega (arith, T .count))))) in
@@ -88,15 +88,15 @@ module _ (s : Session) (P : Problem (s .board) (pairs (s .nets))) (even : oddVer
       → HandsBack s before after answer
   handed-back w start {la' = la'} {lb' = lb'} {ids' = ids'} {side' = side'} {vert' = vert'} {half' = half'} {s1' = s1'} {s2' = s2'} {d1' = d1'}
       {d2' = d2'} {lo' = lo'} {r = r} C room wrote =
-      let A = lined-alike (s .board) first second h (P .within .some) tall L in
+      let A = lined-alike (s .block .board) first second h (P .within .some) tall L in
       let K = ended.routed la lb ids (replicate 1024 0) (replicate 1024 0) (replicate 2112 0) s1 s2 (replicate 2112 0) (replicate 2112 0) first second
       (firstWork h n)
       la' lb' ids' side' vert' half' s1' s2' d1' d2' lo' r
       (subst (λ (v : Work). CutAll la lb ids (replicate 1024 0) (replicate 1024 0) (replicate 2112 0) s1 s2 (replicate 2112 0)
       (replicate 2112 0) first second v
       la' lb' ids' side' vert' half' s1' s2' d1' d2' lo' r) start C)
-      (starts (s .board) (pairs (s .nets)) P even roomy tall L T) (sized (s .board) (pairs (s .nets)) P even roomy tall L T) .1 in
+      (starts (s .block .board) (pairs (s .nets)) P even roomy tall L T) (sized (s .block .board) (pairs (s .nets)) P even roomy tall L T) .1 in
       handed side' vert' half' s1' s2' d1' d2' (K .ordered) s (P .within) (edgesLeft (leftOf (shapeR R) false))
-      (room-edge (s .board) (pairs (s .nets)) P (shapeR R) A) (rowR R)
+      (room-edge (s .block .board) (pairs (s .nets)) P (shapeR R) A) (rowR R)
       (subst (λ (k : ℕ). Routed (notesOf side' vert' half' s1' s2' d1' d2') (edgesLeft (leftOf (shapeR R) false)) k (rowR R)) count (K .routes))
       (λ i l. K .made i (omega (arith, count))) ends (omega (arith, count)) room wrote

@@ -1,15 +1,17 @@
 -- The nets of a sound session are a problem for the theorem.
 -- Assumes a sound session.
 use Rattle.session_laws.specs.Stays.{sound-fine}
+use Rattle.board_block.specs.Block.{pinsOf}
+use Rattle.board_block.specs.Pins.{pins-few}
 use Rattle.session_rules.specs.Session.{Session, pairs}
 use Rattle.session_rules.specs.Sound.{Sound}
 use Rattle.corner.specs.Problem.{Problem}
 use Rattle.corner.specs.Counted.{pins-stand, pins-room}
 
-pub problem-of : (s : Session) → Sound s → Problem (s .board) (pairs (s .nets))
+pub problem-of : (s : Session) → Sound s → Problem (s .block .board) (pairs (s .nets))
 problem-of s S = record {
   within = S .within;
   convex = S .convex;
-  stand = pins-stand (s .board) (pairs (s .nets)) (sound-fine s S .room);
-  pins = pins-room (s .board) (pairs (s .nets)) (sound-fine s S .room);
+  stand = pins-stand (s .block .board) (pinsOf (s .block)) (pins-few (s .block)) (pairs (s .nets)) (sound-fine s S .room);
+  pins = pins-room (s .block .board) (pinsOf (s .block)) (pins-few (s .block)) (pairs (s .nets)) (sound-fine s S .room);
 }

@@ -46,7 +46,7 @@ fn wire(s: Session, out: &mut [u32]) -> usize
     requires { ⌜ 2049 ≤ length (now out) ⌝ }
     ensures { λ r. ⌜ HandsBack (sessionOf s) (now (out .entry)) (now (out .exit)) r ⌝ }
 {
-    let board = s.board;
+    let board = s.block.board;
     let nets = s.nets;
     let mut lo = [0u8; 32];
     let mut hi = [0u8; 32];
@@ -87,7 +87,7 @@ fn route_even(s: Session, out: &mut [u32]) -> RouteAnswer
     requires { ⌜ 2049 ≤ length (now out) ⌝ }
     ensures { λ r. ⌜ Routes (sessionOf s) (now (out .entry)) (routeAnswer r) (now (out .exit)) ⌝ }
 {
-    let board = s.board;
+    let board = s.block.board;
     let nets = s.nets;
     let found = cut_search::first_overfull(board, nets);
     match found {
@@ -109,7 +109,7 @@ pub fn route(s: Session, out: &mut [u32]) -> RouteAnswer
     if out.len() < 2049 {
         return RouteAnswer::ShortBuffer;
     }
-    let board = s.board;
+    let board = s.block.board;
     let nets = s.nets;
     let odd = cut_search::first_odd(board, nets);
     match odd {

@@ -24,8 +24,8 @@ use Rattle.router_writer.specs.Paths.{pathsFrom, Short}
 use Rattle.router_writer.specs.Routes.{pairsFrom, paths-short, paths-routing}
 use Rattle.router_writer.specs.Fits.{words-fit}
 
-module _ (side vert half s1 s2 d1 d2 : List ℕ) (O : Ordered half d1 d2) (s : Session) (W : Within (s .board)) (B : Link → ℕ)
-    (edges : (e : Link) → B e ≤ one (onBoard (s .board) e)) (it : ℕ → Item)
+module _ (side vert half s1 s2 d1 d2 : List ℕ) (O : Ordered half d1 d2) (s : Session) (W : Within (s .block .board)) (B : Link → ℕ)
+    (edges : (e : Link) → B e ≤ one (onBoard (s .block .board) e)) (it : ℕ → Item)
     (R : Routed (notesOf side vert half s1 s2 d1 d2) B (length (s .nets)) it)
     (made : (i : ℕ) → i < length (s .nets) → it i ≡ born side vert half s1 s2 d1 d2 i)
     (ends : pairs (s .nets) ≡ pairsFrom it 0 (length (s .nets))) (most : length (s .nets) ≤ 64) where
@@ -41,12 +41,12 @@ module _ (side vert half s1 s2 d1 d2 : List ℕ) (O : Ordered half d1 d2) (s : S
   pub handed : {before after : List ℕ} {count : ℕ} → 2049 ≤ length before
       → (Short P (length (s .nets)) → Written (routingWords (s .nets) paths) before count after) → HandsBack s before after count
   handed {before} room wrote =
-      let w = wrote (paths-short side vert half s1 s2 d1 d2 O (s .board) W B edges (length (s .nets)) few it R made) in
-      let fits = words-fit side vert half s1 s2 d1 d2 O (s .board) W B edges (length (s .nets)) few it R made (s .nets) refl most in
+      let w = wrote (paths-short side vert half s1 s2 d1 d2 O (s .block .board) W B edges (length (s .nets)) few it R made) in
+      let fits = words-fit side vert half s1 s2 d1 d2 O (s .block .board) W B edges (length (s .nets)) few it R made (s .nets) refl most in
       record {
         paths = paths;
-        routing = subst (λ (ps : List Pair). Routing (s .board) ps paths) (sym ends)
-            (paths-routing side vert half s1 s2 d1 d2 O (s .board) W B edges (length (s .nets)) few it R made);
+        routing = subst (λ (ps : List Pair). Routing (s .block .board) ps paths) (sym ends)
+            (paths-routing side vert half s1 s2 d1 d2 O (s .block .board) W B edges (length (s .nets)) few it R made);
         words = w .text (omega arith);
         counted = w .counted;
       }

@@ -6,7 +6,7 @@ use mathlib.Core.Logic.{inl, inr}
 use Prim.Native.Nat.{ℕ}
 use lib.Dec.{eqb}
 use Rattle.count.specs.Truth.{bool}
-use Rattle.board.specs.View.{boardOf}
+use Rattle.board_block.specs.View.{blockOf}
 use Rattle.net.specs.declared.Net.{Net}
 use Rattle.net.specs.declared.Held.{Held}
 use Rattle.net.specs.declared.Held.the-variants.{Nothing, Ends}
@@ -25,7 +25,7 @@ use Rattle.session_add.specs.Lines.{checkOf}
 use Rattle.session_answers.specs.Answers.{withdrawAnswer, takeBackAnswer}
 use Rattle.session.specs.View.{sessionOf}
 use Rattle.session.specs.Value.{addSound, withdrawHeld, withdrawSound, takeBackSound, addOf, withdrawOf, takeBackOf}
-use Rattle.session.specs.Promise.{AddPromise, WithdrawPromise, TakeBackPromise}
+use Rattle.session.specs.Promise.{CallPromise, AddPromise, WithdrawPromise, TakeBackPromise}
 use Rattle.session.specs.Steps.{Sized, add-answer, add-next, withdraw-answer, withdraw-next, take-back-answer, take-back-next}
 
 -- ── add ──
@@ -49,7 +49,7 @@ told (PinsTaken p) e = cc
 add-kept : (s : Session) (n : Net) → (addAnswer (addSound s n .answer) ≡ accepted → ⊥) → addSound s n .session ≡ s
 unfolding addSound
 add-kept s n r =
-    let a = checkOf (boardOf (s .board)) (netsOf (s .nets)) n in
+    let a = checkOf (blockOf (s .block)) (netsOf (s .nets)) n in
     elim (bool (isAccepted a)) [ inl e ↦ absurd (r (told a e)) | inr e ↦ rw e refl ]
 
 add-keeps : (s : Session) (n : Net) → (addAnswer (addOf s n .answer) ≡ accepted → ⊥) → addOf s n .session ≡ s
@@ -57,7 +57,7 @@ unfolding addOf
 add-keeps s n = elim (bool (sound? (sessionOf s))) [ inl e ↦ rw e (add-kept s n) | inr e ↦ rw e (λ r. refl) ]
 
 pub add-promise : (s : Session) (n : Net) (r : AfterAdd) → Sized s → r ≡ addOf s n → AddPromise s n r
-add-promise s n r z e = rw e (record { value = refl; answers = add-answers s n; next = add-nexts s n z; kept = add-keeps s n })
+add-promise s n r z e = rw e (record { value = refl; call = record { answers = add-answers s n; next = add-nexts s n z; kept = add-keeps s n } })
 
 -- ── withdraw ──
 withdraw-answers : (s : Session) (k : ℕ) → withdrawAnswer (withdrawOf s k .answer) ≡ call (sessionOf s) (withdraw k) .answer
@@ -77,7 +77,7 @@ unfolding withdrawOf withdrawSound
 withdraw-keeps s k = elim (bool (sound? (sessionOf s))) [ inl e ↦ rw e (held-kept s k (placeAt (s .nets) k .held)) | inr e ↦ rw e (λ r. refl) ]
 
 pub withdraw-promise : (s : Session) (k : ℕ) (r : AfterWithdraw) → Sized s → r ≡ withdrawOf s k → WithdrawPromise s k r
-withdraw-promise s k r z e = rw e (record { value = refl; answers = withdraw-answers s k; next = withdraw-nexts s k z; kept = withdraw-keeps s k })
+withdraw-promise s k r z e = rw e (record { value = refl; call = record { answers = withdraw-answers s k; next = withdraw-nexts s k z; kept = withdraw-keeps s k } })
 
 -- ── take back ──
 take-back-answers : (s : Session) → takeBackAnswer (takeBackOf s .answer) ≡ call (sessionOf s) takeBack .answer
@@ -97,4 +97,4 @@ unfolding takeBackOf
 take-back-keeps s = elim (bool (sound? (sessionOf s))) [ inl e ↦ rw e (back-kept s) | inr e ↦ rw e (λ r. refl) ]
 
 pub take-back-promise : (s : Session) (r : AfterTakeBack) → Sized s → r ≡ takeBackOf s → TakeBackPromise s r
-take-back-promise s r z e = rw e (record { value = refl; answers = take-back-answers s; next = take-back-nexts s z; kept = take-back-keeps s })
+take-back-promise s r z e = rw e (record { value = refl; call = record { answers = take-back-answers s; next = take-back-nexts s z; kept = take-back-keeps s } })

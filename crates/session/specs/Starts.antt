@@ -2,41 +2,41 @@
 -- Assumes nothing.
 use mathlib.Core.Path.{_≡_, refl, _∙_}
 use mathlib.Core.Bool.{true}
-use Rattle.board.specs.Board.{Board}
 use Rattle.board.specs.View.{boardOf}
-use Rattle.board.specs.declared.Board as code-board
+use Rattle.board_block.specs.View.{blockOf, plainOf}
+use Rattle.board_block.specs.declared.Block as code
 use Rattle.board_convex.specs.Test.{isConvex, inLimits, rowsFit, peels, contains?}
 use Rattle.board_convex.specs.Exact.{is-convex}
 use Rattle.session_rules.specs.Session as machine
 use Rattle.session_rules.specs.Sound.{Fresh, bare, blank}
 use Rattle.session_laws.specs.Stays.{fresh-bare}
-use Rattle.net_places.specs.Pile.{pileOf, changesOf}
+use Rattle.session_pile.specs.Pile.{pileOf, changesOf}
 use Rattle.session.specs.declared.Session.{Session}
 use Rattle.session.specs.View.{sessionOf}
 use Rattle.session.specs.Value.{freshOf, blankBoard}
 use Rattle.session.specs.Promise.{FreshPromise, BlankPromise}
 use Rattle.session_sound.specs.OneByOne.{nets-none}
 
-fresh-is-bare : (b : code-board.Board) → sessionOf (freshOf b) ≡ bare (boardOf b)
+fresh-is-bare : (b : code.Block) → sessionOf (freshOf b) ≡ bare (blockOf b)
 unfolding freshOf pileOf changesOf
 fresh-is-bare b = rw (nets-none 64) refl
 
-pub fresh-promise : (b : code-board.Board) (r : Session) → r ≡ freshOf b → FreshPromise b r
+pub fresh-promise : (b : code.Block) (r : Session) → r ≡ freshOf b → FreshPromise b r
 fresh-promise b r e =
-    rw e (record { value = refl; bare = fresh-is-bare b; fresh = λ w c. rw (fresh-is-bare b) (fresh-bare (boardOf b) w c) })
+    rw e (record { value = refl; bare = fresh-is-bare b; fresh = λ w c. rw (fresh-is-bare b) (fresh-bare (blockOf b) w c) })
 
-blank-board : bare (boardOf blankBoard) ≡ blank
+blank-board : bare (blockOf (plainOf blankBoard)) ≡ blank
 unfolding boardOf
 blank-board = refl
 
-blank-convex : isConvex (blank .board) ≡ true
+blank-convex : isConvex (blank .block .board) ≡ true
 unfolding isConvex inLimits rowsFit peels contains?
 blank-convex = refl
 
 blank-fresh : Fresh blank
-blank-fresh = let c = is-convex (blank .board) .0 blank-convex in fresh-bare (blank .board) (c .0) (c .1)
+blank-fresh = let c = is-convex (blank .block .board) .0 blank-convex in fresh-bare (blank .block) (c .0) (c .1)
 
-pub blank-promise : (r : Session) → r ≡ freshOf blankBoard → BlankPromise r
+pub blank-promise : (r : Session) → r ≡ freshOf (plainOf blankBoard) → BlankPromise r
 blank-promise r e =
-    let is-blank : sessionOf (freshOf blankBoard) ≡ blank = fresh-is-bare blankBoard ∙ blank-board in
+    let is-blank : sessionOf (freshOf (plainOf blankBoard)) ≡ blank = fresh-is-bare (plainOf blankBoard) ∙ blank-board in
     rw e (record { value = refl; blank = is-blank; fresh = rw is-blank blank-fresh })

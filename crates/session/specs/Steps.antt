@@ -10,7 +10,7 @@ use lib.Dec.{eqb}
 use lib.ListN.{length}
 use borrow.Author.Tests.{eqb-true, eqb-false}
 use Rattle.count.specs.Truth.{bool, and-true}
-use Rattle.board.specs.View.{boardOf}
+use Rattle.board_block.specs.View.{blockOf}
 use Rattle.net.specs.declared.Net.{Net}
 use Rattle.net.specs.declared.Change.the-variants.{Added, Withdrawn}
 use Rattle.net.specs.declared.Held.{Held}
@@ -23,8 +23,8 @@ use Rattle.session_rules.specs.Sound.{liftable?, lifts?, Sound}
 use Rattle.net_places.specs.Numbered.{replaced}
 use Rattle.net_places.specs.Places.{net, holding, netsOf, placeAt}
 use Rattle.net_places.specs.Nets.{heldAs, net-of, remove-of}
-use Rattle.net_places.specs.Pile.{pileOf, topOf, lifted}
-use Rattle.net_places.specs.Changes.{laid-pile, pile-top, pile-empty, length-pile}
+use Rattle.session_pile.specs.Pile.{pileOf, topOf, lifted}
+use Rattle.session_pile.specs.Changes.{laid-pile, pile-top, pile-empty, length-pile}
 use Rattle.session.specs.declared.Session.{Session}
 use Rattle.session_answers.specs.Answers.{addAnswer}
 use Rattle.session_answers.specs.Answers.{withdrawAnswer, takeBackAnswer}
@@ -49,20 +49,20 @@ add-answered (some r) n m = refl
 pub add-answer : (s : Session) (n : Net) → addAnswer (addSound s n .answer) ≡ step (sessionOf s) (add n) .answer
 unfolding step addSound
 add-answer s n =
-    check-answer (boardOf (s .board)) (netsOf (s .nets)) n ∙ add-answered (addRefused (boardOf (s .board)) (netsOf (s .nets)) n) n (sessionOf s)
+    check-answer (blockOf (s .block)) (netsOf (s .nets)) n ∙ add-answered (addRefused (blockOf (s .block)) (netsOf (s .nets)) n) n (sessionOf s)
 
-add-done : (s : Session) (n : Net) (r : Option Refusal) → Sized s → Sound (sessionOf s) → addRefused (boardOf (s .board)) (netsOf (s .nets)) n ≡ r
+add-done : (s : Session) (n : Net) (r : Option Refusal) → Sized s → Sound (sessionOf s) → addRefused (blockOf (s .block)) (netsOf (s .nets)) n ≡ r
     → sessionOf (cond (isNone r) (changed s (replaced (s .nets) (n .number) (holding (n .ends))) (Added n)) s) ≡ addStep r n (sessionOf s) .next
 unfolding added accepts
 add-done s n none z h e =
-    let a : accepts (boardOf (s .board)) (netsOf (s .nets)) n ≡ true = rw e refl in
-    rw (insert-accepted (boardOf (s .board)) (s .nets) n (z .nets64) a, laid-pile (s .pile) (Added n) (z .pile64) (depth-short s h)) refl
+    let a : accepts (blockOf (s .block)) (netsOf (s .nets)) n ≡ true = rw e refl in
+    rw (insert-accepted (blockOf (s .block)) (s .nets) n (z .nets64) a, laid-pile (s .pile) (Added n) (z .pile64) (depth-short s h)) refl
 add-done s n (some r) z h e = refl
 
 pub add-next : (s : Session) (n : Net) → Sized s → Sound (sessionOf s) → sessionOf (addSound s n .session) ≡ step (sessionOf s) (add n) .next
 unfolding step addSound accepts
 add-next s n z h =
-    rw (check-accepts (boardOf (s .board)) (netsOf (s .nets)) n) (add-done s n (addRefused (boardOf (s .board)) (netsOf (s .nets)) n) z h refl)
+    rw (check-accepts (blockOf (s .block)) (netsOf (s .nets)) n) (add-done s n (addRefused (blockOf (s .block)) (netsOf (s .nets)) n) z h refl)
 
 -- ── withdraw ──
 withdraw-held-answer : (s : Session) (k : ℕ) (x : Held)
@@ -93,10 +93,10 @@ take-back-answer s = elim (bool (eqb (s .pile .depth) 0)) [
   | inr e ↦ let d : s .pile .depth ≡ 0 → ⊥ = eqb-false (s .pile .depth) 0 e in rw (e, pile-top (s .pile) (omega arith)) refl
 ]
 
-top-lifts : (s : Session) → Sound (sessionOf s) → 0 < s .pile .depth → liftable? (boardOf (s .board)) (netsOf (s .nets)) (topOf (s .pile)) ≡ true
+top-lifts : (s : Session) → Sound (sessionOf s) → 0 < s .pile .depth → liftable? (blockOf (s .block)) (netsOf (s .nets)) (topOf (s .pile)) ≡ true
 unfolding lifts?
 top-lifts s h d =
-    let b = boardOf (s .board) in
+    let b = blockOf (s .block) in
     let ns = netsOf (s .nets) in
     let c = topOf (s .pile) in
     and-true (liftable? b ns c) (lifts? b (reversed c ns) (pileOf (lifted (s .pile)))) (rw (pile-top (s .pile) d) at (h .lifts)) .0
@@ -108,5 +108,5 @@ take-back-next s z h = elim (bool (eqb (s .pile .depth) 0)) [
   | inr e ↦
       let ne : s .pile .depth ≡ 0 → ⊥ = eqb-false (s .pile .depth) 0 e in
       let d : 0 < s .pile .depth = omega arith in
-      rw (e, pile-top (s .pile) d, reversed-of (boardOf (s .board)) (s .nets) (topOf (s .pile)) (z .nets64) (top-lifts s h d)) refl
+      rw (e, pile-top (s .pile) d, reversed-of (blockOf (s .block)) (s .nets) (topOf (s .pile)) (z .nets64) (top-lifts s h d)) refl
 ]

@@ -5,8 +5,9 @@ use mathlib.Core.List.{List}
 use Prim.Native.Nat.{ℕ}
 use lib.Dec.{eqb}
 use lib.ListN.{replicate}
-use Rattle.board.specs.View.{boardOf}
 use Rattle.board.specs.declared.Board as code-board
+use Rattle.board_block.specs.View.{blockOf, plainOf}
+use Rattle.board_block.specs.declared.Block as code
 use Rattle.net.specs.View.{nothing}
 use Rattle.net.specs.declared.Net.{Net}
 use Rattle.net.specs.declared.Change.{Change}
@@ -17,7 +18,8 @@ use Rattle.net.specs.declared.Place.{Place}
 use Rattle.session_rules.specs.Sound.{sound?}
 use Rattle.net_places.specs.Numbered.{replaced}
 use Rattle.net_places.specs.Places.{net, holding, netsOf, placeAt, reversedIn}
-use Rattle.net_places.specs.Pile.{noSlot, topOf, lifted, laid}
+use Rattle.session_pile.specs.declared.Pile.{Pile}
+use Rattle.session_pile.specs.Pile.{noSlot, topOf, lifted, laid}
 use Rattle.session_answers.specs.Answers.{isAccepted}
 use Rattle.session_add.specs.Lines.{checkOf}
 use Rattle.session_answers.specs.declared.AddAnswer.the-variants.{Unsound}
@@ -29,15 +31,19 @@ use Rattle.session_answers.specs.declared.WithdrawAnswer.the-variants as withdr
 use Rattle.session_answers.specs.declared.TakeBackAnswer.the-variants as back-is
 use Rattle.session.specs.View.{sessionOf}
 
+-- the session with these places and this pile; all else that it holds stays
+abbrev pub withPlaces : Session → List Place → Pile → Session
+withPlaces s ps p = record { block = s .block; nets = ps; pile = p }
+
 -- the session with other places, and a change laid on the pile
 abbrev pub changed : Session → List Place → Change → Session
-changed s ps c = record { board = s .board; nets = ps; pile = laid c (s .pile) }
+changed s ps c = withPlaces s ps (laid c (s .pile))
 
 -- ── each call on a sound session ──
 unfoldable pub addSound : Session → Net → AfterAdd
 addSound s n = record {
-  answer = checkOf (boardOf (s .board)) (netsOf (s .nets)) n;
-  session = cond (isAccepted (checkOf (boardOf (s .board)) (netsOf (s .nets)) n))
+  answer = checkOf (blockOf (s .block)) (netsOf (s .nets)) n;
+  session = cond (isAccepted (checkOf (blockOf (s .block)) (netsOf (s .nets)) n))
       (changed s (replaced (s .nets) (n .number) (holding (n .ends))) (Added n))
       s;
 }
@@ -50,7 +56,7 @@ unfoldable pub withdrawSound : Session → ℕ → AfterWithdraw
 withdrawSound s k = withdrawHeld s k (placeAt (s .nets) k .held)
 
 abbrev pub back : Session → Session
-back s = record { board = s .board; nets = reversedIn (topOf (s .pile)) (s .nets); pile = lifted (s .pile) }
+back s = withPlaces s (reversedIn (topOf (s .pile)) (s .nets)) (lifted (s .pile))
 
 unfoldable pub takeBackSound : Session → AfterTakeBack
 takeBackSound s = cond (eqb (s .pile .depth) 0)
@@ -68,8 +74,8 @@ unfoldable pub takeBackOf : Session → AfterTakeBack
 takeBackOf s = cond (sound? (sessionOf s)) (takeBackSound s) (record { answer = back-is.Unsound; session = s })
 
 -- ── sessions to start from ──
-unfoldable pub freshOf : code-board.Board → Session
-freshOf b = record { board = b; nets = replicate 64 nothing; pile = record { depth = 0; changes = replicate 64 noSlot } }
+unfoldable pub freshOf : code.Block → Session
+freshOf b = record { block = b; nets = replicate 64 nothing; pile = record { depth = 0; changes = replicate 64 noSlot } }
 
 abbrev pub blankBoard : code-board.Board
 blankBoard = record { count = 1; rows = replicate 31 (record { left = 0; right = 1 }) }

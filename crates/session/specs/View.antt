@@ -1,9 +1,9 @@
 -- Definitions only: the session of the list machine that a value of the code's struct stands for. Nothing is proved here.
-use Rattle.board.specs.View.{boardOf}
+use Rattle.board_block.specs.View.{blockOf}
 use Rattle.session_rules.specs.Session.{Session}
 use Rattle.net_places.specs.Places.{netsOf}
-use Rattle.net_places.specs.Pile.{pileOf}
+use Rattle.session_pile.specs.Pile.{pileOf}
 use Rattle.session.specs.declared.Session as code
 
 abbrev pub sessionOf : code.Session → Session
-sessionOf s = record { board = boardOf (s .board); nets = netsOf (s .nets); pile = pileOf (s .pile) }
+sessionOf s = record { block = blockOf (s .block); nets = netsOf (s .nets); pile = pileOf (s .pile) }

@@ -1,25 +1,26 @@
-// Sessions: a board, the nets on it, and the pile of changes that can be taken back.
+// Sessions: a block, the nets on its board, and the pile of changes that can be taken back.
 // Each call takes a session and hands back the next. A refused call hands back the session that it was given.
 use board::Board;
 use board::Row;
+use board_block::Block;
 use net::Change;
 use net::Held;
 use net::Net;
 use net::Place;
-use net_places::Pile;
 use session_answers::AddAnswer;
 use session_answers::TakeBackAnswer;
 use session_answers::WithdrawAnswer;
+use session_pile::Pile;
 ghost use mathlib.Core.Path.{_≡_};
 ghost use Rattle.count.specs.Truth.{Decides};
 ghost use Rattle.session_rules.specs.Sound.{Sound, sound?};
 ghost use Rattle.session.specs.View.{sessionOf};
-ghost use Rattle.session.specs.Value.{changed, addSound, withdrawSound, takeBackSound};
+ghost use Rattle.session.specs.Value.{withPlaces, changed, addSound, withdrawSound, takeBackSound};
 ghost use Rattle.session.specs.Promise.{AddPromise, WithdrawPromise, TakeBackPromise, FreshPromise, BlankPromise};
 
 // Net n is held at place n - 1.
 pub struct Session {
-    pub board: Board,
+    pub block: Block,
     pub nets: [Place; 64],
     pub pile: Pile,
 }
@@ -40,13 +41,13 @@ pub struct AfterTakeBack {
     pub session: Session,
 }
 
-// A session on the board, with no nets and an empty pile.
-pub fn fresh(board: Board) -> Session
-    ensures { λ r. ⌜ FreshPromise board r ⌝ }
+// A session on the block, with no nets and an empty pile.
+pub fn fresh(block: Block) -> Session
+    ensures { λ r. ⌜ FreshPromise block r ⌝ }
 {
-    let slot = net_places::no_slot();
+    let slot = session_pile::no_slot();
     Session {
-        board,
+        block,
         nets: [Place {
             held: Held::Nothing,
         }; 64],
@@ -61,10 +62,10 @@ pub fn fresh(board: Board) -> Session
 pub fn blank() -> Session
     ensures { λ r. ⌜ BlankPromise r ⌝ }
 {
-    fresh(Board {
+    fresh(board_block::plain(Board {
         count: 1,
         rows: [Row { left: 0, right: 1 }; 31],
-    })
+    }))
 }
 
 impl Session {
@@ -72,32 +73,35 @@ impl Session {
     pub fn sound(self) -> bool
         ensures { λ r. ⌜ Decides r (sound? (sessionOf self)) (Sound (sessionOf self)) ⌝ }
     {
-        let b = self.board;
+        let b = self.block;
         let nets = self.nets;
         let pile = self.pile;
-        board_convex::is_convex(b)
+        board_convex::is_convex(b.board)
             & (session_sound::is_addable(b, nets)
                 & ((pile.depth <= 64) & session_sound::lifts(b, nets, pile)))
+    }
+
+    // The session with these places and this pile; all else that it holds stays.
+    pub fn with_places(self, nets: [Place; 64], pile: Pile) -> Session
+        ensures { λ r. ⌜ r ≡ withPlaces self nets pile ⌝ }
+    {
+        let block = self.block;
+        Session { block, nets, pile }
     }
 
     // The session with other places, and the change laid on the pile.
     fn changed(self, nets: [Place; 64], change: Change) -> Session
         ensures { λ r. ⌜ r ≡ changed self nets change ⌝ }
     {
-        let board = self.board;
         let pile = self.pile;
-        Session {
-            board,
-            nets,
-            pile: pile.lay(change),
-        }
+        self.with_places(nets, pile.lay(change))
     }
 
     fn add_sound(self, net: Net) -> AfterAdd
         ensures { λ r. ⌜ r ≡ addSound self net ⌝ }
     {
         let nets = self.nets;
-        let answer = session_add::check(self.board, nets, net);
+        let answer = session_add::check(self.block, nets, net);
         if !session_answers::is_accepted(answer) {
             return AfterAdd {
                 answer,
@@ -149,16 +153,11 @@ impl Session {
                 session: self,
             };
         }
-        let board = self.board;
         let nets = self.nets;
-        let next = Session {
-            board,
-            nets: net_places::reversed(nets, pile.top()),
-            pile: pile.lift(),
-        };
+        let before = net_places::reversed(nets, pile.top());
         AfterTakeBack {
             answer: TakeBackAnswer::Accepted,
-            session: next,
+            session: self.with_places(before, pile.lift()),
         }
     }
 

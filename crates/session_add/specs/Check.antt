@@ -4,7 +4,7 @@ use mathlib.Core.Path.{_≡_, refl}
 use mathlib.Core.Bool.{Bool, true, false, not}
 use mathlib.Core.List.{List, [], _∷_}
 use mathlib.Core.Option.{Option, none, some}
-use Rattle.board.specs.Board.{Board}
+use Rattle.board_block.specs.Block.{Block}
 use Rattle.board.specs.Degree.{vertex?}
 use Rattle.net.specs.Terminals.{same}
 use Rattle.net.specs.declared.Net.{Net}
@@ -33,10 +33,10 @@ first-line false false false false false true g = refl
 first-line false false false false false false true = refl
 first-line false false false false false false false = refl
 
-pub check-answer : (b : Board) (ns : List Net) (n : Net) → addAnswer (checkOf b ns n) ≡ answered (addRefused b ns n)
+pub check-answer : (b : Block) (ns : List Net) (n : Net) → addAnswer (checkOf b ns n) ≡ answered (addRefused b ns n)
 unfolding checkOf addRefused addLines
 check-answer b ns n =
-    first-line (not (goodNumber (n .number))) (holds (n .number) ns) (not (vertex? b (n .ends .first))) (not (vertex? b (n .ends .second)))
+    first-line (not (goodNumber (n .number))) (holds (n .number) ns) (not (vertex? (b .board) (n .ends .first))) (not (vertex? (b .board) (n .ends .second)))
     (same (n .ends .first) (n .ends .second)) (full b ns (n .ends .first)) (full b ns (n .ends .second))
 
 first-none : (a b c d e f g : Bool)
@@ -52,8 +52,8 @@ first-none false false false false false true g = refl
 first-none false false false false false false true = refl
 first-none false false false false false false false = refl
 
-pub check-accepts : (b : Board) (ns : List Net) (n : Net) → isAccepted (checkOf b ns n) ≡ accepts b ns n
+pub check-accepts : (b : Block) (ns : List Net) (n : Net) → isAccepted (checkOf b ns n) ≡ accepts b ns n
 unfolding checkOf accepts addRefused addLines
 check-accepts b ns n =
-    first-none (not (goodNumber (n .number))) (holds (n .number) ns) (not (vertex? b (n .ends .first))) (not (vertex? b (n .ends .second)))
+    first-none (not (goodNumber (n .number))) (holds (n .number) ns) (not (vertex? (b .board) (n .ends .first))) (not (vertex? (b .board) (n .ends .second)))
     (same (n .ends .first) (n .ends .second)) (full b ns (n .ends .first)) (full b ns (n .ends .second))

@@ -2,7 +2,7 @@
 -- `check-answer` in Check says that it is the first of the machine's lines that holds.
 use mathlib.Core.Bool.{Bool, not, cond}
 use mathlib.Core.List.{List}
-use Rattle.board.specs.Board.{Board}
+use Rattle.board_block.specs.Block.{Block}
 use Rattle.board.specs.Degree.{vertex?}
 use Rattle.net.specs.Terminals.{same}
 use Rattle.net.specs.declared.Net.{Net}
@@ -22,8 +22,8 @@ firstOf is21 is22 is23-0 is23-1 is24 is25-0 is25-1 =
     (cond is25-0 (PinsTaken 0)
     (cond is25-1 (PinsTaken 1) Accepted))))))
 
--- what adding the net n to the nets ns on the board b answers
-unfoldable pub checkOf : Board → List Net → Net → AddAnswer
+-- what adding the net n to the nets ns on the block b answers
+unfoldable pub checkOf : Block → List Net → Net → AddAnswer
 checkOf b ns n =
-    firstOf (not (goodNumber (n .number))) (holds (n .number) ns) (not (vertex? b (n .ends .first))) (not (vertex? b (n .ends .second)))
+    firstOf (not (goodNumber (n .number))) (holds (n .number) ns) (not (vertex? (b .board) (n .ends .first))) (not (vertex? (b .board) (n .ends .second)))
     (same (n .ends .first) (n .ends .second)) (full b ns (n .ends .first)) (full b ns (n .ends .second))

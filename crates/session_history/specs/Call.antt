@@ -19,9 +19,7 @@ use Rattle.session_laws.specs.Exact.{sound-exact}
 use Rattle.session_laws.specs.Stays.{stays-sound}
 use Rattle.session.specs.declared.Session.{Session}
 use Rattle.session.specs.View.{sessionOf}
-use Rattle.session_answers.specs.Answers.{addAnswer}
-use Rattle.session_answers.specs.Answers.{withdrawAnswer, takeBackAnswer}
-use Rattle.session_history.specs.Made.{Made, added, withdrew, tookBack, routed, routedBytes, Meets, handed, callOf, answerOf, numberOf, Never}
+use Rattle.session_history.specs.Made.{Made, changed, routed, routedBytes, Meets, handed, callOf, answerOf, numberOf, Never}
 
 pub call-step : (s : machine.Session) (c : Call) → Sound s → call s c ≡ step s c
 unfolding call
@@ -52,9 +50,9 @@ back-not-20 (c ∷ cs) s h = omega arith
 pub step-not-20 : (s : machine.Session) (c : Call) → numberOf (step s c .answer) ≡ 20 → ⊥
 unfolding step addRefused addLines
 step-not-20 s (add n) =
-    first-not-20 (not (goodNumber (n .number))) (holds (n .number) (s .nets)) (not (vertex? (s .board) (n .ends .first)))
-    (not (vertex? (s .board) (n .ends .second))) (same (n .ends .first) (n .ends .second)) (full (s .board) (s .nets) (n .ends .first))
-    (full (s .board) (s .nets) (n .ends .second)) n s
+    first-not-20 (not (goodNumber (n .number))) (holds (n .number) (s .nets)) (not (vertex? (s .block .board) (n .ends .first)))
+    (not (vertex? (s .block .board) (n .ends .second))) (same (n .ends .first) (n .ends .second)) (full (s .block) (s .nets) (n .ends .first))
+    (full (s .block) (s .nets) (n .ends .second)) n s
 step-not-20 s (withdraw k) = withdraw-not-20 (netOf k (s .nets)) s
 step-not-20 s takeBack = back-not-20 (s .pile) s
 
@@ -66,27 +64,18 @@ pub record MadeAs (s : Session) (m : Made) : Type 0 where
   pub no-20 : Never 20 (answerOf m)
   pub sound : Sound (sessionOf (handed s m))
 
--- the answer and the session are those of the machine's step
-as-step : (s t : Session) (c : Call) (a : Answer) → Sound (sessionOf s) → a ≡ call (sessionOf s) c .answer → sessionOf t ≡ call (sessionOf s) c .next
-    → (sessionOf t ≡ after (sessionOf s) (c ∷ [])) × (a ∷ [] ≡ answers (sessionOf s) (c ∷ [])) × (numberOf a ≡ 20 → ⊥) × Sound (sessionOf t)
-unfolding after answers
-as-step s t c a h e f =
-    let g = call-step (sessionOf s) c h in
-    let x : a ≡ step (sessionOf s) c .answer = rw g at e in
-    let y : sessionOf t ≡ step (sessionOf s) c .next = rw g at f in
-    (y, ap (λ (b : Answer). b ∷ []) x, rw x (step-not-20 (sessionOf s) c), rw y (stays-sound (sessionOf s) c h))
-
 -- A sound session stays sound, and the call was the machine's.
 pub made-as : (s : Session) (m : Made) → Sound (sessionOf s) → Meets s m → MadeAs s m
 unfolding after answers
-made-as s (added n r) h k =
-    let x = as-step s (r .session) (add n) (addAnswer (r .answer)) h (k .answers) (k .next) in
-    record { session = x .0; answer = x .1; no-20 = (x .2, tt); sound = x .3 }
-made-as s (withdrew j r) h k =
-    let x = as-step s (r .session) (withdraw j) (withdrawAnswer (r .answer)) h (k .answers) (k .next) in
-    record { session = x .0; answer = x .1; no-20 = (x .2, tt); sound = x .3 }
-made-as s (tookBack r) h k =
-    let x = as-step s (r .session) takeBack (takeBackAnswer (r .answer)) h (k .answers) (k .next) in
-    record { session = x .0; answer = x .1; no-20 = (x .2, tt); sound = x .3 }
+made-as s (changed c a t) h k =
+    let g = call-step (sessionOf s) c h in
+    let x : a ≡ step (sessionOf s) c .answer = rw g at (k .answers) in
+    let y : sessionOf t ≡ step (sessionOf s) c .next = rw g at (k .next) in
+    record {
+      session = y;
+      answer = ap (λ (b : Answer). b ∷ []) x;
+      no-20 = (rw x (step-not-20 (sessionOf s) c), tt);
+      sound = rw y (stays-sound (sessionOf s) c h);
+    }
 made-as s (routed before r after) h k = record { session = refl; answer = refl; no-20 = tt; sound = h }
 made-as s (routedBytes before r after) h k = record { session = refl; answer = refl; no-20 = tt; sound = h }

@@ -5,8 +5,8 @@ use mathlib.Core.Path.{_≡_, refl, ap, subst}
 use mathlib.Core.List.{List, [], _∷_, _++_}
 use Rattle.board.specs.Board.{Within}
 use Rattle.board.specs.Path.{Convex}
-use Rattle.board.specs.View.{boardOf}
-use Rattle.board.specs.declared.Board as code-board
+use Rattle.board_block.specs.View.{blockOf}
+use Rattle.board_block.specs.declared.Block as code
 use Rattle.session_rules.specs.Session as machine
 use Rattle.session_rules.specs.Machine.{Call, Answer, step, after, answers}
 use Rattle.session_rules.specs.Sound.{Sound, Fresh, bare}
@@ -64,10 +64,10 @@ pub as-the-machine : (s : Session) (ms : List Made) → Fresh (sessionOf s) → 
 as-the-machine s ms f k = from-sound s ms (f .sound) k
 
 -- From the session that `fresh` hands back on any convex board: the machine starts with that board, no nets and an empty pile.
-pub history : (b : code-board.Board) (s : Session) (ms : List Made) → Within (boardOf b) → Convex (boardOf b) → FreshPromise b s → Chain s ms
+pub history : (b : code.Block) (s : Session) (ms : List Made) → Within (blockOf b .board) → Convex (blockOf b .board) → FreshPromise b s → Chain s ms
     → AsTheMachine s ms
-    × (sessionOf (last s ms) ≡ after (bare (boardOf b)) (callsOf ms))
-    × (answersOf ms ≡ answers (bare (boardOf b)) (callsOf ms))
+    × (sessionOf (last s ms) ≡ after (bare (blockOf b)) (callsOf ms))
+    × (answersOf ms ≡ answers (bare (blockOf b)) (callsOf ms))
 history b s ms w c p k =
     let r = as-the-machine s ms (p .fresh w c) k in
     (r, rw (← p .bare) (r .session), rw (← p .bare) (r .answer))

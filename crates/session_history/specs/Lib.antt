@@ -1,4 +1,5 @@
 pub mod Made
 pub mod Call
 pub mod History
+pub mod Demand
 pub mod Routing

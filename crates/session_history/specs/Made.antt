@@ -1,62 +1,47 @@
 -- Definitions only: a list of calls with what each handed back (document 01, "Each call gets the session that the last one, refused or not,
 -- handed back, and nothing else changes it in between"; demand 3). Nothing is proved here.
--- A further kind of call is one more constructor of Made, and one more clause of Meets, handed, callOf and answerOf.
+-- A further call that changes a session is one more constructor of the machine's Call, and nothing here.
 use mathlib.Core.Path.{_≡_}
 use mathlib.Core.List.{List, [], _∷_, _++_}
 use Prim.Native.Nat.{ℕ}
-use Rattle.net.specs.declared.Net.{Net}
 use Rattle.session_rules.specs.Session as machine
-use Rattle.session_rules.specs.Machine.{Call, add, withdraw, takeBack, Answer, accepted, refused, after}
+use Rattle.session_rules.specs.Machine.{Call, Answer, accepted, refused, after}
 use Rattle.session.specs.declared.Session.{Session}
-use Rattle.session.specs.declared.AfterAdd.{AfterAdd}
-use Rattle.session.specs.declared.AfterWithdraw.{AfterWithdraw}
-use Rattle.session.specs.declared.AfterTakeBack.{AfterTakeBack}
 use Rattle.session.specs.View.{sessionOf}
-use Rattle.session_answers.specs.Answers.{addAnswer}
-use Rattle.session_answers.specs.Answers.{withdrawAnswer, takeBackAnswer}
-use Rattle.session.specs.Promise.{AddPromise, WithdrawPromise, TakeBackPromise}
+use Rattle.session.specs.Promise.{CallPromise}
 use Rattle.call_rules.specs.Route.{Routes, RoutesBytes}
 use Rattle.route_call.specs.declared.RouteAnswer.{RouteAnswer}
 use Rattle.route_call.specs.Answers.{routeAnswer}
 
 -- a call that was made, with its arguments, and what it handed back
 pub data Made : Type 0 where
-  added : Net → AfterAdd → Made
-  withdrew : ℕ → AfterWithdraw → Made
-  tookBack : AfterTakeBack → Made
+  -- one that the machine takes, as an add, a withdrawal or a take-back: its answer, and the session handed back
+  changed : Call → Answer → Session → Made
   -- routing: the lent buffer of words, or of bytes, before; the answer; the buffer after
   routed : (before : List ℕ) → RouteAnswer → (after : List ℕ) → Made
   routedBytes : (before : List ℕ) → RouteAnswer → (after : List ℕ) → Made
 
--- made on the session s, it met the promise of its kind
+-- made on the session s, it met the promise of its kind; AddPromise, WithdrawPromise and TakeBackPromise each have a CallPromise
 abbrev pub Meets : Session → Made → Type 0
-Meets s (added n r) = AddPromise s n r
-Meets s (withdrew k r) = WithdrawPromise s k r
-Meets s (tookBack r) = TakeBackPromise s r
+Meets s (changed c a t) = CallPromise s c a t
 Meets s (routed before r after) = Routes (sessionOf s) before (routeAnswer r) after
 Meets s (routedBytes before r after) = RoutesBytes (sessionOf s) before (routeAnswer r) after
 
 -- the session after it, where s was the one before
 abbrev pub handed : Session → Made → Session
-handed s (added n r) = r .session
-handed s (withdrew k r) = r .session
-handed s (tookBack r) = r .session
+handed s (changed c a t) = t
 handed s (routed before r after) = s
 handed s (routedBytes before r after) = s
 
--- what the machine is fed of it: "only the calls and their arguments, the session left out". A call that the machine does not take is none.
+-- what the machine is fed of it: "only the calls and their arguments, the session left out". Routing is none that it takes.
 abbrev pub callOf : Made → List Call
-callOf (added n r) = add n ∷ []
-callOf (withdrew k r) = withdraw k ∷ []
-callOf (tookBack r) = takeBack ∷ []
+callOf (changed c a t) = c ∷ []
 callOf (routed before r after) = []
 callOf (routedBytes before r after) = []
 
 -- what it answered, where the machine answers too
 abbrev pub answerOf : Made → List Answer
-answerOf (added n r) = addAnswer (r .answer) ∷ []
-answerOf (withdrew k r) = withdrawAnswer (r .answer) ∷ []
-answerOf (tookBack r) = takeBackAnswer (r .answer) ∷ []
+answerOf (changed c a t) = a ∷ []
 answerOf (routed before r after) = []
 answerOf (routedBytes before r after) = []
 

@@ -7,23 +7,23 @@ use Prim.Native.Nat.{_≤_, _<_}
 use lib.Dec.{leb}
 use borrow.Author.Tests.{leb-true, leb-false, le-leb, lt-leb, not-false}
 use Rattle.count.specs.Truth.{clash, and-true}
-use Rattle.board.specs.Board.{Board}
-use Rattle.board.specs.Degree.{vertex?, pins}
+use Rattle.board.specs.Degree.{vertex?}
+use Rattle.board_block.specs.Block.{Block, pinsOf}
 use Rattle.net.specs.Terminals.{same, terminals}
 use Rattle.net.specs.declared.Net.{Net}
 use Rattle.session_rules.specs.Refusal.{line, firstRefusal}
 use Rattle.session_rules.specs.Session.{pairs, holds}
 use Rattle.session_rules.specs.Add.{goodNumber, full, addLines, addRefused, isNone, accepts}
 
-pub record Free (b : Board) (ns : List Net) (n : Net) : Type 0 where
+pub record Free (b : Block) (ns : List Net) (n : Net) : Type 0 where
   pub low : 1 ≤ n .number
   pub high : n .number ≤ 64
   pub new : holds (n .number) ns ≡ false
-  pub first : vertex? b (n .ends .first) ≡ true
-  pub second : vertex? b (n .ends .second) ≡ true
+  pub first : vertex? (b .board) (n .ends .first) ≡ true
+  pub second : vertex? (b .board) (n .ends .second) ≡ true
   pub apart : same (n .ends .first) (n .ends .second) ≡ false
-  pub room-first : terminals (pairs ns) (n .ends .first) < pins b (n .ends .first)
-  pub room-second : terminals (pairs ns) (n .ends .second) < pins b (n .ends .second)
+  pub room-first : terminals (pairs ns) (n .ends .first) < pinsOf b (n .ends .first)
+  pub room-second : terminals (pairs ns) (n .ends .second) < pinsOf b (n .ends .second)
 
 pub record AllFalse (a b c d e f g : Bool) : Type 0 where
   pub is21 : a ≡ false
@@ -54,24 +54,24 @@ none-holds false false false false false false false h = record {
   is25-1 = refl;
 }
 
-pub free-of : (b : Board) (ns : List Net) (n : Net) → accepts b ns n ≡ true → Free b ns n
+pub free-of : (b : Block) (ns : List Net) (n : Net) → accepts b ns n ≡ true → Free b ns n
 unfolding accepts addRefused addLines
 free-of b ns n h =
-    let f = none-holds (not (goodNumber (n .number))) (holds (n .number) ns) (not (vertex? b (n .ends .first))) (not (vertex? b (n .ends .second)))
+    let f = none-holds (not (goodNumber (n .number))) (holds (n .number) ns) (not (vertex? (b .board) (n .ends .first))) (not (vertex? (b .board) (n .ends .second)))
     (same (n .ends .first) (n .ends .second)) (full b ns (n .ends .first)) (full b ns (n .ends .second)) h in
     let k = and-true (leb 1 (n .number)) (leb (n .number) 64) (not-false (goodNumber (n .number)) (f .is21)) in
     record {
       low = leb-true 1 (n .number) (k .0);
       high = leb-true (n .number) 64 (k .1);
       new = f .is22;
-      first = not-false (vertex? b (n .ends .first)) (f .is23-0);
-      second = not-false (vertex? b (n .ends .second)) (f .is23-1);
+      first = not-false (vertex? (b .board) (n .ends .first)) (f .is23-0);
+      second = not-false (vertex? (b .board) (n .ends .second)) (f .is23-1);
       apart = f .is24;
-      room-first = leb-false (pins b (n .ends .first)) (terminals (pairs ns) (n .ends .first)) (f .is25-0);
-      room-second = leb-false (pins b (n .ends .second)) (terminals (pairs ns) (n .ends .second)) (f .is25-1);
+      room-first = leb-false (pinsOf b (n .ends .first)) (terminals (pairs ns) (n .ends .first)) (f .is25-0);
+      room-second = leb-false (pinsOf b (n .ends .second)) (terminals (pairs ns) (n .ends .second)) (f .is25-1);
     }
 
-pub free-accepted : (b : Board) (ns : List Net) (n : Net) → Free b ns n → accepts b ns n ≡ true
+pub free-accepted : (b : Block) (ns : List Net) (n : Net) → Free b ns n → accepts b ns n ≡ true
 unfolding accepts addRefused addLines
 free-accepted b ns n f =
     rw (
@@ -81,7 +81,7 @@ free-accepted b ns n f =
       f .first,
       f .second,
       f .apart,
-      lt-leb (pins b (n .ends .first)) (terminals (pairs ns) (n .ends .first)) (f .room-first),
-      lt-leb (pins b (n .ends .second)) (terminals (pairs ns) (n .ends .second)) (f .room-second),
+      lt-leb (pinsOf b (n .ends .first)) (terminals (pairs ns) (n .ends .first)) (f .room-first),
+      lt-leb (pinsOf b (n .ends .second)) (terminals (pairs ns) (n .ends .second)) (f .room-second),
     )
     refl

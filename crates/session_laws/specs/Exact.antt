@@ -18,13 +18,13 @@ pub sound-exact : (s : Session) → (sound? s ≡ true) ↔ Sound s
 unfolding sound?
 sound-exact s = (
   λ e.
-      let t = and-true (isConvex (s .board)) ((rising? (s .nets) && addable? (s .board) [] (s .nets))
-      && (leb (length (s .pile)) pileLimit && lifts? (s .board) (s .nets) (s .pile))) e in
-      let u = and-true (rising? (s .nets) && addable? (s .board) [] (s .nets))
-      (leb (length (s .pile)) pileLimit && lifts? (s .board) (s .nets) (s .pile)) (t .1) in
-      let v = and-true (rising? (s .nets)) (addable? (s .board) [] (s .nets)) (u .0) in
-      let w = and-true (leb (length (s .pile)) pileLimit) (lifts? (s .board) (s .nets) (s .pile)) (u .1) in
-      let k = is-convex (s .board) .0 (t .0) in
+      let t = and-true (isConvex (s .block .board)) ((rising? (s .nets) && addable? (s .block) [] (s .nets))
+      && (leb (length (s .pile)) pileLimit && lifts? (s .block) (s .nets) (s .pile))) e in
+      let u = and-true (rising? (s .nets) && addable? (s .block) [] (s .nets))
+      (leb (length (s .pile)) pileLimit && lifts? (s .block) (s .nets) (s .pile)) (t .1) in
+      let v = and-true (rising? (s .nets)) (addable? (s .block) [] (s .nets)) (u .0) in
+      let w = and-true (leb (length (s .pile)) pileLimit) (lifts? (s .block) (s .nets) (s .pile)) (u .1) in
+      let k = is-convex (s .block .board) .0 (t .0) in
       record {
         within = k .0;
         convex = k .1;
@@ -33,5 +33,5 @@ sound-exact s = (
         short = leb-true (length (s .pile)) pileLimit (w .0);
         lifts = w .1;
       },
-  λ h. rw (is-convex (s .board) .1 (h .within, h .convex), h .rising, h .addable, le-leb (length (s .pile)) pileLimit (h .short), h .lifts) refl,
+  λ h. rw (is-convex (s .block .board) .1 (h .within, h .convex), h .rising, h .addable, le-leb (length (s .pile)) pileLimit (h .short), h .lifts) refl,
 )

@@ -8,8 +8,9 @@ use Prim.Native.Nat.{ℕ, zero, suc, _≤_}
 use native.Mathlib.Omega.{arith}
 use lib.ListN.{length, take, length-take}
 use Rattle.count.specs.Truth.{and-true, and-yes}
-use Rattle.board.specs.Board.{Board, Within}
+use Rattle.board.specs.Board.{Within}
 use Rattle.board.specs.Path.{Convex}
+use Rattle.board_block.specs.Block.{Block}
 use Rattle.net.specs.declared.Net.{Net}
 use Rattle.net.specs.declared.Change.{Change}
 use Rattle.net.specs.declared.Change.the-variants.{Added, Withdrawn}
@@ -39,23 +40,23 @@ use Rattle.session_laws.specs.Rising.{rising-from, from-rising, insert-r
 use Rattle.session_laws.specs.Fine.{Fine, fine-insert, fine-remove, free-removed}
 use Rattle.session_laws.specs.Addable.{fine-of, fine-addable}
 
-pub sound-fine : (s : Session) → Sound s → Fine (s .board) (s .nets)
-sound-fine s h = fine-of (s .board) (s .nets) (rising-from (s .nets) (h .rising)) (h .addable)
+pub sound-fine : (s : Session) → Sound s → Fine (s .block) (s .nets)
+sound-fine s h = fine-of (s .block) (s .nets) (rising-from (s .nets) (h .rising)) (h .addable)
 
 -- the board stays, the nets keep within it, and the pile is short and can be lifted
-fine-sound : (s t : Session) → Sound s → t .board ≡ s .board → Fine (s .board) (t .nets) → length (t .pile) ≤ pileLimit
-    → lifts? (s .board) (t .nets) (t .pile) ≡ true → Sound t
+fine-sound : (s t : Session) → Sound s → t .block ≡ s .block → Fine (s .block) (t .nets) → length (t .pile) ≤ pileLimit
+    → lifts? (s .block) (t .nets) (t .pile) ≡ true → Sound t
 fine-sound s t h e f l k = record {
   within = rw e (h .within);
   convex = rw e (h .convex);
   rising = from-rising (t .nets) (f .rising);
-  addable = rw e (fine-addable (s .board) (t .nets) f);
+  addable = rw e (fine-addable (s .block) (t .nets) f);
   short = l;
   lifts = rw e k;
 }
 
 -- ── a change is laid on the pile ──
-lifts-take : (b : Board) (ns : List Net) (k : ℕ) (cs : List Change) → lifts? b ns cs ≡ true → lifts? b ns (take k cs) ≡ true
+lifts-take : (b : Block) (ns : List Net) (k : ℕ) (cs : List Change) → lifts? b ns cs ≡ true → lifts? b ns (take k cs) ≡ true
 unfolding lifts?
 lifts-take b ns zero cs e = refl
 lifts-take b ns (suc k) [] e = refl
@@ -63,7 +64,7 @@ lifts-take b ns (suc k) (c ∷ cs) e =
     let t = and-true (liftable? b ns c) (lifts? b (reversed c ns) cs) e in
     and-yes (liftable? b ns c) (lifts? b (reversed c ns) (take k cs)) (t .0) (lifts-take b (reversed c ns) k cs (t .1))
 
-lifts-lay : (b : Board) (ns : List Net) (c : Change) (cs : List Change) → liftable? b ns c ≡ true → lifts? b (reversed c ns) cs ≡ true
+lifts-lay : (b : Block) (ns : List Net) (c : Change) (cs : List Change) → liftable? b ns c ≡ true → lifts? b (reversed c ns) cs ≡ true
     → lifts? b ns (lay c cs) ≡ true
 unfolding lay lifts?
 lifts-lay b ns c cs e f = lifts-take b ns pileLimit (c ∷ cs) (and-yes (liftable? b ns c) (lifts? b (reversed c ns) cs) e f)
@@ -76,12 +77,12 @@ short-lay c cs = short pileLimit (c ∷ cs)
     short k cs = omega (arith, length-take k cs)
 
 -- ── each call ──
-sound-added : (s : Session) (n : Net) → Sound s → accepts (s .board) (s .nets) n ≡ true → Sound (added n s)
+sound-added : (s : Session) (n : Net) → Sound s → accepts (s .block) (s .nets) n ≡ true → Sound (added n s)
 unfolding added liftable? reversed
 sound-added s n h e =
-    let f = free-of (s .board) (s .nets) n e in
-    fine-sound s (added n s) h refl (fine-insert (s .board) (s .nets) n (sound-fine s h) f) (short-lay (Added n) (s .pile))
-    (lifts-lay (s .board) (insert n (s .nets)) (Added n) (s .pile) (recorded-insert n (s .nets)) (rw (remove-insert n (s .nets) (f .new)) (h .lifts)))
+    let f = free-of (s .block) (s .nets) n e in
+    fine-sound s (added n s) h refl (fine-insert (s .block) (s .nets) n (sound-fine s h) f) (short-lay (Added n) (s .pile))
+    (lifts-lay (s .block) (insert n (s .nets)) (Added n) (s .pile) (recorded-insert n (s .nets)) (rw (remove-insert n (s .nets) (f .new)) (h .lifts)))
 
 sound-withdrawn : (s : Session) (k : ℕ) (n : Net) → Sound s → netOf k (s .nets) ≡ some n → Sound (withdrawn n s)
 unfolding withdrawn liftable? reversed
@@ -89,13 +90,13 @@ sound-withdrawn s k n h e =
     let i : remove (n .number) (s .nets) ≡ remove k (s .nets) = ap (λ (j : ℕ). remove j (s .nets)) (netOf-number k (s .nets) n e) in
     let f = sound-fine s h in
     let back = insert-remove 0 k (s .nets) n (f .rising) e in
-    let fine : Fine (s .board) (remove (n .number) (s .nets)) = rw i (fine-remove (s .board) k (s .nets) f) in
-    let free : accepts (s .board) (remove (n .number) (s .nets)) n ≡ true
-    = rw i (free-accepted (s .board) (remove k (s .nets)) n (free-removed (s .board) k (s .nets) n f e)) in
+    let fine : Fine (s .block) (remove (n .number) (s .nets)) = rw i (fine-remove (s .block) k (s .nets) f) in
+    let free : accepts (s .block) (remove (n .number) (s .nets)) n ≡ true
+    = rw i (free-accepted (s .block) (remove k (s .nets)) n (free-removed (s .block) k (s .nets) n f e)) in
     fine-sound s (withdrawn n s) h refl fine (short-lay (Withdrawn n) (s .pile))
-    (lifts-lay (s .board) (remove (n .number) (s .nets)) (Withdrawn n) (s .pile) free (rw (i, back) (h .lifts)))
+    (lifts-lay (s .block) (remove (n .number) (s .nets)) (Withdrawn n) (s .pile) free (rw (i, back) (h .lifts)))
 
-fine-reversed : (b : Board) (ns : List Net) (c : Change) → Fine b ns → liftable? b ns c ≡ true → Fine b (reversed c ns)
+fine-reversed : (b : Block) (ns : List Net) (c : Change) → Fine b ns → liftable? b ns c ≡ true → Fine b (reversed c ns)
 unfolding liftable? reversed
 fine-reversed b ns (Added n) f e = fine-remove b (n .number) ns f
 fine-reversed b ns (Withdrawn n) f e = fine-insert b ns n f (free-of b ns n e)
@@ -103,12 +104,12 @@ fine-reversed b ns (Withdrawn n) f e = fine-insert b ns n f (free-of b ns n e)
 sound-back : (s : Session) (c : Change) (cs : List Change) → Sound s → s .pile ≡ c ∷ cs → Sound (takenBack c cs s)
 unfolding takenBack lifts?
 sound-back s c cs h e =
-    let l : liftable? (s .board) (s .nets) c && lifts? (s .board) (reversed c (s .nets)) cs ≡ true = rw e at (h .lifts) in
-    let t = and-true (liftable? (s .board) (s .nets) c) (lifts? (s .board) (reversed c (s .nets)) cs) l in
+    let l : liftable? (s .block) (s .nets) c && lifts? (s .block) (reversed c (s .nets)) cs ≡ true = rw e at (h .lifts) in
+    let t = and-true (liftable? (s .block) (s .nets) c) (lifts? (s .block) (reversed c (s .nets)) cs) l in
     let n : suc (length cs) ≤ pileLimit = rw e at (h .short) in
-    fine-sound s (takenBack c cs s) h refl (fine-reversed (s .board) (s .nets) c (sound-fine s h) (t .0)) (omega arith) (t .1)
+    fine-sound s (takenBack c cs s) h refl (fine-reversed (s .block) (s .nets) c (sound-fine s h) (t .0)) (omega arith) (t .1)
 
-add-stays : (s : Session) (n : Net) (r : Option Refusal) → addRefused (s .board) (s .nets) n ≡ r → Sound s → Sound (addStep r n s .next)
+add-stays : (s : Session) (n : Net) (r : Option Refusal) → addRefused (s .block) (s .nets) n ≡ r → Sound s → Sound (addStep r n s .next)
 unfolding accepts
 add-stays s n none e h = sound-added s n h (rw e refl)
 add-stays s n (some r) e h = h
@@ -124,12 +125,12 @@ back-stays s (c ∷ cs) e h = sound-back s c cs h e
 -- A sound session stays sound.
 pub stays-sound : (s : Session) (c : Call) → Sound s → Sound (step s c .next)
 unfolding step
-stays-sound s (add n) h = add-stays s n (addRefused (s .board) (s .nets) n) refl h
+stays-sound s (add n) h = add-stays s n (addRefused (s .block) (s .nets) n) refl h
 stays-sound s (withdraw k) h = withdraw-stays s k (netOf k (s .nets)) refl h
 stays-sound s takeBack h = back-stays s (s .pile) refl h
 
 -- A bare board that is within the limits and convex is a fresh session.
-pub fresh-bare : (b : Board) → Within b → Convex b → Fresh (bare b)
+pub fresh-bare : (b : Block) → Within (b .board) → Convex (b .board) → Fresh (bare b)
 unfolding rising? addable? lifts?
 fresh-bare b w c = record {
   sound = record { within = w; convex = c; rising = refl; addable = refl; short = omega arith; lifts = refl };

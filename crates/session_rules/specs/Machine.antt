@@ -7,7 +7,7 @@ use Rattle.net.specs.declared.Net.{Net}
 use Rattle.net.specs.declared.Change.{Change}
 use Rattle.net.specs.declared.Change.the-variants.{Added, Withdrawn}
 use Rattle.session_rules.specs.Refusal.{Refusal, refusal}
-use Rattle.session_rules.specs.Session.{Session, insert, remove, netOf}
+use Rattle.session_rules.specs.Session.{Session, withNets, insert, remove, netOf}
 use Rattle.session_rules.specs.Add.{addRefused}
 
 -- the calls that change a session, with their arguments
@@ -43,11 +43,11 @@ lay c cs = take pileLimit (c ∷ cs)
 
 -- "Add puts the net in and lays "added" with it on the pile."
 unfoldable pub added : Net → Session → Session
-added n s = record { board = s .board; nets = insert n (s .nets); pile = lay (Added n) (s .pile) }
+added n s = withNets s (insert n (s .nets)) (lay (Added n) (s .pile))
 
 -- "Withdraw takes the net of that number out and lays "withdrawn" with it on the pile."
 unfoldable pub withdrawn : Net → Session → Session
-withdrawn n s = record { board = s .board; nets = remove (n .number) (s .nets); pile = lay (Withdrawn n) (s .pile) }
+withdrawn n s = withNets s (remove (n .number) (s .nets)) (lay (Withdrawn n) (s .pile))
 
 -- "the added net leaves, the withdrawn net returns with its terminals."
 unfoldable pub reversed : Change → List Net → List Net
@@ -56,7 +56,7 @@ reversed (Withdrawn n) ns = insert n ns
 
 -- "Take back lifts the top change and reverses it .. It lays nothing on the pile."
 unfoldable pub takenBack : Change → List Change → Session → Session
-takenBack c cs s = record { board = s .board; nets = reversed c (s .nets); pile = cs }
+takenBack c cs s = withNets s (reversed c (s .nets)) cs
 
 abbrev pub addStep : Option Refusal → Net → Session → Step
 addStep none n s = accept (added n s)
@@ -74,7 +74,7 @@ takeBackStep (c ∷ cs) s = accept (takenBack c cs s)
 
 -- one call, read against the machine's own board, nets and pile
 unfoldable pub step : Session → Call → Step
-step s (add n) = addStep (addRefused (s .board) (s .nets) n) n s
+step s (add n) = addStep (addRefused (s .block) (s .nets) n) n s
 step s (withdraw k) = withdrawStep (netOf k (s .nets)) s
 step s takeBack = takeBackStep (s .pile) s
 

@@ -4,17 +4,22 @@ use mathlib.Core.List.{List, [], _∷_, map}
 use mathlib.Core.Option.{Option, none, some}
 use Prim.Native.Nat.{ℕ}
 use lib.Dec.{eqb, ltb}
-use Rattle.board.specs.Board.{Board}
+use Rattle.board_block.specs.Block.{Block}
 use Rattle.net.specs.Terminals.{same}
 use Rattle.net.specs.declared.Pair.{Pair}
 use Rattle.net.specs.declared.Net.{Net}
 use Rattle.net.specs.declared.Change.{Change}
 
--- "The machine holds the board, the nets in rising number, and a pile of changes". The top of the pile is the first of the list.
+-- "The machine holds the board, the nets in rising number, and a pile of changes". The board stands in the block.
+-- The top of the pile is the first of the list.
 pub record Session : Type 0 where
-  pub board : Board
+  pub block : Block
   pub nets : List Net
   pub pile : List Change
+
+-- the session with these nets and this pile; all else that it holds stays
+abbrev pub withNets : Session → List Net → List Change → Session
+withNets s ns cs = record { block = s .block; nets = ns; pile = cs }
 
 -- the terminals of the nets
 abbrev pub pairs : List Net → List Pair

@@ -5,8 +5,9 @@ use mathlib.Core.List.{List, [], _∷_}
 use Prim.Native.Nat.{_≤_}
 use lib.Dec.{leb, ltb}
 use lib.ListN.{length}
-use Rattle.board.specs.Board.{Board, Within}
+use Rattle.board.specs.Board.{Within}
 use Rattle.board.specs.Path.{Convex}
+use Rattle.board_block.specs.Block.{Block, plain}
 use Rattle.board_convex.specs.Test.{isConvex}
 use Rattle.net.specs.declared.Net.{Net}
 use Rattle.net.specs.declared.Change.{Change}
@@ -23,38 +24,38 @@ rising? (n ∷ []) = true
 rising? (n ∷ (m ∷ ms)) = ltb (n .number) (m .number) && rising? (m ∷ ms)
 
 -- "its nets could all be added to the bare board": one by one, add accepts each of ns on the board with the nets that are on already
-unfoldable pub addable? : Board → (on : List Net) (ns : List Net) → Bool
+unfoldable pub addable? : Block → (on : List Net) (ns : List Net) → Bool
 addable? b on [] = true
 addable? b on (n ∷ ns) = accepts b on n && addable? b (insert n on) ns
 
 -- "each added net is then on the board as recorded, each withdrawn net one that add would accept"
-unfoldable pub liftable? : Board → List Net → Change → Bool
+unfoldable pub liftable? : Block → List Net → Change → Bool
 liftable? b ns (Added n) = recorded n ns
 liftable? b ns (Withdrawn n) = accepts b ns n
 
 -- "its pile .. can be lifted to the bottom"
-unfoldable pub lifts? : Board → List Net → List Change → Bool
+unfoldable pub lifts? : Block → List Net → List Change → Bool
 lifts? b ns [] = true
 lifts? b ns (c ∷ cs) = liftable? b ns c && lifts? b (reversed c ns) cs
 
 -- "A session is sound when .."
 pub record Sound (s : Session) : Type 0 where
   -- "its board is within the limits and convex,
-  pub within : Within (s .board)
-  pub convex : Convex (s .board)
+  pub within : Within (s .block .board)
+  pub convex : Convex (s .block .board)
   -- its nets could all be added to the bare board,
   pub rising : rising? (s .nets) ≡ true
-  pub addable : addable? (s .board) [] (s .nets) ≡ true
+  pub addable : addable? (s .block) [] (s .nets) ≡ true
   -- and its pile, at most 64 long, can be lifted to the bottom"
   pub short : length (s .pile) ≤ pileLimit
-  pub lifts : lifts? (s .board) (s .nets) (s .pile) ≡ true
+  pub lifts : lifts? (s .block) (s .nets) (s .pile) ≡ true
 
 -- the test of it: see `sound-exact`
 unfoldable pub sound? : Session → Bool
 sound? s =
-    isConvex (s .board)
-    && ((rising? (s .nets) && addable? (s .board) [] (s .nets))
-    && (leb (length (s .pile)) pileLimit && lifts? (s .board) (s .nets) (s .pile)))
+    isConvex (s .block .board)
+    && ((rising? (s .nets) && addable? (s .block) [] (s .nets))
+    && (leb (length (s .pile)) pileLimit && lifts? (s .block) (s .nets) (s .pile)))
 
 -- "Every call that takes a session refuses an unsound one first, with 20."
 unfoldable pub call : Session → Call → Step
@@ -66,10 +67,10 @@ pub record Fresh (s : Session) : Type 0 where
   pub no-nets : s .nets ≡ []
   pub no-pile : s .pile ≡ []
 
--- a session on a board, with no nets and an empty pile
-abbrev pub bare : Board → Session
-bare b = record { board = b; nets = []; pile = [] }
+-- a session on a block, with no nets and an empty pile
+abbrev pub bare : Block → Session
+bare b = record { block = b; nets = []; pile = [] }
 
 -- "the blank session: row 0 from 0 to 1, no nets."
 abbrev pub blank : Session
-blank = bare (record { rows = record { left = 0; right = 1 } ∷ [] })
+blank = bare (plain (record { rows = record { left = 0; right = 1 } ∷ [] }))

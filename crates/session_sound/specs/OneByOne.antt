@@ -8,7 +8,7 @@ use native.Mathlib.Omega.{arith}
 use lib.ListN.{length, getD, set, drop, replicate}
 use lib.Seq.{drop-cons, drop-length, set-getD, getD-set-other}
 use Rattle.count.specs.Truth.{and-assoc}
-use Rattle.board.specs.Board.{Board}
+use Rattle.board_block.specs.Block.{Block}
 use Rattle.net.specs.View.{nothing}
 use Rattle.net.specs.declared.Pair.{Pair}
 use Rattle.net.specs.declared.Net.{Net}
@@ -24,28 +24,28 @@ use Rattle.net_places.specs.Nets.{isHeld, holds-of, insert-of}
 use Rattle.session_sound.specs.Reverse.{and-none}
 
 -- DEFINITION: add accepts what a place holds under number k
-abbrev pub heldAccepted : Board → List Net → ℕ → Held → Bool
+abbrev pub heldAccepted : Block → List Net → ℕ → Held → Bool
 heldAccepted b ns k Nothing = true
 heldAccepted b ns k (Ends e) = accepts b ns (net k e)
 
 -- DEFINITION: the nets from number k on could all be added
-unfoldable pub restAddable : Board → List Place → List Place → ℕ → Bool
+unfoldable pub restAddable : Block → List Place → List Place → ℕ → Bool
 restAddable b on nets k = addable? b (netsOf on) (netsFrom k (drop (k - 1) nets))
 
 -- ── one turn of the loop ──
-filled : (b : Board) (on : List Place) (i : ℕ) (e : Pair) → length on ≡ 64 → i < 64 → getD on i nothing ≡ nothing
+filled : (b : Block) (on : List Place) (i : ℕ) (e : Pair) → length on ≡ 64 → i < 64 → getD on i nothing ≡ nothing
     → netsOf (set on i (holding e)) ≡ insert (net (suc i) e) (netsOf on)
 filled b on i e l h f =
     let free : holds (suc i) (netsOf on) ≡ false = holds-of on (suc i) ∙ ap (λ (p : Place). isHeld (p .held)) f in
     insert-of on (net (suc i) e) (omega arith) (omega arith) free
 
-held-turn : (b : Board) (on : List Place) (i : ℕ) (x : Held) (ns : List Net) → length on ≡ 64 → i < 64 → getD on i nothing ≡ nothing
+held-turn : (b : Block) (on : List Place) (i : ℕ) (x : Held) (ns : List Net) → length on ≡ 64 → i < 64 → getD on i nothing ≡ nothing
     → addable? b (netsOf on) (heldNet (suc i) x ns) ≡ heldAccepted b (netsOf on) (suc i) x && addable? b (netsOf (set on i (record { held = x }))) ns
 unfolding addable?
 held-turn b on i Nothing ns l h f = rw (sym (ap (λ (p : Place). set on i p) f) ∙ set-getD on i nothing) refl
 held-turn b on i (Ends e) ns l h f = rw (filled b on i e l h f) refl
 
-pub rest-turn : (b : Board) (on nets : List Place) (k : ℕ) → length on ≡ 64 → length nets ≡ 64 → 1 ≤ k → k ≤ 64 → placeAt on k ≡ nothing
+pub rest-turn : (b : Block) (on nets : List Place) (k : ℕ) → length on ≡ 64 → length nets ≡ 64 → 1 ≤ k → k ≤ 64 → placeAt on k ≡ nothing
     → restAddable b on nets k ≡ heldAccepted b (netsOf on) k (placeAt nets k .held) && restAddable b (replaced on k (placeAt nets k)) nets (k + 1)
 unfolding restAddable netsFrom
 rest-turn b on nets zero l m g h f = absurd (omega arith)
@@ -56,7 +56,7 @@ rest-turn b on nets (suc i) l m g h f =
     rw (x, y, z, drop-cons nets i nothing (omega arith))
     (held-turn b on i (getD nets i nothing .held) (netsFrom (suc (suc i)) (drop (suc i) nets)) l (omega arith) f)
 
-pub rest-next : (b : Board) (on nets : List Place) (k : ℕ) (ok can was : Bool) → length on ≡ 64 → length nets ≡ 64 → 1 ≤ k → k ≤ 64
+pub rest-next : (b : Block) (on nets : List Place) (k : ℕ) (ok can was : Bool) → length on ≡ 64 → length nets ≡ 64 → 1 ≤ k → k ≤ 64
     → placeAt on k ≡ nothing
     → can ≡ heldAccepted b (netsOf on) k (placeAt nets k .held) → ok && restAddable b on nets k ≡ was
     → (ok && can) && restAddable b (replaced on k (placeAt nets k)) nets (k + 1) ≡ was
@@ -85,11 +85,11 @@ empty-place zero (suc i) = refl
 empty-place (suc n) (suc zero) = refl
 empty-place (suc n) (suc (suc i)) = empty-place n (suc i)
 
-pub rest-first : (b : Board) (nets : List Place) (n : ℕ) → restAddable b (replicate n nothing) nets 1 ≡ addable? b [] (netsOf nets)
+pub rest-first : (b : Block) (nets : List Place) (n : ℕ) → restAddable b (replicate n nothing) nets 1 ≡ addable? b [] (netsOf nets)
 unfolding restAddable netsOf
 rest-first b nets n = rw (nets-none n) refl
 
-pub rest-last : (b : Board) (on nets : List Place) (k : ℕ) (ok was : Bool) → length nets ≡ 64 → k ≡ 65
+pub rest-last : (b : Block) (on nets : List Place) (k : ℕ) (ok was : Bool) → length nets ≡ 64 → k ≡ 65
     → ok && restAddable b on nets k ≡ was → ok ≡ was
 unfolding restAddable netsFrom addable?
 rest-last b on nets k ok was l e inv =

@@ -7,7 +7,7 @@ use Prim.Native.Nat.{_<_}
 use native.Mathlib.Omega.{arith}
 use lib.ListN.{length}
 use Rattle.count.specs.Truth.{and-assoc}
-use Rattle.board.specs.Board.{Board}
+use Rattle.board_block.specs.Block.{Block}
 use Rattle.net.specs.declared.Net.{Net}
 use Rattle.net.specs.declared.Change.{Change}
 use Rattle.net.specs.declared.Change.the-variants.{Added, Withdrawn}
@@ -20,16 +20,16 @@ use Rattle.session_laws.specs.Accept.{free-of}
 use Rattle.net_places.specs.Numbered.{replaced, length-replaced}
 use Rattle.net_places.specs.Places.{holding, netsOf, reversedIn}
 use Rattle.net_places.specs.Nets.{insert-of, remove-of}
-use Rattle.net_places.specs.Pile.{pileOf, topOf, lifted}
-use Rattle.net_places.specs.Changes.{pile-top, pile-empty}
-use Rattle.net_places.specs.declared.Pile.{Pile}
+use Rattle.session_pile.specs.Pile.{pileOf, topOf, lifted}
+use Rattle.session_pile.specs.Changes.{pile-top, pile-empty}
+use Rattle.session_pile.specs.declared.Pile.{Pile}
 
 -- a net that add accepts goes to its place
-pub insert-accepted : (b : Board) (ps : List Place) (n : Net) → length ps ≡ 64 → accepts b (netsOf ps) n ≡ true
+pub insert-accepted : (b : Block) (ps : List Place) (n : Net) → length ps ≡ 64 → accepts b (netsOf ps) n ≡ true
     → netsOf (replaced ps (n .number) (holding (n .ends))) ≡ insert n (netsOf ps)
 insert-accepted b ps n l e = let f = free-of b (netsOf ps) n e in insert-of ps n (f .low) (omega (arith, f .high)) (f .new)
 
-pub reversed-of : (b : Board) (ps : List Place) (c : Change) → length ps ≡ 64 → liftable? b (netsOf ps) c ≡ true
+pub reversed-of : (b : Block) (ps : List Place) (c : Change) → length ps ≡ 64 → liftable? b (netsOf ps) c ≡ true
     → netsOf (reversedIn c ps) ≡ reversed c (netsOf ps)
 unfolding reversedIn reversed liftable?
 reversed-of b ps (Added n) l e = remove-of ps (n .number)
@@ -45,18 +45,18 @@ and-none true = refl
 and-none false = refl
 
 -- ── one turn of the loop ──
-turn : (ok can : Bool) (b : Board) (ps : List Place) (c : Change) (cs : List Change) → length ps ≡ 64 → liftable? b (netsOf ps) c ≡ can
+turn : (ok can : Bool) (b : Block) (ps : List Place) (c : Change) (cs : List Change) → length ps ≡ 64 → liftable? b (netsOf ps) c ≡ can
     → (ok && can) && lifts? b (netsOf (reversedIn c ps)) cs ≡ ok && (can && lifts? b (reversed c (netsOf ps)) cs)
 turn ok true b ps c cs l e = rw (reversed-of b ps c l e) (and-assoc ok true (lifts? b (reversed c (netsOf ps)) cs))
 turn ok false b ps c cs l e = and-assoc ok false (lifts? b (netsOf (reversedIn c ps)) cs)
 
-pub lifts-turn : (b : Board) (ps qs : List Place) (p q : Pile) (ok can was : Bool) → length ps ≡ 64 → 0 < p .depth
+pub lifts-turn : (b : Block) (ps qs : List Place) (p q : Pile) (ok can was : Bool) → length ps ≡ 64 → 0 < p .depth
     → can ≡ liftable? b (netsOf ps) (topOf p) → qs ≡ reversedIn (topOf p) ps → q ≡ lifted p → ok && lifts? b (netsOf ps) (pileOf p) ≡ was
     → (ok && can) && lifts? b (netsOf qs) (pileOf q) ≡ was
 unfolding lifts?
 lifts-turn b ps qs p q ok can was l h c r f inv =
     rw (r, f) (turn ok can b ps (topOf p) (pileOf (lifted p)) l (sym c) ∙ (rw (pile-top p h, ← c) at inv))
 
-pub lifts-done : (b : Board) (ps : List Place) (p : Pile) (ok was : Bool) → p .depth ≡ 0 → ok && lifts? b (netsOf ps) (pileOf p) ≡ was → ok ≡ was
+pub lifts-done : (b : Block) (ps : List Place) (p : Pile) (ok was : Bool) → p .depth ≡ 0 → ok && lifts? b (netsOf ps) (pileOf p) ≡ was → ok ≡ was
 unfolding lifts?
 lifts-done b ps p ok was e inv = sym (and-none ok) ∙ (rw (pile-empty p e) at inv)

@@ -1,21 +1,21 @@
 // Does what a session holds stand on its board: could its nets all be added, and can its pile be lifted to the bottom?
-use board::Board;
+use board_block::Block;
 use net::Change;
 use net::Held;
 use net::Net;
 use net::Place;
-use net_places::Pile;
+use session_pile::Pile;
 ghost use mathlib.Core.Path.{_≡_};
 ghost use mathlib.Core.List.{[]};
-ghost use Rattle.board.specs.View.{boardOf};
+ghost use Rattle.board_block.specs.View.{blockOf};
 ghost use Rattle.session_rules.specs.Sound.{addable?, liftable?, lifts?};
 ghost use Rattle.net_places.specs.Places.{netsOf};
-ghost use Rattle.net_places.specs.Pile.{pileOf};
+ghost use Rattle.session_pile.specs.Pile.{pileOf};
 ghost use Rattle.session_sound.specs.OneByOne.{heldAccepted};
 
 // Does add accept what the place holds under this number?
-fn is_held_free(b: Board, nets: [Place; 64], number: u8, place: Place) -> bool
-    ensures { λ r. ⌜ r ≡ heldAccepted (boardOf b) (netsOf nets) number (place .held) ⌝ }
+fn is_held_free(b: Block, nets: [Place; 64], number: u8, place: Place) -> bool
+    ensures { λ r. ⌜ r ≡ heldAccepted (blockOf b) (netsOf nets) number (place .held) ⌝ }
 {
     let held = place.held;
     match held {
@@ -25,8 +25,8 @@ fn is_held_free(b: Board, nets: [Place; 64], number: u8, place: Place) -> bool
 }
 
 // Could the nets all be added to the bare board? They are added one by one, in rising number.
-pub fn is_addable(b: Board, nets: [Place; 64]) -> bool
-    ensures { λ r. ⌜ r ≡ addable? (boardOf b) [] (netsOf nets) ⌝ }
+pub fn is_addable(b: Block, nets: [Place; 64]) -> bool
+    ensures { λ r. ⌜ r ≡ addable? (blockOf b) [] (netsOf nets) ⌝ }
 {
     let mut on = [Place {
         held: Held::Nothing,
@@ -44,8 +44,8 @@ pub fn is_addable(b: Board, nets: [Place; 64]) -> bool
 }
 
 // Can the change be reversed? An added net is on the board as recorded, a withdrawn net is one that add accepts.
-fn is_liftable(b: Board, nets: [Place; 64], change: Change) -> bool
-    ensures { λ r. ⌜ r ≡ liftable? (boardOf b) (netsOf nets) change ⌝ }
+fn is_liftable(b: Block, nets: [Place; 64], change: Change) -> bool
+    ensures { λ r. ⌜ r ≡ liftable? (blockOf b) (netsOf nets) change ⌝ }
 {
     match change {
         Change::Added(net) => net_places::is_recorded(nets, net),
@@ -54,8 +54,8 @@ fn is_liftable(b: Board, nets: [Place; 64], change: Change) -> bool
 }
 
 // Can the pile be lifted to the bottom?
-pub fn lifts(b: Board, nets: [Place; 64], pile: Pile) -> bool
-    ensures { λ r. ⌜ r ≡ lifts? (boardOf b) (netsOf nets) (pileOf pile) ⌝ }
+pub fn lifts(b: Block, nets: [Place; 64], pile: Pile) -> bool
+    ensures { λ r. ⌜ r ≡ lifts? (blockOf b) (netsOf nets) (pileOf pile) ⌝ }
 {
     let mut on = nets;
     let mut rest = pile;

@@ -3,8 +3,10 @@ use mathlib.Core.List.{List, [], _∷_}
 use Prim.Native.Nat.{ℕ}
 use Rattle.board.specs.Board.{Board, at}
 use Rattle.board.specs.declared.Row.{Row}
+use Rattle.board_block.specs.Block.{plain}
 use Rattle.net.specs.declared.Net.{Net}
-use Rattle.session_rules.specs.Session.{Session}
+use Rattle.session_rules.specs.Session.{Session, withNets}
+use Rattle.session_rules.specs.Sound.{bare}
 use Rattle.call_rules.specs.Result.{Result, no, yes}
 
 -- row l-r
@@ -19,7 +21,7 @@ abbrev pub net : ℕ → (l c m d : ℕ) → Net
 net k l c m d = record { number = k; ends = record { first = at l c; second = at m d } }
 
 abbrev pub session : List Row → List Net → Session
-session rs ns = record { board = board rs; nets = ns; pile = [] }
+session rs ns = withNets (bare (plain (board rs))) ns []
 
 -- "The ring, printed whole": the input words and the printed words
 abbrev pub ringInput : List ℕ

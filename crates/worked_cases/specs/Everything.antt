@@ -7,6 +7,7 @@ use Rattle.count.specs.Sum.{sum, count}
 use Rattle.count.specs.Lists.{select}
 use Rattle.board.specs.Path.{turn, turns}
 use Rattle.board.specs.Degree.{belowRight, belowLeft, aboveRight, aboveLeft, vertex?, edge?, degree, pins}
+use Rattle.board_block.specs.Block.{pinsOf}
 use Rattle.board_convex.specs.Test.{rowsFit, contains?, peels, inLimits, isConvex}
 use Rattle.net.specs.Terminals.{terminals}
 use Rattle.cut.specs.Cut.{edges, crosses, crossing, margin, overfull?, cuts, overfullCuts}
@@ -29,7 +30,7 @@ use Rattle.call_rules.specs.Judge.{judged, judgeWords, compareWords, judgeBytes
 use Rattle.call_rules.specs.Route.{routeRefused}
 
 unfoldable pub everything : ℕ
-unfolding sum count select turn turns belowRight belowLeft aboveRight aboveLeft vertex? edge? degree pins rowsFit contains? peels inLimits isConvex
+unfolding sum count select turn turns belowRight belowLeft aboveRight aboveLeft vertex? edge? degree pins pinsOf rowsFit contains? peels inLimits isConvex
     terminals edges crosses crossing margin overfull? cuts overfullCuts odd? oddVertices edgesFrom trails uses path? joins? once? routing? holds
     insert remove netOf recorded addLines addRefused accepts lay added withdrawn reversed takenBack step rising? addable? liftable? lifts? sound? call
     boardWord asRow asNet asEnd routingWord asPath asRun asRoutingEnd runsOf pathWords pathsWords routingWords wordsIn bytesOf wordLines takeWords

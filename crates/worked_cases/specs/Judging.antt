@@ -9,6 +9,7 @@ use Rattle.board.specs.Path.{turns}
 use Rattle.board.specs.declared.Direction.the-variants.{Up, Right, Down, Left}
 use Rattle.net.specs.declared.Change.the-variants.{Withdrawn}
 use Rattle.words.specs.RoutingWord.{routingWords}
+use Rattle.session_rules.specs.Session.{withNets}
 use Rattle.call_rules.specs.Result.{yes}
 use Rattle.call_rules.specs.Report.{knockKnees}
 use Rattle.call_rules.specs.Judge.{judgeWords, compareWords, judgeBytes}
@@ -112,11 +113,11 @@ unfolding everything
 too-many = refl
 
 -- 20 before 41, and before 10: the pile has a withdrawn net whose number is on the board
-unsound : why (judgeWords (record { board = ring .board; nets = ring .nets; pile = Withdrawn (net 1 0 0 0 1) ∷ [] }) []) ≡ 20 ∷ 0 ∷ []
+unsound : why (judgeWords (withNets ring (ring .nets) (Withdrawn (net 1 0 0 0 1) ∷ [])) []) ≡ 20 ∷ 0 ∷ []
 unfolding everything
 unsound = refl
 
-unsound-bytes : why (judgeBytes (record { board = ring .board; nets = ring .nets; pile = Withdrawn (net 1 0 0 0 1) ∷ [] }) (1 ∷ [])) ≡ 20 ∷ 0 ∷ []
+unsound-bytes : why (judgeBytes (withNets ring (ring .nets) (Withdrawn (net 1 0 0 0 1) ∷ [])) (1 ∷ [])) ≡ 20 ∷ 0 ∷ []
 unfolding everything
 unsound-bytes = refl
 

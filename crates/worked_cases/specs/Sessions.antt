@@ -7,7 +7,9 @@ use mathlib.Core.Option.{Option, none, some}
 use Prim.Native.Nat.{ℕ, zero, suc}
 use lib.ListN.{length}
 use Rattle.net.specs.declared.Change.the-variants.{Added}
+use Rattle.board_block.specs.Block.{plain}
 use Rattle.session_rules.specs.Refusal.{Refusal}
+use Rattle.session_rules.specs.Session.{withNets}
 use Rattle.session_rules.specs.Machine.{Call, add, withdraw, takeBack, Answer, accepted, refused, after, answers}
 use Rattle.session_rules.specs.Sound.{sound?, call, bare, blank}
 use Rattle.call_rules.specs.Writing.{writeBoard}
@@ -25,7 +27,7 @@ refusalList none = []
 refusalList (some r) = r .number ∷ r .place
 
 -- one cell; each call meets the session that the calls before it left
-calls : map answerList (answers (bare (board (row 0 1 ∷ []))) (
+calls : map answerList (answers (bare (plain (board (row 0 1 ∷ [])))) (
     takeBack
     -- 21 before 23 and 24; 0 and 65
     ∷ add (net 0 9 9 9 9) ∷ add (net 65 0 0 1 1)
@@ -55,9 +57,9 @@ unfolding everything
 calls = refl
 
 -- what add, withdraw and take back leave: a withdrawn net returns with its terminals, in its place
-history : after (bare (board (row 0 1 ∷ []))) (add (net 2 0 0 1 1) ∷ add (net 1 1 0 0 1) ∷ withdraw 1 ∷ takeBack ∷ [])
+history : after (bare (plain (board (row 0 1 ∷ [])))) (add (net 2 0 0 1 1) ∷ add (net 1 1 0 0 1) ∷ withdraw 1 ∷ takeBack ∷ [])
     ≡ record {
-      board = board (row 0 1 ∷ []);
+      block = plain (board (row 0 1 ∷ []));
       nets = net 1 1 0 0 1 ∷ net 2 0 0 1 1 ∷ [];
       pile = Added (net 1 1 0 0 1) ∷ Added (net 2 0 0 1 1) ∷ [];
     }
@@ -69,18 +71,18 @@ abbrev upAndDown : ℕ → List Call
 upAndDown zero = []
 upAndDown (suc k) = add (net 1 0 0 1 1) ∷ withdraw 1 ∷ upAndDown k
 
-long-pile : length (after (bare (board (row 0 1 ∷ []))) (upAndDown 33) .pile) ≡ 64
+long-pile : length (after (bare (plain (board (row 0 1 ∷ [])))) (upAndDown 33) .pile) ≡ 64
 unfolding everything
 long-pile = refl
 
 -- 20 before 21: a pile with an added net that is not on the board
-unsound : answerList (call (record { board = board (row 0 1 ∷ []); nets = []; pile = Added (net 1 0 0 1 1) ∷ [] }) (add (net 0 0 0 1 1)) .answer)
+unsound : answerList (call (withNets (bare (plain (board (row 0 1 ∷ [])))) [] (Added (net 1 0 0 1 1) ∷ [])) (add (net 0 0 0 1 1)) .answer)
     ≡ 20 ∷ 0 ∷ []
 unfolding everything
 unsound = refl
 
 -- 20: case f as a session's board
-unsound-board : answerList (call (bare (board (row 0 1 ∷ row 1 2 ∷ []))) takeBack .answer) ≡ 20 ∷ 0 ∷ []
+unsound-board : answerList (call (bare (plain (board (row 0 1 ∷ row 1 2 ∷ [])))) takeBack .answer) ≡ 20 ∷ 0 ∷ []
 unfolding everything
 unsound-board = refl
 
@@ -89,7 +91,7 @@ unfolding everything
 blank-sound = refl
 
 -- ── writing: 20, then 18 ──
-writing : why (writeBoard ring 95) ∷ why (writeBoard ring 96) ∷ why (writeBoard (bare (board [])) 0) ∷ []
+writing : why (writeBoard ring 95) ∷ why (writeBoard ring 96) ∷ why (writeBoard (bare (plain (board []))) 0) ∷ []
     ≡ (18 ∷ 0 ∷ []) ∷ [] ∷ (20 ∷ 0 ∷ []) ∷ []
 unfolding everything
 writing = refl
@@ -97,10 +99,10 @@ writing = refl
 -- ── routing: 20, 31, 32, 33 in this order ──
 routing : map refusalList (
     -- 20 before 31
-    routeRefused (bare (board [])) 0
+    routeRefused (bare (plain (board []))) 0
     -- 31 before 32: two cells and no nets
-    ∷ routeRefused (bare (board (row 0 2 ∷ []))) 2048
-    ∷ routeRefused (bare (board (row 0 2 ∷ []))) 2049
+    ∷ routeRefused (bare (plain (board (row 0 2 ∷ [])))) 2048
+    ∷ routeRefused (bare (plain (board (row 0 2 ∷ [])))) 2049
     -- 33: case c, where both cuts are overfull; the row comes first
     ∷ routeRefused (session (row 0 1 ∷ []) (net 1 0 0 1 1 ∷ net 2 0 0 1 1 ∷ net 3 0 1 1 0 ∷ net 4 0 1 1 0 ∷ [])) 2049
     -- 33: a column alone is overfull

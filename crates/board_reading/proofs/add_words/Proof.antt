@@ -5,7 +5,7 @@ use Rattle.board_reading.specs.declared.Added.{Added}
 use Rattle.board_reading.specs.Adding.{addedWord, Adding, adding-start, adding-more, adding-refused, adding-end}
 use Rattle.board_scan.specs.Promise.{nonzero}
 use Rattle.words.specs.BoardWord.{boardWord}
-use Rattle.board.specs.View.{boardOf}
+use Rattle.board_block.specs.View.{blockOf}
 use lib.ListN.{length, getD}
 use mathlib.Core.Logic.{inl, inr}
 use mathlib.Core.Path.{_≡_, refl, ap, sym, _∙_}
@@ -19,13 +19,13 @@ use Rattle.words.proofs.board_word.Reads as board-word-reads
 
 abbrev Inv-loop : tie.InvT-loop
 Inv-loop b words nets₀ n i₀ nets i =
-    (i ≤ n) × (n ≡ length words) × Adding (boardOf b) words i nets
+    (i ≤ n) × (n ≡ length words) × Adding (blockOf b) words i nets
 
 abbrev μ-loop : tie.MeasureT-loop
 μ-loop b words nets₀ n i₀ nets i = n - i
 
 loop-holds : tie.Need-loop-holds Inv-loop μ-loop
-loop-holds c = (omega arith, refl, adding-start (boardOf (c .before .args .b)) (c .before .args .words .now))
+loop-holds c = (omega arith, refl, adding-start (blockOf (c .before .args .b)) (c .before .args .words .now))
 
 mul-board-word : tie.Need-mul-board-word Inv-loop μ-loop
 mul-board-word c = search needs
@@ -45,7 +45,7 @@ returns c =
     let at-board-word = at-add-word .before in let board-word = at-board-word .board-word in
     let at-loop = at-board-word .before .before .before in let loop = at-loop .loop in
     let at-args = at-loop .before .before in let args = at-args .args in
-    let b = boardOf (args .b) in let ws = args .words .now in let at = loop in
+    let b = blockOf (args .b) in let ws = args .words .now in let at = loop in
     let e : addedWord b (at .nets) (boardWord (getD ws (at .i) 0)) ≡ add-word .result = rw (← board-word .ensures) (sym (add-word .ensures)) in
     let k = nonzero (add-word .result .number) (c .if1 .taken) in
     inl (k .0, k .1, adding-refused b ws (at .i) (at .nets) (at .inv .2) (omega arith) (k .0) (ap (λ (a : Added). a .number) e ∙ k .1))
@@ -63,13 +63,13 @@ loop-again c =
     let at-board-word = at-add-word .before in let board-word = at-board-word .board-word in
     let at-loop = at-board-word .before .before .before in let loop = at-loop .loop in
     let at-args = at-loop .before .before in let args = at-args .args in
-    let b = boardOf (args .b) in let ws = args .words .now in let at = loop in
+    let b = blockOf (args .b) in let ws = args .words .now in let at = loop in
     let e : addedWord b (at .nets) (boardWord (getD ws (at .i) 0)) ≡ add-word .result = rw (← board-word .ensures) (sym (add-word .ensures)) in
     (omega arith, at .inv .1, rw e at (adding-more b ws (at .i) (at .nets) (at .inv .2) (omega arith) (ap (λ (a : Added). a .number) e ∙ if1 .left)))
 
 returns-2 : tie.Need-returns-2 Inv-loop μ-loop
 returns-2 c =
-    let b = boardOf (c .before .before .before .args .b) in let ws = c .before .before .before .args .words .now in let at = c .before .loop in
+    let b = blockOf (c .before .before .before .args .b) in let ws = c .before .before .before .args .words .now in let at = c .before .loop in
     inr (refl, adding-end b ws (at .i) (at .nets) (at .inv .2) (omega arith), at .inv .2 .size)
 
 pub add-words-spec : {M : Type 1} → statement M

@@ -44,6 +44,9 @@ returns-2 c =
     refused-read (readWords ws) 16 0 _ (c .refused2 .ensures)
     (bent-refused ws (s .result) (s .ensures) (if1 .left) (sym (x .ensures .same) ∙ not-true (x .result) (if2 .taken)))
 
+plain-requires : tie.Need-plain-requires
+plain-requires c κs = search needs
+
 add-words-requires : tie.Need-add-words-requires
 add-words-requires c κs = search needs
 
@@ -54,33 +57,39 @@ returns-3 : tie.Need-returns-3
 returns-3 c =
     let at-if3 = c .before in let if3 = at-if3 .if3 in
     let at-add-words = at-if3 .before .before in let add-words = at-add-words .add-words in
-    let at-if2 = at-add-words .before in let if2 = at-if2 .if2 in
+    let at-plain = at-add-words .before in let plain = at-plain .plain in
+    let at-if2 = at-plain .before in let if2 = at-if2 .if2 in
     let at-if1 = at-if2 .before in let if1 = at-if1 .if1 in
     let at-is-convex = at-if1 .before in let is-convex = at-is-convex .is-convex in
     let at-scan-words = at-is-convex .before .before .before in let scan-words = at-scan-words .scan-words in
     let at-args = at-scan-words .before .before in let args = at-args .args in
     let ws = args .words .now in let s = scan-words in let x = is-convex in let a = add-words in
     refused-read (readWords ws) (a .result .number) (a .result .index) _ (c .refused3 .ensures)
-    (net-refused ws (s .result) (s .ensures) (if1 .left) (sym (x .ensures .same) ∙ not-false (x .result) (if2 .left)) (a .result) (a .ensures)
+    (net-refused ws (s .result) (s .ensures) (if1 .left) (sym (x .ensures .same) ∙ not-false (x .result) (if2 .left)) (a .result) (rw (plain .ensures) at (a .ensures))
     (if3 .taken))
 
 fresh-requires : tie.Need-fresh-requires
 fresh-requires c κs = search needs
 
+with-places-requires : tie.Need-with-places-requires
+with-places-requires c κs = search needs
+
 returns-4 : tie.Need-returns-4
 returns-4 c =
-    let at-fresh = c .before .before in let fresh = at-fresh .fresh in
+    let at-fresh = c .before .before .before in let fresh = at-fresh .fresh in
     let at-if3 = at-fresh .before in let if3 = at-if3 .if3 in
     let at-add-words = at-if3 .before .before in let add-words = at-add-words .add-words in
-    let at-if2 = at-add-words .before in let if2 = at-if2 .if2 in
+    let at-plain = at-add-words .before in let plain = at-plain .plain in
+    let at-if2 = at-plain .before in let if2 = at-if2 .if2 in
     let at-if1 = at-if2 .before in let if1 = at-if1 .if1 in
     let at-is-convex = at-if1 .before in let is-convex = at-is-convex .is-convex in
     let at-scan-words = at-is-convex .before .before .before in let scan-words = at-scan-words .scan-words in
     let at-args = at-scan-words .before .before in let args = at-args .args in
     let ws = args .words .now in let s = scan-words in let x = is-convex in let a = add-words in
-    session-read ws (s .result) (s .ensures) (if1 .left) (sym (x .ensures .same) ∙ not-false (x .result) (if2 .left)) (a .result) (a .ensures)
+    rw (c .with-places .ensures)
+    (session-read ws (s .result) (s .ensures) (if1 .left) (sym (x .ensures .same) ∙ not-false (x .result) (if2 .left)) (a .result) (rw (plain .ensures) at (a .ensures))
     (if3 .left)
-    (fresh .result) (fresh .ensures)
+    (fresh .result) (rw (plain .ensures) at (fresh .ensures)))
 
 pub read-words-spec : {M : Type 1} → statement M
 read-words-spec =
@@ -92,8 +101,10 @@ read-words-spec =
     returns
     refused-requires-2
     returns-2
+    plain-requires
     add-words-requires
     refused-requires-3
     returns-3
     fresh-requires
+    with-places-requires
     returns-4)

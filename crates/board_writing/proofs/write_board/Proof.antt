@@ -34,7 +34,7 @@ write-sound-requires c κs =
     let at-if1 = c .before .before in let if1 = at-if1 .if1 in
     let at-sound = at-if1 .before in let sound = at-sound .sound in
     let at-args = at-sound .before .before in let args = at-args .args in
-    (omega (arith, height-of (args .s .board), sound .ensures .exact .0 (not-false (sound .result) (if1 .left)) .within .few), omega arith)
+    (omega (arith, height-of (args .s .block .board), sound .ensures .exact .0 (not-false (sound .result) (if1 .left)) .within .few), omega arith)
 
 same-length : tie.Need-same-length
 same-length c = search needs

@@ -1,7 +1,7 @@
 -- `write_sound` writes the words of the board and the nets.
 use native.Mathlib.Omega.{arith}
 use Rattle.board_writing.specs.Promise.{all-written}
-use Rattle.net_places.specs.Shift.{length-unmapped-by}
+use Rattle.session_pile.specs.Shift.{length-unmapped-by}
 use lib.ListN.{length, length-set}
 use mathlib.Core.Path.{_≡_, _∙_}
 use Prim.Native.Nat.{_<_}

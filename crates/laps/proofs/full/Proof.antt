@@ -10,6 +10,9 @@ Inv-loop session₀ number₀ session number = number ≤ 65
 abbrev μ-loop : tie.MeasureT-loop
 μ-loop session₀ number₀ session number = 65 - number
 
+plain-requires : tie.Need-plain-requires Inv-loop μ-loop
+plain-requires c κs = search needs
+
 fresh-requires : tie.Need-fresh-requires Inv-loop μ-loop
 fresh-requires c κs = search needs
 
@@ -40,6 +43,7 @@ full-spec =
     (tie.spec
     Inv-loop
     μ-loop
+    plain-requires
     fresh-requires
     loop-holds
     net-of-requires

@@ -9,6 +9,9 @@ Inv-loop s session₀ at₀ turns₀ session at turns = Unit {0}
 abbrev μ-loop : tie.MeasureT-loop
 μ-loop s session₀ at₀ turns₀ session at turns = turns
 
+plain-requires : tie.Need-plain-requires Inv-loop μ-loop
+plain-requires c κs = search needs
+
 fresh-requires : tie.Need-fresh-requires Inv-loop μ-loop
 fresh-requires c κs = search needs
 
@@ -39,6 +42,7 @@ replay-spec =
     (tie.spec
     Inv-loop
     μ-loop
+    plain-requires
     fresh-requires
     loop-holds
     line-requires

@@ -26,7 +26,7 @@ fill-lines-requires : tie.Need-fill-lines-requires
 fill-lines-requires c κs =
     let start = c .before .before .before .before .before in
     let W = even-sound (sessionOf (start .args .s)) (start .pre .0 .0) .within in (
-      (omega (arith, height-of (start .args .s .board), W .some), omega (arith, height-of (start .args .s .board), W .few)),
+      (omega (arith, height-of (start .args .s .block .board), W .some), omega (arith, height-of (start .args .s .block .board), W .few)),
       (length-replicate {A = ℕ} 32 0, length-replicate {A = ℕ} 32 0),
     )
 
@@ -44,7 +44,7 @@ cut-all-requires c κs =
     let at-first-work = c .before .before .before .before .before .before .before .before .before .before .before .before in
     let at-fill-table = at-first-work .before in
     let start = at-fill-table .before .before .before .before .before .before .before .before .before .before .before .before in
-    let board = start .args .s .board in
+    let board = start .args .s .block .board in
     let W = even-sound (sessionOf (start .args .s)) (start .pre .0 .0) .within in
     let F = first-low (at-first-work .first-work .result) (board .count) (at-fill-table .fill-table .result) (at-first-work .first-work .ensures)
     (omega (arith, height-of board, W .few)) (at-fill-table .fill-table .ensures .1) in
@@ -70,7 +70,7 @@ returns c =
     let s = sessionOf (start .args .s) in
     let E = start .pre .0 .0 in
     let T = table-as (pairs-of (start .args .s .nets)) (at-fill-table .fill-table .ensures .0) in
-    handed-back s (problem-of s (even-sound s E)) (E .even) (start .pre .0 .1) (sym (height-of (start .args .s .board)))
+    handed-back s (problem-of s (even-sound s E)) (E .even) (start .pre .0 .1) (sym (height-of (start .args .s .block .board)))
     (at-fill-lines .fill-lines .ensures) T
     (at-fill-table .fill-table .ensures .1) (at-first-work .first-work .result) (at-first-work .first-work .ensures) (at-cut-all .cut-all .ensures)
     (start .pre .1)

@@ -11,7 +11,7 @@ no-slot-requires c κs = search needs
 
 returns : tie.Need-returns
 unfolding freshOf
-returns c = fresh-promise (c .before .args .board) _ (rw (c .no-slot .ensures) refl)
+returns c = fresh-promise (c .before .args .block) _ (rw (c .no-slot .ensures) refl)
 
 pub fresh-spec : {M : Type 1} → statement M
 fresh-spec = tie.close (tie.spec no-slot-requires returns)

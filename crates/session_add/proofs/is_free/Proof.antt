@@ -1,6 +1,6 @@
 -- `is_free` tells whether add accepts the net.
 use mathlib.Core.Path.{ap, _∙_}
-use Rattle.board.specs.View.{boardOf}
+use Rattle.board_block.specs.View.{blockOf}
 use Rattle.net_places.specs.Places.{netsOf}
 use Rattle.session_answers.specs.Answers.{isAccepted}
 use Rattle.session_add.specs.Check.{check-accepts}
@@ -17,7 +17,7 @@ is-accepted-requires c κs = search needs
 returns : tie.Need-returns
 returns c =
     let at2 = c .before .before in
-    c .is-accepted .ensures ∙ ap isAccepted (c .before .check .ensures) ∙ check-accepts (boardOf (at2 .args .b)) (netsOf (at2 .args .nets))
+    c .is-accepted .ensures ∙ ap isAccepted (c .before .check .ensures) ∙ check-accepts (blockOf (at2 .args .b)) (netsOf (at2 .args .nets))
     (at2 .args .net)
 
 pub is-free-spec : {M : Type 1} → statement M

@@ -6,7 +6,7 @@ use mathlib.Core.Bool.{_&&_}
 use mathlib.Core.List.{[]}
 use Prim.Native.Nat.{ℕ, _-_, _≤_}
 use lib.ListN.{length, length-replicate}
-use Rattle.board.specs.View.{boardOf}
+use Rattle.board_block.specs.View.{blockOf}
 use Rattle.net.specs.View.{nothing}
 use Rattle.session_rules.specs.Sound.{addable?}
 use Rattle.net_places.specs.Numbered.{length-replaced}
@@ -21,13 +21,13 @@ Inv-loop b nets on₀ ok₀ number₀ on ok number =
     × (number ≤ 65)
     × (length on ≡ 64)
     × ((j : ℕ) → number ≤ j → placeAt on j ≡ nothing)
-    × (ok && restAddable (boardOf b) on nets number ≡ addable? (boardOf b) [] (netsOf nets))
+    × (ok && restAddable (blockOf b) on nets number ≡ addable? (blockOf b) [] (netsOf nets))
 
 abbrev μ-loop : tie.MeasureT-loop
 μ-loop b nets on₀ ok₀ number₀ on ok number = 65 - number
 
 loop-holds : tie.Need-loop-holds Inv-loop μ-loop
-loop-holds c = (omega arith, omega arith, length-replicate 64 nothing, λ j h. empty-place 64 j, rest-first (boardOf (c .args .b)) (c .args .nets) 64)
+loop-holds c = (omega arith, omega arith, length-replicate 64 nothing, λ j h. empty-place 64 j, rest-first (blockOf (c .args .b)) (c .args .nets) 64)
 
 place-of-requires : tie.Need-place-of-requires Inv-loop μ-loop
 place-of-requires c κs = search needs
@@ -59,7 +59,7 @@ loop-again c =
           rw (c .stored .ensures)
           (above-next (at .on) (at .number) j (at2 .place-of .result) (omega arith) ∙ inv .3 j (omega arith)),
       rw (c .stored .ensures, at2 .place-of .ensures)
-          (rest-next (boardOf (at5 .args .b)) (at .on) (at5 .args .nets) (at .number) (at .ok) (c .before .is-held-free .result) _
+          (rest-next (blockOf (at5 .args .b)) (at .on) (at5 .args .nets) (at .number) (at .ok) (c .before .is-held-free .result) _
           (inv .2) (search needs) (inv .0) k (inv .3 (at .number) (omega arith)) (cc) (inv .4)),
     )
 
@@ -67,7 +67,7 @@ returns : tie.Need-returns Inv-loop μ-loop
 returns c =
     let at2 = c .before .before in
     let at = c .before .loop in
-    rest-last (boardOf (at2 .args .b)) (at .on) (at2 .args .nets) (at .number) (at .ok) _ (search needs) (omega arith) (at .inv .4)
+    rest-last (blockOf (at2 .args .b)) (at .on) (at2 .args .nets) (at .number) (at .ok) _ (search needs) (omega arith) (at .inv .4)
 
 pub is-addable-spec : {M : Type 1} → statement M
 is-addable-spec =

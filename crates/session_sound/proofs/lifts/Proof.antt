@@ -4,10 +4,10 @@ use borrow.Author.Needs.{needs}
 use mathlib.Core.Path.{_≡_, refl, _∙_}
 use mathlib.Core.Bool.{_&&_}
 use lib.ListN.{length}
-use Rattle.board.specs.View.{boardOf}
+use Rattle.board_block.specs.View.{blockOf}
 use Rattle.session_rules.specs.Sound.{lifts?}
 use Rattle.net_places.specs.Places.{netsOf}
-use Rattle.net_places.specs.Pile.{pileOf}
+use Rattle.session_pile.specs.Pile.{pileOf}
 use Rattle.session_sound.specs.Reverse.{length-reversed, lifts-turn, lifts-done}
 use Rattle.session_sound.proofs.lifts.Statement.{statement}
 use Rattle.session_sound.proofs.lifts.Tie as tie
@@ -15,7 +15,7 @@ use Rattle.session_sound.proofs.lifts.Tie as tie
 abbrev Inv-loop : tie.InvT-loop
 Inv-loop b on₀ rest₀ ok₀ on rest ok =
     (length on ≡ 64)
-    × (ok && lifts? (boardOf b) (netsOf on) (pileOf rest) ≡ lifts? (boardOf b) (netsOf on₀) (pileOf rest₀))
+    × (ok && lifts? (blockOf b) (netsOf on) (pileOf rest) ≡ lifts? (blockOf b) (netsOf on₀) (pileOf rest₀))
 
 abbrev μ-loop : tie.MeasureT-loop
 μ-loop b on₀ rest₀ ok₀ on rest ok = rest .depth
@@ -46,12 +46,12 @@ loop-again c =
     let at7 = at6 .before in
     let at = at6 .loop in (
       rw (c .before .reversed .ensures) (length-reversed (at3 .top .result) (at .on) ∙ at .inv .0),
-      lifts-turn (boardOf (at7 .args .b)) (at .on) (c .before .reversed .result) (at .rest) (c .lift .result) (at .ok)
+      lifts-turn (blockOf (at7 .args .b)) (at .on) (c .before .reversed .result) (at .rest) (c .lift .result) (at .ok)
           (at2 .is-liftable .result) _ (at .inv .0) (search needs) (cc) (cc) (c .lift .ensures) (at .inv .1),
     )
 
 returns : tie.Need-returns Inv-loop μ-loop
-returns c = let at = c .before .before .loop in lifts-done (boardOf (c .before .before .before .args .b)) (at .on) (at .rest) (at .ok) _ (omega arith)
+returns c = let at = c .before .before .loop in lifts-done (blockOf (c .before .before .before .args .b)) (at .on) (at .rest) (at .ok) _ (omega arith)
     (at .inv .1)
 
 pub lifts-spec : {M : Type 1} → statement M

@@ -1,7 +1,7 @@
 -- `add` keeps its promise.
 use mathlib.Core.Path.{refl, sym, _∙_}
 use borrow.Author.Tests.{not-true, not-false}
-use Rattle.net_places.specs.Shift.{length-unmapped-by}
+use Rattle.session_pile.specs.Shift.{length-unmapped-by}
 use Rattle.session.specs.Value.{addOf}
 use Rattle.session.specs.Kept.{add-promise}
 use borrow.Author.Needs.{needs}

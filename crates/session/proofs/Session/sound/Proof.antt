@@ -4,7 +4,7 @@ use Rattle.count.specs.Truth.{decides}
 use Rattle.session_rules.specs.Sound.{sound?}
 use Rattle.session_laws.specs.Exact.{sound-exact}
 use Rattle.net_places.specs.Nets.{rising-of}
-use Rattle.net_places.specs.Changes.{length-pile}
+use Rattle.session_pile.specs.Changes.{length-pile}
 use Rattle.session.specs.View.{sessionOf}
 use borrow.Author.Needs.{needs}
 use Rattle.session.proofs.Session.sound.Statement.{statement}

@@ -12,10 +12,10 @@ use borrow.Author.Tests.{lt-ltb, le-ltb}
 use Rattle.count.specs.Truth.{le-or-lt}
 use Rattle.net.specs.declared.Change.{Change}
 use Rattle.session_rules.specs.Machine.{lay}
 use Rattle.net_places.specs.Numbered.{entry}
-use Rattle.net_places.specs.Pile.{noSlot, slot, changesOf, pileOf, topOf, lifted, laid}
-use Rattle.net_places.specs.declared.Slot.{Slot}
-use Rattle.net_places.specs.declared.Pile.{Pile}
+use Rattle.session_pile.specs.Pile.{noSlot, slot, changesOf, pileOf, topOf, lifted, laid}
+use Rattle.session_pile.specs.declared.Slot.{Slot}
+use Rattle.session_pile.specs.declared.Pile.{Pile}
 
 length-changes : (cs : List Slot) (d : ℕ) → length (changesOf cs d) ≡ d
 unfolding changesOf

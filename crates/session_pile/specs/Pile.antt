@@ -8,9 +8,9 @@ use lib.ListN.{getD, set, drop}
 use Rattle.board.specs.Board.{at}
 use Rattle.net.specs.declared.Change.{Change}
 use Rattle.net.specs.declared.Change.the-variants.{Added}
 use Rattle.net_places.specs.Numbered.{entry}
-use Rattle.net_places.specs.declared.Slot.{Slot}
-use Rattle.net_places.specs.declared.Pile.{Pile}
+use Rattle.session_pile.specs.declared.Slot.{Slot}
+use Rattle.session_pile.specs.declared.Pile.{Pile}
 
 -- Past the array's end stands a change that can never be reversed: a net of number 0 was added.
 abbrev pub noSlot : Slot

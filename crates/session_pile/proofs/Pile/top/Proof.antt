@@ -1,13 +1,13 @@
 -- `top` gives the change on top of the pile.
 use native.Mathlib.Omega.{arith}
 use mathlib.Core.Path.{ap, _∙_}
-use Rattle.net_places.specs.Pile.{noSlot}
-use Rattle.net_places.specs.declared.Slot.{Slot}
-use Rattle.net_places.specs.Shift.{length-unmapped-by}
+use Rattle.session_pile.specs.Pile.{noSlot}
+use Rattle.session_pile.specs.declared.Slot.{Slot}
+use Rattle.session_pile.specs.Shift.{length-unmapped-by}
 use Rattle.net_places.specs.Numbered.{entry-in, entry-out}
 use borrow.Author.Needs.{needs}
-use Rattle.net_places.proofs.Pile.top.Statement.{statement}
-use Rattle.net_places.proofs.Pile.top.Tie as tie
+use Rattle.session_pile.proofs.Pile.top.Statement.{statement}
+use Rattle.session_pile.proofs.Pile.top.Tie as tie
 
 index-of-requires : tie.Need-index-of-requires
 index-of-requires c κs = search needs

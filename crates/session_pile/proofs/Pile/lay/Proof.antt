@@ -2,14 +2,14 @@
 use mathlib.Core.Path.{_≡_, refl, ap}
 use mathlib.Core.List.{List, [], _∷_, _++_}
 use lib.ListN.{set, drop}
-use Rattle.net_places.specs.declared.Slot.{Slot}
-use Rattle.net_places.specs.declared.Pile.{Pile}
+use Rattle.session_pile.specs.declared.Slot.{Slot}
+use Rattle.session_pile.specs.declared.Pile.{Pile}
 use borrow.Author.Tests.{lt-ltb, le-ltb}
-use Rattle.net_places.specs.Pile.{laid, slot, noSlot}
-use Rattle.net_places.specs.Shift.{last-set, length-unmapped-by}
+use Rattle.session_pile.specs.Pile.{laid, slot, noSlot}
+use Rattle.session_pile.specs.Shift.{last-set, length-unmapped-by}
 use borrow.Author.Needs.{needs}
-use Rattle.net_places.proofs.Pile.lay.Statement.{statement}
-use Rattle.net_places.proofs.Pile.lay.Tie as tie
+use Rattle.session_pile.proofs.Pile.lay.Statement.{statement}
+use Rattle.session_pile.proofs.Pile.lay.Tie as tie
 
 wide-requires : tie.Need-wide-requires
 wide-requires c κs = search needs

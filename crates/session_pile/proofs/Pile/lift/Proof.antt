@@ -2,8 +2,8 @@
 use mathlib.Core.Path.{_≡_, refl}
 use native.Mathlib.Omega.{arith}
 use borrow.Author.Needs.{needs}
-use Rattle.net_places.proofs.Pile.lift.Statement.{statement}
-use Rattle.net_places.proofs.Pile.lift.Tie as tie
+use Rattle.session_pile.proofs.Pile.lift.Statement.{statement}
+use Rattle.session_pile.proofs.Pile.lift.Tie as tie
 
 sub-less : tie.Need-sub-less
 sub-less c = search needs

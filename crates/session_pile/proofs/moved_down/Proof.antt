@@ -1,12 +1,12 @@
 -- `moved_down` moves each slot down by one place.
-use Rattle.net_places.proofs.moved_down.Statement.{statement}
-use Rattle.net_places.proofs.moved_down.Tie as tie
+use Rattle.session_pile.proofs.moved_down.Statement.{statement}
+use Rattle.session_pile.proofs.moved_down.Tie as tie
 use borrow.Author.Needs.{needs}
 use native.Mathlib.Omega.{arith}
 use Prim.Native.Nat.{_-_, _≤_}
 use mathlib.Core.Path.{_≡_}
-use Rattle.net_places.specs.Pile.{noSlot}
-use Rattle.net_places.specs.Shift.{movedTo, moved-none, moved-step, moved-all}
+use Rattle.session_pile.specs.Pile.{noSlot}
+use Rattle.session_pile.specs.Shift.{movedTo, moved-none, moved-step, moved-all}
 
 abbrev Inv-loop : tie.InvT-loop
 Inv-loop a b₀ i₀ b i = (i ≤ 63) × (b ≡ movedTo a i)

@@ -1,0 +1,3 @@
+pub mod Block
+pub mod View
+pub mod Pins

@@ -1,0 +1,46 @@
+-- Definitions only: demand 3, over a list of calls with what each handed back. Nothing is proved here: Routing has `demand-3`.
+use mathlib.Core.Path.{_≡_}
+use mathlib.Core.List.{List}
+use mathlib.Core.Logic.{_↔_}
+use Prim.Native.Nat.{ℕ, _/_, _≤_}
+use lib.ListN.{length}
+use Rattle.board.specs.Board.{IsVertex}
+use Rattle.board.specs.declared.Vertex.{Vertex}
+use Rattle.cut.specs.Order.{Even, FirstOverfull}
+use Rattle.cut.specs.declared.Cut.{Cut}
+use Rattle.routing_rules.specs.Routing.{Routable}
+use Rattle.session_rules.specs.Session.{Session, pairs}
+use Rattle.session_rules.specs.Machine.{after, answers}
+use Rattle.session_rules.specs.Sound.{bare}
+use Rattle.session.specs.declared.Session as code
+use Rattle.session.specs.View.{sessionOf}
+use Rattle.call_rules.specs.Result.{Result, no, yes}
+use Rattle.call_rules.specs.Route.{routeRoom, overfullRefusal, HandsBack, HandsBackBytes}
+use Rattle.route_call.specs.Answers.{routeAnswer}
+use Rattle.session_history.specs.Made.{Made, changed, routed, routedBytes, last, callsOf, answersOf, Everywhere}
+
+-- "while every vertex's degree plus its terminals is even"
+abbrev pub AllEven : Session → Type 0
+AllEven m = (v : Vertex) → IsVertex (m .block .board) v → Even (m .block .board) (pairs (m .nets)) v
+
+-- what a routing call answered, where HandedBack n says that it handed back a routing of n words
+pub record Rightly (m : Session) (answer : Result ℕ) (HandedBack : ℕ → Type 0) : Type 0 where
+  -- "a routing of all the nets that the machine then holds is handed back exactly when pairwise edge-disjoint paths joining them exist"
+  pub exactly : ((n : ℕ) × (answer ≡ yes n) × HandedBack n) ↔ Routable (m .block .board) (pairs (m .nets))
+  -- "Where none exist, that call names the first row or column crossed by more nets than edges."
+  pub named : (Routable (m .block .board) (pairs (m .nets)) → ⊥)
+      → (x : Cut) × (answer ≡ no (overfullRefusal x)) × FirstOverfull (m .block .board) (pairs (m .nets)) x
+
+-- "Wherever routing is called .. with 2,049 words or more", m being the machine's session then
+abbrev pub RoutedRightly : Session → Made → Type 0
+RoutedRightly m (routed before r after) = routeRoom m ≤ length before → AllEven m → Rightly m (routeAnswer r) (HandsBack m before after)
+RoutedRightly m (routedBytes before r after) = routeRoom m ≤ length before / 4 → AllEven m → Rightly m (routeAnswer r) (HandsBackBytes m before after)
+RoutedRightly m (changed c a t) = Unit {0}
+
+-- the whole of demand 3, for the calls ms from the fresh session s: the machine starts with its board, no nets and an empty pile
+pub record Demand3 (s : code.Session) (ms : List Made) : Type 0 where
+  -- "after it the board, nets and pile are those of 01's list machine,
+  pub session : sessionOf (last s ms) ≡ after (bare (sessionOf s .block)) (callsOf ms)
+  -- and each add, withdrawal and take-back was answered as the machine answers."
+  pub answered : answersOf ms ≡ answers (bare (sessionOf s .block)) (callsOf ms)
+  pub routings : Everywhere RoutedRightly (bare (sessionOf s .block)) ms
