@@ -1,7 +1,7 @@
 -- The pins of a convex board: twice its width and height together, and 4 more; so at most 128.
 -- Assumes that the board is within the limits and convex.
--- Every line is as long as the wider of the rows above and below it. From the top down the pins grow by 2 with each line, and by 2 more
--- for each column by which a row is wider than all before it: a row that is wider than the one above it is wider than all.
+-- Every line is as long as the wider of the rows above and below it. Counted from the top, the pins so far and the width of the row below
+-- together grow by 2 with each line, and by 2 more for each column by which that row is wider than all above it (`from-top`).
 use mathlib.Core.Path.{_≡_}
 use mathlib.Core.Logic.{inl, inr}
 use Prim.Native.Nat.{ℕ, zero, suc, _+_, _-_, _*_, _≤_, _<_, max}
