@@ -41,7 +41,7 @@
  *   21  a net's number is not 1 to 64                                                 its word's index
  *   23  a terminal is no vertex                                                       its word's index
  *   24  both terminals are one vertex                                                 its word's index
- *   25  a terminal's pins are all taken, by the nets before                           its word's index
+ *   25  a terminal has no pin, or its pins are all taken by the nets before           its word's index
  *   31  the buffer has room for fewer than 2,049 words                                0
  *   32  a vertex is odd: the first, line by line and column by column                 its line; its column
  *   33  a row or column is crossed by more nets than it has edges: the first, rows

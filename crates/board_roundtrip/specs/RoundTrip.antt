@@ -70,9 +70,9 @@ buffer-reads s buffer n e = go (writeBoard s (length buffer)) refl e
         rw (← k, take-at ws (drop (length ws) buffer)) (write-reads s (length buffer) ws f)
 
 -- accepted words are written back, where there is room
-pub read-written : (ws : List ℕ) (s : Session) (room : ℕ) → 96 ≤ room → readWords ws ≡ yes s → writeBoard s room ≡ yes ws
+pub read-written : (ws : List ℕ) (s : Session) (room : ℕ) → boardLimit ≤ room → readWords ws ≡ yes s → writeBoard s room ≡ yes ws
 unfolding writeBoard
-read-written ws s room h e = rw (sound-exact s .1 (read-sound ws s e), le-ltb room 96 h, read-writes ws s e) refl
+read-written ws s room h e = rw (sound-exact s .1 (read-sound ws s e), le-ltb room boardLimit h, read-writes ws s e) refl
 
 -- ── bytes ──
 pub written-bytes-read : (s : Session) → Sound s → readBytes (bytesOf (boardWords s)) ≡ yes (unpiled s)

@@ -15,7 +15,7 @@ use Rattle.session_laws.specs.Rising.{From}
 use Rattle.session_laws.specs.Stays.{sound-fine}
 use Rattle.words.specs.BoardWord.{rowWord, netWord, endWord}
 use Rattle.call_rules.specs.Result.{yes}
-use Rattle.call_rules.specs.Reading.{nothingTaken, takeWords, addListed, reverse, readNets, readTaken, readWords}
+use Rattle.call_rules.specs.Reading.{boardLimit, nothingTaken, takeWords, addListed, reverse, readNets, readTaken, readWords}
 use Rattle.call_rules.specs.Writing.{boardWords}
 use Rattle.board_roundtrip.specs.Parts.{taken, netsIn, listedFrom, listedOnto, unpiled}
 use Rattle.board_roundtrip.specs.Adds.{addable-listed}
@@ -39,7 +39,7 @@ module _ (s : Session) (h : Sound s) where
   few : length (s .nets) ≤ 64
   few = let f = sound-fine s h in few-nets (s .block) (s .nets) (f .rising) (f .good)
 
-  pub words-few : length (boardWords s) ≤ 96
+  pub words-few : length (boardWords s) ≤ boardLimit
   words-few = omega (arith, words-length s, few, h .within .few)
 
   -- ── they are taken one by one ──
@@ -72,4 +72,4 @@ module _ (s : Session) (h : Sound s) where
   unfolding readWords
   words-read =
       let n = length (boardWords s) in
-      rw (ne-eqb n 0 (λ e. omega (arith, words-length s)), le-ltb 96 n words-few, written-taken) (taken-read (0 + length (s .block .board .rows)))
+      rw (ne-eqb n 0 (λ e. omega (arith, words-length s)), le-ltb boardLimit n words-few, written-taken) (taken-read (0 + length (s .block .board .rows)))
