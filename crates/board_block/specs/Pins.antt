@@ -6,6 +6,6 @@ use Rattle.board.specs.Degree.{pins}
 use Rattle.board.specs.declared.Vertex.{Vertex}
 use Rattle.board_block.specs.Block.{Block, pinsOf}
 
-pub pins-few : (b : Block) (v : Vertex) → pinsOf b v ≤ pins (b .board) v
+pub pins-below : (b : Block) (v : Vertex) → pinsOf b v ≤ pins (b .board) v
 unfolding pinsOf
-pins-few b v = omega arith
+pins-below b v = omega arith

@@ -2,7 +2,7 @@
 -- Assumes a sound session.
 use Rattle.session_laws.specs.Stays.{sound-fine}
 use Rattle.board_block.specs.Block.{pinsOf}
-use Rattle.board_block.specs.Pins.{pins-few}
+use Rattle.board_block.specs.Pins.{pins-below}
 use Rattle.session_rules.specs.Session.{Session, pairs}
 use Rattle.session_rules.specs.Sound.{Sound}
 use Rattle.corner.specs.Problem.{Problem}
@@ -12,6 +12,6 @@ pub problem-of : (s : Session) → Sound s → Problem (s .block .board) (pairs 
 problem-of s S = record {
   within = S .within;
   convex = S .convex;
-  stand = pins-stand (s .block .board) (pinsOf (s .block)) (pins-few (s .block)) (pairs (s .nets)) (sound-fine s S .room);
-  pins = pins-room (s .block .board) (pinsOf (s .block)) (pins-few (s .block)) (pairs (s .nets)) (sound-fine s S .room);
+  stand = pins-stand (s .block .board) (pinsOf (s .block)) (pins-below (s .block)) (pairs (s .nets)) (sound-fine s S .room);
+  pins = pins-room (s .block .board) (pinsOf (s .block)) (pins-below (s .block)) (pairs (s .nets)) (sound-fine s S .room);
 }
