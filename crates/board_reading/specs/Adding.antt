@@ -1,6 +1,6 @@
 -- Adding the nets of a list of words, in a second pass over it: DEFINITIONS at the level of the code's values, and the laws of the loop.
 -- Assumes nothing.
-use mathlib.Core.Path.{_≡_, refl, ap, _∙_}
+use mathlib.Core.Path.{_≡_, refl, ap, sym, _∙_}
 use mathlib.Core.Bool.{Bool, true, false, not}
 use mathlib.Core.List.{List, [], _∷_}
 use mathlib.Core.Logic.{_⊎_}
@@ -8,7 +8,6 @@ use mathlib.Core.Option.{Option, none, some}
 use Prim.Native.Nat.{ℕ, zero, suc, _+_, _<_, _≤_}
 use native.Mathlib.Omega.{arith}
 use lib.ListN.{length, drop, getD, replicate, length-set}
-use borrow.Author.Tests.{eq-eqb, ne-eqb}
 use Rattle.board.specs.Degree.{vertex?}
 use Rattle.board_block.specs.Block.{Block}
 use Rattle.net.specs.Terminals.{same}
@@ -16,14 +15,13 @@ use Rattle.net.specs.View.{nothing}
 use Rattle.net.specs.declared.Net.{Net}
 use Rattle.net.specs.declared.Place.{Place}
 use Rattle.session_rules.specs.Refusal.{Refusal, refusal, line, firstRefusal}
-use Rattle.session_rules.specs.Machine.{accepted, refused}
 use Rattle.session_rules.specs.Session.{holds, insert}
 use Rattle.session_rules.specs.Add.{goodNumber, full, addLines, addRefused, isNone, accepts}
 use Rattle.session_laws.specs.Accept.{free-of}
 use Rattle.net_places.specs.Numbered.{replaced}
 use Rattle.net_places.specs.Places.{holding, netsFrom, netsOf}
 use Rattle.net_places.specs.Nets.{insert-of}
-use Rattle.session_answers.specs.Answers.{toldOf}
+use Rattle.session_answers.specs.Answers.{told}
 use Rattle.session_add.specs.Check.{answered}
 use Rattle.session_answers.specs.declared.Told.{Told}
 use Rattle.words.specs.BoardWord.{boardWord}
@@ -47,32 +45,6 @@ addedWord b ps (word.End c) = record { number = 0; nets = ps }
 addedWord b ps word.Unknown = record { number = 0; nets = ps }
 
 -- ── the code's answer to add is the definition's refusal ──
-module _ (t : Told) where
-  told-accepted : (o : Option Refusal) → toldOf t ≡ answered o → t .number ≡ 0 → o ≡ none
-  told-accepted none e z = refl
-  told-accepted (some r) e z =
-      let h : accepted ≡ refused r = rw (eq-eqb (t .number) 0 z) at e in
-      absurd (let q : _≡_ {A = ℕ} 0 1 = cc in omega arith)
-
-  told-refused : (o : Option Refusal) → toldOf t ≡ answered o → (t .number ≡ 0 → ⊥) → (r : Refusal) × (o ≡ some r) × (r .number ≡ t .number)
-  told-refused none e z =
-      let h : refused (refusal (t .number) (t .place)) ≡ accepted = rw (ne-eqb (t .number) 0 z) at e in
-      absurd (let q : _≡_ {A = ℕ} 0 1 = cc in omega arith)
-  told-refused (some r) e z =
-      let h : refused (refusal (t .number) (t .place)) ≡ refused r = rw (ne-eqb (t .number) 0 z) at e in
-      (r, refl, ap (λ (x : Refusal). x .number) (let g : r ≡ refusal (t .number) (t .place) = cc in g))
-
-  pub told-added : (b : Block) (ps : List Place) (n : Net) → toldOf t ≡ answered (addRefused b (netsOf ps) n) → t .number ≡ 0
-      → addedWord b ps (word.Net n) ≡ record { number = 0; nets = replaced ps (n .number) (holding (n .ends)) }
-  unfolding addedWord
-  told-added b ps n e z = rw (told-accepted (addRefused b (netsOf ps) n) e z) refl
-
-  pub told-kept : (b : Block) (ps : List Place) (n : Net) → toldOf t ≡ answered (addRefused b (netsOf ps) n) → (t .number ≡ 0 → ⊥)
-      → addedWord b ps (word.Net n) ≡ record { number = t .number; nets = ps }
-  unfolding addedWord
-  told-kept b ps n e z = let k = told-refused (addRefused b (netsOf ps) n) e z in rw (k .1, k .2) refl
-
--- ── one word further ──
 -- a refusal of add has a number above 0
 line-number : (a b c d e f g : Bool) (r : Refusal)
     → firstRefusal (line a 21 0 ∷ line b 22 0 ∷ line c 23 0 ∷ line d 23 1 ∷ line e 24 0 ∷ line f 25 0 ∷ line g 25 1 ∷ []) ≡ some r
@@ -92,6 +64,26 @@ refused-number b ns n r h =
     line-number (not (goodNumber (n .number))) (holds (n .number) ns) (not (vertex? (b .board) (n .ends .first))) (not (vertex? (b .board) (n .ends .second)))
     (same (n .ends .first) (n .ends .second)) (full b ns (n .ends .first)) (full b ns (n .ends .second)) r h
 
+module _ (t : Told) where
+  told-accepted : (o : Option Refusal) → ((r : Refusal) → o ≡ some r → 1 ≤ r .number) → t ≡ told (answered o) → t .number ≡ 0 → o ≡ none
+  told-accepted none above e z = refl
+  told-accepted (some r) above e z = absurd (omega (arith, above r refl, ap (λ (x : Told). x .number) e))
+
+  told-refused : (o : Option Refusal) → t ≡ told (answered o) → (t .number ≡ 0 → ⊥) → (r : Refusal) × (o ≡ some r) × (r .number ≡ t .number)
+  told-refused none e z = absurd (z (ap (λ (x : Told). x .number) e))
+  told-refused (some r) e z = (r, refl, sym (ap (λ (x : Told). x .number) e))
+
+  pub told-added : (b : Block) (ps : List Place) (n : Net) → t ≡ told (answered (addRefused b (netsOf ps) n)) → t .number ≡ 0
+      → addedWord b ps (word.Net n) ≡ record { number = 0; nets = replaced ps (n .number) (holding (n .ends)) }
+  unfolding addedWord
+  told-added b ps n e z = rw (told-accepted (addRefused b (netsOf ps) n) (refused-number b (netsOf ps) n) e z) refl
+
+  pub told-kept : (b : Block) (ps : List Place) (n : Net) → t ≡ told (answered (addRefused b (netsOf ps) n)) → (t .number ≡ 0 → ⊥)
+      → addedWord b ps (word.Net n) ≡ record { number = t .number; nets = ps }
+  unfolding addedWord
+  told-kept b ps n e z = let k = told-refused (addRefused b (netsOf ps) n) e z in rw (k .1, k .2) refl
+
+-- ── one word further ──
 module _ (b : Block) (ps : List Place) (size : length ps ≡ 64) (i : ℕ) (ls : List Listed) where
   net-added : (n : Net) → addRefused b (netsOf ps) n ≡ none → netsOf (replaced ps (n .number) (holding (n .ends))) ≡ insert n (netsOf ps)
   unfolding accepts

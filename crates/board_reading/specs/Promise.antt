@@ -45,9 +45,10 @@ use Rattle.call_rules.specs.Reading.{
   handedBack,
 }
 use Rattle.words.specs.Bytes.{wordsIn}
-use Rattle.words_bytes.specs.Words.{words-length, all-words, FilledWith}
-use Rattle.board_scan.specs.Follows.{Follows, count-is}
+use Rattle.words_bytes.specs.Words.{FilledWith}
+use Rattle.words_bytes.specs.WordsLaws.{words-length, all-words}
 use Rattle.board_scan.specs.Promise.{takeAll, ScanPromise}
+use Rattle.board_scan.specs.Laws.{refused-scan, taken-scan}
 use Rattle.board_scan.specs.declared.Scanned.{Scanned}
 use Rattle.board_reading.specs.Value.{boardValue, blockValue, valueFor, readValue, places-for}
 use Rattle.board_reading.specs.Listed.{listed, taken-nets}
@@ -140,16 +141,11 @@ read-done x t b ps s e c a l f h =
 
 -- ── what the two passes over the words promise, put together ──
 pub scan-refused : (ws : List ℕ) (r : Scanned) → ScanPromise ws r → (r .number ≡ 0 → ⊥) → readWords ws ≡ no (refusal (r .number) (r .index))
-scan-refused ws r (inl (k, e, f)) z = words-refused ws (refusal (r .number) (r .index)) (rw e f)
-scan-refused ws r (inr (t, e, f, g)) z = absurd (z e)
-
-pub scan-taken : (ws : List ℕ) (r : Scanned) → ScanPromise ws r → r .number ≡ 0 → (t : Taken) × (takeAll ws ≡ yes t) × Follows t (r .scan)
-scan-taken ws r (inl (k, e, f)) z = absurd (omega arith)
-scan-taken ws r (inr (t, e, f, g)) z = (t, f, g)
+scan-refused ws r P z = words-refused ws (refusal (r .number) (r .index)) (refused-scan ws r P z)
 
 module _ (ws : List ℕ) (r : Scanned) (S : ScanPromise ws r) (z : r .number ≡ 0) where
   pub bent-refused : isConvex (boardOf (r .scan .board)) ≡ false → readWords ws ≡ no (refusal 16 0)
-  bent-refused e = let t = scan-taken ws r S z in convex-refused ws (t .0) (t .1) (rw (t .2 .board-is) at e)
+  bent-refused e = let t = taken-scan ws r S z in convex-refused ws (t .0) (t .1) (rw (t .2 .board-is) at e)
 
   pub net-refused : isConvex (boardOf (r .scan .board)) ≡ true → (a : AddedAll) → AllPromise (blockOf (plainOf (r .scan .board))) ws a → (a .number ≡ 0 → ⊥)
       → readWords ws ≡ no (refusal (a .number) (a .index))
@@ -157,7 +153,7 @@ module _ (ws : List ℕ) (r : Scanned) (S : ScanPromise ws r) (z : r .number ≡
     where
       go : AllPromise (blockOf (plainOf (r .scan .board))) ws a → readWords ws ≡ no (refusal (a .number) (a .index))
       go (inl (k, f, g)) =
-          let t = scan-taken ws r S z in
+          let t = taken-scan ws r S z in
           nets-refused ws (t .0) (t .1) (rw (t .2 .board-is) at e) (refusal (a .number) (a .index)) (rw f (rw (t .2 .board-is) at g))
       go (inr g) = absurd (y (g .0))
 
@@ -170,8 +166,8 @@ module _ (ws : List ℕ) (r : Scanned) (S : ScanPromise ws r) (z : r .number ≡
           → ReadPromise (readWords ws) (record { answer = answer.Accepted; session = withPlaces s (a .nets) (s .pile) })
       go (inl (k, g, h)) = absurd (omega arith)
       go (inr (g, h, l)) =
-          let t = scan-taken ws r S z in
-          read-done (readWords ws) (t .0) (r .scan .board) (a .nets) s (t .2 .board-is) (count-is (t .0) (r .scan) (t .2)) (t .2 .array-is) l f
+          let t = taken-scan ws r S z in
+          read-done (readWords ws) (t .0) (r .scan .board) (a .nets) s (t .2 .board-is) (t .2 .count-is) (t .2 .array-is) l f
           (all-read ws (t .0) (t .1) (rw (t .2 .board-is) at e) (a .nets) (rw (t .2 .board-is) at h))
 
 -- ── from bytes ──

@@ -1,56 +1,38 @@
--- The scan keeps of the words what their refusals need: it follows the definition's `Taken`, word by word.
+-- The scan keeps of the words what their refusals need: one word is refused, or taken, as the definition does it with its `Taken`.
 -- Assumes nothing.
-use mathlib.Core.Path.{_≡_, refl, ap, sym, _∙_}
+use mathlib.Core.Path.{_≡_, refl, sym}
 use mathlib.Core.Bool.{Bool, true, false, not, cond, _&&_, _||_}
 use mathlib.Core.List.{List, [], _∷_, _++_, append-assoc}
 use mathlib.Core.Logic.{inl, inr}
 use mathlib.Core.Option.{Option, none, some}
 use Prim.Native.Nat.{ℕ, suc, _+_, _-_, _<_}
+use native.Mathlib.Numerals.{add-one}
 use native.Mathlib.Omega.{arith}
 use lib.Dec.{leb, ltb, eqb}
 use lib.ListN.{length, set, replicate, length-append}
 use lib.Seq.{set-append-seam}
 use borrow.Author.Tests.{lt-ltb, leb-false}
 use Rattle.count.specs.Truth.{bool, clash}
-use Rattle.board.specs.Board.{Board, height, noRow}
-use Rattle.board.specs.View.{boardOf, height-of, board-more}
+use Rattle.board.specs.Board.{noRow}
 use Rattle.board.specs.declared.Row.{Row}
-use Rattle.net.specs.declared.Net.{Net}
 use Rattle.session_rules.specs.Refusal.{Refusal, refusal, firstRefusal}
 use Rattle.words.specs.declared.BoardWord.{BoardWord}
 use Rattle.words.specs.declared.BoardWord.the-variants as word
-use Rattle.call_rules.specs.Reading.{Listed, Taken, nothingTaken, some?, notAbove, wordLines, take, boardIn}
-use Rattle.board_scan.specs.Scan.{rowRefused, netRefused, endRefused, wordRefused, withRow, withNet, withWord, start}
-use Rattle.board_scan.specs.declared.Scan.{Scan}
-
--- DEFINITION: the last net's number
-abbrev pub LastIs : List Listed → ℕ → Type 0
-LastIs [] k = Unit {0}
-LastIs (n ∷ ns) k = n .net .number ≡ k
-
--- DEFINITION: the scan s holds what t has taken
-pub record Follows (t : Taken) (s : Scan) : Type 0 where
-  pub board-is : boardOf (s .board) ≡ boardIn t
-  -- the places after the last row hold rows of no cell
-  pub array-is : s .board .rows ≡ t .rows ++ replicate (31 - length (t .rows)) noRow
-  pub nets-are : s .nets ≡ length (t .nets)
-  pub last-is : LastIs (t .nets) (s .last)
-  pub ended-is : s .ended ≡ t .ended
+use Rattle.call_rules.specs.Reading.{Listed, Taken, some?, notAbove, wordLines, take}
+use Rattle.board_scan.specs.Scan.{rowRefused, netRefused, endRefused, wordRefused, withRow, withNet, withWord}
+use Rattle.board_scan.specs.Promise.{lastOf, scanFor}
 
 -- DEFINITION: the refusal of this number at index i, none for 0
 abbrev pub numbered : ℕ → ℕ → Option Refusal
 numbered i k = cond (eqb k 0) none (some (refusal k i))
 
-pub count-is : (t : Taken) (s : Scan) → Follows t s → s .board .count ≡ length (t .rows)
-count-is t s f = sym (height-of (s .board)) ∙ ap (λ (b : Board). height b) (f .board-is)
-
 some-nets : (ns : List Listed) → some? ns ≡ ltb 0 (length ns)
 some-nets [] = refl
 some-nets (n ∷ ns) = sym (lt-ltb 0 (suc (length ns)) (omega arith))
 
-above-last : (k m : ℕ) (ns : List Listed) → LastIs ns m → notAbove k ns ≡ ltb 0 (length ns) && leb k m
-above-last k m [] e = refl
-above-last k m (n ∷ ns) e = rw (lt-ltb 0 (suc (length ns)) (omega arith), e) refl
+above-last : (k : ℕ) (ns : List Listed) → notAbove k ns ≡ ltb 0 (length ns) && leb k (lastOf ns)
+above-last k [] = refl
+above-last k (n ∷ ns) = rw (lt-ltb 0 (suc (length ns)) (omega arith)) refl
 
 -- ── the refusals of a word, by its kind, over plain truth values ──
 row-lines : (first nets ended bad : Bool) (i : ℕ)
@@ -81,19 +63,17 @@ end-lines false false true i = refl
 end-lines false false false i = refl
 
 -- the code's refusal of a word is the definition's
-pub refused-same : (t : Taken) (s : Scan) (i : ℕ) → Follows t s → (w : BoardWord)
-    → firstRefusal (wordLines i t w) ≡ numbered i (wordRefused s (eqb i 0) w)
+pub refused-same : (t : Taken) (i : ℕ) (w : BoardWord) → firstRefusal (wordLines i t w) ≡ numbered i (wordRefused (scanFor t) (eqb i 0) w)
 unfolding wordLines wordRefused rowRefused netRefused endRefused
-refused-same t s i f (word.Row r) =
-    rw (f .nets-are, f .ended-is, count-is t s f, some-nets (t .nets))
+refused-same t i (word.Row r) =
+    rw (some-nets (t .nets))
     (row-lines (eqb i 0) (ltb 0 (length (t .nets))) (t .ended) (not (ltb (r .left) (r .right)) || leb 31 (length (t .rows))) i)
-refused-same t s i f (word.Net n) =
-    rw (f .nets-are, f .ended-is, above-last (n .number) (s .last) (t .nets) (f .last-is))
-    (net-lines (eqb i 0) (ltb 0 (length (t .nets)) && leb (n .number) (s .last)) (t .ended) i)
-refused-same t s i f (word.End c) =
-    rw (f .nets-are, f .ended-is, count-is t s f)
-    (end-lines (eqb i 0) (t .ended) (not (eqb (c .rows) (length (t .rows)) && eqb (c .nets) (length (t .nets)))) i)
-refused-same t s i f word.Unknown = refl
+refused-same t i (word.Net n) =
+    rw (above-last (n .number) (t .nets))
+    (net-lines (eqb i 0) (ltb 0 (length (t .nets)) && leb (n .number) (lastOf (t .nets))) (t .ended) i)
+refused-same t i (word.End c) =
+    end-lines (eqb i 0) (t .ended) (not (eqb (c .rows) (length (t .rows)) && eqb (c .nets) (length (t .nets)))) i
+refused-same t i word.Unknown = refl
 
 -- ── one word further ──
 few-rows : (c : ℕ) (a b : Bool) → _≡_ {A = ℕ} (cond a 13 (cond (b || leb 31 c) 14 0)) 0 → c < 31
@@ -109,43 +89,28 @@ few-rows c false false e = elim (bool (leb 31 c)) [
     fourteen false h z = clash h refl
 
 -- a row stored after the last one
-array-more : (rs a : List Row) (c : ℕ) (r : Row) → c ≡ length rs → c < 31 → a ≡ rs ++ replicate (31 - length rs) noRow
-    → set a c r ≡ (rs ++ (r ∷ [])) ++ replicate (31 - length (rs ++ (r ∷ []))) noRow
-array-more rs a c r e h f =
+array-more : (rs : List Row) (r : Row) → length rs < 31
+    → set (rs ++ replicate (31 - length rs) noRow) (length rs) r ≡ (rs ++ (r ∷ [])) ++ replicate (31 - length (rs ++ (r ∷ []))) noRow
+array-more rs r h =
     let n : 31 - length rs ≡ suc (31 - suc (length rs)) = omega arith in
     let m : 31 - length (rs ++ (r ∷ [])) ≡ 31 - suc (length rs) = omega (arith, length-append rs (r ∷ [])) in
-    rw (f, e, n, m, append-assoc rs (r ∷ []) (replicate (31 - suc (length rs)) noRow))
+    rw (n, m, append-assoc rs (r ∷ []) (replicate (31 - suc (length rs)) noRow))
     (set-append-seam rs noRow (replicate (31 - suc (length rs)) noRow) r)
 
-pub follows-more : (t : Taken) (s : Scan) (i : ℕ) (first : Bool) → Follows t s → length (s .board .rows) ≡ 31 → s .nets < 255 → (w : BoardWord)
-    → wordRefused s first w ≡ 0
-    → Follows (take i t w) (withWord s w)
+pub follows-more : (t : Taken) (i : ℕ) (first : Bool) → length (t .nets) < 255 → (w : BoardWord) → wordRefused (scanFor t) first w ≡ 0
+    → withWord (scanFor t) w ≡ scanFor (take i t w)
 unfolding wordRefused rowRefused withWord withRow withNet
-follows-more t s i first f l m (word.Row r) e =
-    let h : s .board .count < 31 = few-rows (s .board .count) (ltb 0 (s .nets) || s .ended) (not (ltb (r .left) (r .right))) e in
-    rw (lt-ltb (s .board .count) 31 h) (record {
-      board-is = board-more (s .board) r (omega arith) ∙ ap (λ (b : Board). record { rows = b .rows ++ (r ∷ []) }) (f .board-is);
-      array-is = array-more (t .rows) (s .board .rows) (s .board .count) r (count-is t s f) h (f .array-is);
-      nets-are = f .nets-are;
-      last-is = f .last-is;
-      ended-is = f .ended-is;
+follows-more t i first m (word.Row r) e =
+    let h : length (t .rows) < 31 = few-rows (length (t .rows)) (ltb 0 (length (t .nets)) || t .ended) (not (ltb (r .left) (r .right))) e in
+    let c : length (t .rows) + 1 ≡ length (t .rows ++ (r ∷ [])) = omega (arith, length-append (t .rows) (r ∷ [])) in
+    rw (lt-ltb (length (t .rows)) 31 h) (λ j. record {
+      board = record { count = c j; rows = array-more (t .rows) r h j };
+      nets = length (t .nets);
+      last = lastOf (t .nets);
+      ended = t .ended;
     })
-follows-more t s i first f l m (word.Net n) e = rw (lt-ltb (s .nets) 255 m) (record {
-  board-is = f .board-is;
-  array-is = f .array-is;
-  nets-are = omega (arith, f .nets-are);
-  last-is = refl;
-  ended-is = f .ended-is;
-})
-follows-more t s i first f l m (word.End c) e = record {
-  board-is = f .board-is;
-  array-is = f .array-is;
-  nets-are = f .nets-are;
-  last-is = f .last-is;
-  ended-is = refl;
-}
-follows-more t s i first f l m word.Unknown e = f
-
-pub follows-start : Follows nothingTaken start
-unfolding boardOf
-follows-start = record { board-is = refl; array-is = refl; nets-are = refl; last-is = tt; ended-is = refl }
+follows-more t i first m (word.Net n) e =
+    let c : length (t .nets) + 1 ≡ suc (length (t .nets)) = add-one (length (t .nets)) in
+    rw (lt-ltb (length (t .nets)) 255 m, c) refl
+follows-more t i first m (word.End c) e = refl
+follows-more t i first m word.Unknown e = refl

@@ -1,3 +1,5 @@
 pub mod Scan
-pub mod Follows
 pub mod Promise
+pub mod Follows
+pub mod Loop
+pub mod Laws

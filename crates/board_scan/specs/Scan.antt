@@ -4,7 +4,6 @@ use Prim.Native.Nat.{ℕ, _+_}
 use lib.Dec.{leb, ltb, eqb}
 use lib.ListN.{set, replicate}
 use Rattle.board.specs.declared.Row.{Row}
-use Rattle.board.specs.declared.Board as code
 use Rattle.net.specs.declared.Net.{Net}
 use Rattle.words.specs.declared.Counts.{Counts}
 use Rattle.words.specs.declared.BoardWord.{BoardWord}

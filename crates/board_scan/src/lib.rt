@@ -1,6 +1,8 @@
 // The words of a board, taken one by one: each through refusals 12 to 15.
 ghost use mathlib.Core.Path.{_≡_};
-ghost use Rattle.board_scan.specs.Promise.{ScanPromise};
+ghost use Rattle.session_rules.specs.Refusal.{refusal};
+ghost use Rattle.call_rules.specs.Result.{no};
+ghost use Rattle.board_scan.specs.Promise.{scanned, ScanPromise};
 ghost use Rattle.board_scan.specs.Scan.{
   firstOf,
   rowRefused,
@@ -17,6 +19,7 @@ use board::Board;
 use board::Row;
 use net::Net;
 use numbers::wide;
+use words::BOARD_WORDS;
 use words::BoardWord;
 use words::Counts;
 
@@ -28,7 +31,7 @@ pub struct Scan {
     pub ended: bool,
 }
 
-// A refusal's number, 0 for none, and the index of its word.
+// A refusal's number and the index of its word, 0 and 0 for none, and what the words have said.
 pub struct Scanned {
     pub number: u8,
     pub index: usize,
@@ -169,41 +172,40 @@ fn before_words() -> Scan
     }
 }
 
-// The words one by one, each through 12 to 15; then an end must have been. First of all 11: no words or more than 96.
+// A refusal: its number and the index of its word. The scan is that before the first word.
+fn refused(number: u8, index: usize) -> Scanned
+    ensures { λ r. ⌜ r ≡ scanned (no (refusal number index)) ⌝ }
+{
+    Scanned {
+        number,
+        index,
+        scan: before_words(),
+    }
+}
+
+// The words one by one, each through 12 to 15; then an end must have been. First of all 11: no words or more than BOARD_WORDS.
 pub fn scan_words(words: &[u32]) -> Scanned
     ensures { λ r. ⌜ ScanPromise (now (words .entry)) r ⌝ }
 {
     let mut s = before_words();
     let n = words.len();
-    if (n == 0) | (96 < n) {
-        return Scanned {
-            number: 11,
-            index: 0,
-            scan: s,
-        };
+    if (n == 0) | (BOARD_WORDS < n) {
+        return refused(11, 0);
     }
     for i in 0..n {
         let w = words::board_word(words[i]);
         let number = word_refused(s, i == 0, w);
         if number != 0 {
-            return Scanned {
-                number,
-                index: i,
-                scan: s,
-            };
+            return refused(number, i);
         }
         s = with_word(s, w);
     }
     if s.ended {
         return Scanned {
             number: 0,
-            index: n,
+            index: 0,
             scan: s,
         };
     }
-    Scanned {
-        number: 13,
-        index: n,
-        scan: s,
-    }
+    refused(13, n)
 }

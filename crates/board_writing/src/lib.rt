@@ -7,6 +7,7 @@ ghost use Rattle.board.specs.View.{boardOf};
 ghost use Rattle.words.specs.BoardWord.{rowWord};
 ghost use Rattle.board_writing.specs.Buffer.{startWith, Continues};
 ghost use Rattle.session.specs.View.{sessionOf};
+ghost use Rattle.call_rules.specs.Reading.{boardLimit};
 ghost use Rattle.call_rules.specs.Writing.{boardWords};
 ghost use Rattle.board_writing.specs.Words.{rowWords, heldWord, netWords};
 ghost use Rattle.board_writing.specs.Promise.{WrittenWords, WritePromise};
@@ -16,9 +17,10 @@ use net::Net;
 use net::Place;
 use numbers::wide;
 use session::Session;
+use words::BOARD_WORDS;
 use words::Counts;
 
-// What writing answers: the count of words written, or a refusal: 20 an unsound session, 18 a buffer under 96 words.
+// What writing answers: the count of words written, or a refusal: 20 an unsound session, 18 a buffer under BOARD_WORDS words.
 pub enum WriteAnswer {
     Written(usize),
     Unsound,
@@ -70,7 +72,7 @@ fn write_nets(nets: [Place; 64], out: &mut [u32], from: usize) -> usize
 // The board and the nets of a sound session, from the start of the buffer.
 fn write_sound(s: Session, out: &mut [u32]) -> usize
     requires { ⌜ s .block .board .count ≤ 31 ⌝ }
-    requires { ⌜ 96 ≤ length (now out) ⌝ }
+    requires { ⌜ boardLimit ≤ length (now out) ⌝ }
     ensures { λ r. ⌜ WrittenWords (boardWords (sessionOf s)) (now (out .entry)) (now (out .exit)) r ⌝ }
 {
     let board = s.block.board;
@@ -93,7 +95,7 @@ pub fn write_board(s: Session, out: &mut [u32]) -> WriteAnswer
     if !s.sound() {
         return WriteAnswer::Unsound;
     }
-    if out.len() < 96 {
+    if out.len() < BOARD_WORDS {
         return WriteAnswer::ShortBuffer;
     }
     WriteAnswer::Written(write_sound(s, out))

@@ -12,11 +12,11 @@ use Rattle.call_rules.specs.Result.{Result, no, yes}
 use Rattle.call_rules.specs.Reading.{readBytes, handedBack}
 use Rattle.call_rules.specs.Route.{RoutesBytes}
 use Rattle.call_rules.specs.Judge.{judgeBytes}
-use Rattle.call_rules.specs.Editor.{EditorRoutes, unread, read, editorJudge}
+use Rattle.call_rules.specs.Editor.{unread, read, editorJudge}
 use Rattle.board_reading.specs.Promise.{readAnswer, refusalIn, ReadPromise}
 use Rattle.board_reading.specs.declared.AfterRead.{AfterRead}
 use Rattle.board_reading.specs.declared.ReadAnswer.the-variants as answer
-use Rattle.cidrask.specs.Told.{tell, routeTold, judgeTold}
+use Rattle.cidrask.specs.Told.{tell, routeTold, judgeTold, RoutedAs}
 use Rattle.cidrask.specs.declared.Told.{Told}
 
 -- ── reading ──
@@ -35,12 +35,6 @@ pub read-accepted : {x : Result Session} {r : AfterRead} → ReadPromise x r →
 read-accepted {x} P e = is-yes x (sym (ap readAnswer e) ∙ P .answers) ∙ ap yes (sym (P .session))
 
 -- ── the two calls ──
--- DEFINITION: the numbers and the buffer after reading with routing
-pub record RoutedAs (board before : List ℕ) (t : Told) (after : List ℕ) : Type 0 where
-  pub result : Result ℕ
-  pub routes : EditorRoutes board before result after
-  pub told : t ≡ routeTold result
-
 pub routed-unread : {board before : List ℕ} {r : AfterRead} (n p : ℕ) → ReadPromise (readBytes board) r → r .answer ≡ answer.Refused n p
     → RoutedAs board before (tell n p 0 0) before
 routed-unread n p P e = record { result = no (refusal n p); routes = unread (read-refused P n p e); told = refl }

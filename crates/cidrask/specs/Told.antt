@@ -33,6 +33,12 @@ abbrev pub judgeTold : Result Report → Told
 judgeTold (yes r) = tell 0 (r .edges) (r .turns) (r .knockKnees)
 judgeTold (no r) = refusedTold r
 
+-- the numbers and the buffer after reading with routing
+pub record RoutedAs (board before : List ℕ) (t : Told) (after : List ℕ) : Type 0 where
+  pub result : Result ℕ
+  pub routes : EditorRoutes board before result after
+  pub told : t ≡ routeTold result
+
 -- reading with routing: what came out, by numbers, and the buffer afterwards
 pub record RoutePromise (board before : List ℕ) (number first second : ℕ) (after : List ℕ) : Type 0 where
   pub result : Result ℕ

@@ -8,7 +8,7 @@ use mathlib.Core.Bool.{Bool, true}
 use mathlib.Core.List.{List}
 use mathlib.Core.Logic.{_↔_}
 use mathlib.Core.Option.{none, some}
-use Prim.Native.Nat.{ℕ, _/_, _≤_}
+use Prim.Native.Nat.{ℕ, _/_, _%_, _≤_}
 use lib.ListN.{length, take}
 use Rattle.count.specs.Truth.{Decides}
 use Rattle.board.specs.Board.{Board, Within}
@@ -34,15 +34,16 @@ use Rattle.session.specs.declared.AfterTakeBack.{AfterTakeBack}
 use Rattle.session.specs.View.{sessionOf}
 use Rattle.session_answers.specs.Answers.{addAnswer, withdrawAnswer, takeBackAnswer}
 use Rattle.session.specs.Promise.{AddPromise, WithdrawPromise, TakeBackPromise, FreshPromise}
+use Rattle.words.specs.Bytes.{wordsIn}
 use Rattle.words.specs.RoutingWord.{routingWords}
 use Rattle.call_rules.specs.Result.{Result, no, yes, andThen}
-use Rattle.call_rules.specs.Reading.{readWords, readBytes, handedBack}
+use Rattle.call_rules.specs.Reading.{boardLimit, readWords, readBytes}
 use Rattle.call_rules.specs.Writing.{writeBoard, countOf, bufferAfter, writtenInto}
-use Rattle.call_rules.specs.Report.{Report, reportOf, alike}
+use Rattle.call_rules.specs.Report.{Report, reportOf, edgesUsed, turnsMade, knockKnees, alike}
 use Rattle.call_rules.specs.Judge.{judged, judgeWords, ofList, compareWords, judgeBytes}
 use Rattle.call_rules.specs.Route.{routeRefused, HandsBack, HandsBackBytes, Routes, RoutesBytes}
 use Rattle.board_reading.specs.declared.AfterRead.{AfterRead}
-use Rattle.board_reading.specs.Promise.{readAnswer, refusalIn, ReadPromise}
+use Rattle.board_reading.specs.Promise.{readAnswer, ReadPromise}
 use Rattle.board_writing.specs.declared.WriteAnswer.{WriteAnswer}
 use Rattle.board_writing.specs.Promise.{writeAnswer, WritePromise}
 use Rattle.judge_call.specs.declared.Judgement.{Judgement}
@@ -50,9 +51,51 @@ use Rattle.judge_call.specs.declared.Likeness.{Likeness}
 use Rattle.judge_call.specs.Answers.{judgementOf, likenessOf}
 use Rattle.route_call.specs.declared.RouteAnswer.{RouteAnswer}
 use Rattle.route_call.specs.Answers.{routeAnswer}
-use Rattle.cidrask.specs.Told.{tell, refusedTold, judgeTold, RoutePromise, JudgePromise}
+use Rattle.cidrask.specs.declared.Told.{Told}
+use Rattle.cidrask.specs.Told.{tell, refusedTold, RoutePromise, JudgePromise}
 use Rattle.session_history.specs.Made.{Made, Chain}
 use Rattle.session_history.specs.Demand as history
+
+-- ── the parts of the statements ──
+-- reading, where document 01 gives x for the input: accepted exactly where x is a session, and that session is handed back; else x's refusal, with
+-- its number and place: "a refused reading, which is given no session, hands back the blank one"
+pub record Reads (x : Result machine.Session) (r : AfterRead) : Type 0 where
+  pub accepts : (readAnswer (r .answer) ≡ none) ↔ ((s : machine.Session) × (x ≡ yes s))
+  pub hands-back : (s : machine.Session) → x ≡ yes s → sessionOf (r .session) ≡ s
+  pub refuses : (q : Refusal) → (readAnswer (r .answer) ≡ some q) ↔ (x ≡ no q)
+  pub hands-blank : (q : Refusal) → x ≡ no q → sessionOf (r .session) ≡ blank
+
+abbrev pub Unsound : machine.Session → Type 0
+Unsound s = Sound s → ⊥
+
+-- the bytes are words: their count is a multiple of 4
+abbrev pub WholeWords : List ℕ → Type 0
+WholeWords bs = length bs % 4 ≡ 0
+
+-- a list of words judged against a sound session: its refusal, 41 to 46, with the place; else the report on its paths
+-- (`judged` gives the paths of a list that passes, or the refusal)
+pub record Judges (s : machine.Session) (ws : List ℕ) (x : Result Report) : Type 0 where
+  pub refuses : (q : Refusal) → judged s ws ≡ no q → x ≡ no q
+  pub reports : (dss : List (List Direction)) → judged s ws ≡ yes dss → x ≡ yes (reportOf (pairs (s .nets)) dss)
+
+-- the same of a list of bytes, as C is told it: first 10; then the refusal, 41 to 46; else 0 with edges, turns and knock-knees
+pub record TellsJudged (s : machine.Session) (bs : List ℕ) (t : Told) : Type 0 where
+  pub uneven : (WholeWords bs → ⊥) → t ≡ tell 10 0 0 0
+  pub refuses : WholeWords bs → (q : Refusal) → judged s (wordsIn bs) ≡ no q → t ≡ refusedTold q
+  pub reports : WholeWords bs → (dss : List (List Direction)) → judged s (wordsIn bs) ≡ yes dss
+      → t ≡ tell 0 (edgesUsed dss) (turnsMade dss) (knockKnees (pairs (s .nets)) dss)
+
+-- judging accepts
+abbrev pub Passes : Judgement → Type 0
+Passes r = (x : Report) × (judgementOf r ≡ yes x)
+
+-- the words are those of a routing of the session's nets, which has the paths dss
+pub record IsRouting (s : Session) (ws : List ℕ) (dss : List (List Direction)) : Type 0 where
+  pub words : ws ≡ routingWords (sessionOf s .nets) dss
+  pub routing : Routing (sessionOf s .block .board) (pairs (sessionOf s .nets)) dss
+
+abbrev pub OfRouting : Session → List ℕ → Type 0
+OfRouting s ws = (dss : List (List Direction)) × IsRouting s ws dss
 
 -- ── 1 ──
 -- "Every accepted call .. gives exactly what document 01 lays down for its input, or, for a routing, one of those allowed there. Every refused
@@ -69,19 +112,20 @@ pub record Demand1 : Type 0 where
   pub take-back : (s : Session) (r : AfterTakeBack) → TakeBackPromise s r
       → (takeBackAnswer (r .answer) ≡ call (sessionOf s) calls.takeBack .answer) × (sessionOf (r .session) ≡ call (sessionOf s) calls.takeBack .next)
       × ((takeBackAnswer (r .answer) ≡ accepted → ⊥) → r .session ≡ s)
-  -- "a refused reading, which is given no session, hands back the blank one": x is readWords or readBytes of the input
-  pub read : (x : Result machine.Session) (r : AfterRead) → ReadPromise x r
-      → (readAnswer (r .answer) ≡ refusalIn x) × (sessionOf (r .session) ≡ handedBack x) × ((q : Refusal) → x ≡ no q → sessionOf (r .session) ≡ blank)
+  pub read-words : (ws : List ℕ) (r : AfterRead) → ReadPromise (readWords ws) r → Reads (readWords ws) r
+  pub read-bytes : (bs : List ℕ) (r : AfterRead) → ReadPromise (readBytes bs) r → Reads (readBytes bs) r
   pub write : (s : Session) (before : List ℕ) (r : WriteAnswer) (after : List ℕ) → WritePromise (sessionOf s) before r after
       → (writeAnswer r ≡ countOf (writeBoard (sessionOf s) (length before))) × (after ≡ bufferAfter before (writeBoard (sessionOf s) (length before)))
       × ((q : Refusal) → writeAnswer r ≡ no q → after ≡ before)
-  -- judging and comparing are lent nothing to write to; `judged` gives the paths of a list that passes, or the refusal, 41 to 46
+  -- judging and comparing are lent nothing to write to
   pub judge : (s : Session) (ws : List ℕ) (r : Judgement) → judgementOf r ≡ judgeWords (sessionOf s) ws
-      → ((Sound (sessionOf s) → ⊥) → judgementOf r ≡ no (refusal 20 0))
-      × (Sound (sessionOf s) → ((q : Refusal) → judged (sessionOf s) ws ≡ no q → judgementOf r ≡ no q)
-      × ((dss : List (List Direction)) → judged (sessionOf s) ws ≡ yes dss → judgementOf r ≡ yes (reportOf (pairs (sessionOf s .nets)) dss)))
+      → (Unsound (sessionOf s) → judgementOf r ≡ no (refusal 20 0)) × (Sound (sessionOf s) → Judges (sessionOf s) ws (judgementOf r))
+  pub judge-bytes : (s : Session) (bs : List ℕ) (r : Judgement) → judgementOf r ≡ judgeBytes (sessionOf s) bs
+      → (Unsound (sessionOf s) → judgementOf r ≡ no (refusal 20 0))
+      × (Sound (sessionOf s) → ((WholeWords bs → ⊥) → judgementOf r ≡ no (refusal 10 0))
+      × (WholeWords bs → Judges (sessionOf s) (wordsIn bs) (judgementOf r)))
   pub compare : (s : Session) (vs ws : List ℕ) (r : Likeness) → likenessOf r ≡ compareWords (sessionOf s) vs ws
-      → ((Sound (sessionOf s) → ⊥) → likenessOf r ≡ no (refusal 20 0))
+      → (Unsound (sessionOf s) → likenessOf r ≡ no (refusal 20 0))
       × (Sound (sessionOf s) → likenessOf r
       ≡ andThen (ofList 0 (judged (sessionOf s) vs)) (λ dss. andThen (ofList 1 (judged (sessionOf s) ws)) (λ ess. yes (alike dss ess))))
   pub route : (s : Session) (before : List ℕ) (r : RouteAnswer) (after : List ℕ) → Routes (sessionOf s) before (routeAnswer r) after
@@ -98,14 +142,9 @@ pub record Demand1 : Type 0 where
       × (routeRefused s (length before / 4) ≡ none → (n : ℕ) × (tell number first second 0 ≡ tell 0 n 0 0) × HandsBackBytes s before after n))
   pub c-judge : (board list : List ℕ) (number first second third : ℕ) → JudgePromise board list number first second third
       → ((q : Refusal) → readBytes board ≡ no q → tell number first second third ≡ refusedTold q)
-      × ((s : machine.Session) → readBytes board ≡ yes s → tell number first second third ≡ judgeTold (judgeBytes s list))
+      × ((s : machine.Session) → readBytes board ≡ yes s → TellsJudged s list (tell number first second third))
 
 -- ── 2 ──
--- the words are those of a routing of the session's nets, which has the paths dss
-pub record IsRouting (s : Session) (ws : List ℕ) (dss : List (List Direction)) : Type 0 where
-  pub words : ws ≡ routingWords (sessionOf s .nets) dss
-  pub routing : Routing (sessionOf s .block .board) (pairs (sessionOf s .nets)) dss
-
 pub record Demand2 : Type 0 where
   -- "A board is taken as convex exactly when any two of its vertices are joined inside it by a path with at most one bend."
   -- (reading refuses with 16, and a session is unsound, by the same test isConvex)
@@ -114,15 +153,18 @@ pub record Demand2 : Type 0 where
   pub taken : (b : Board) → Within b → (isConvex b ≡ true) ↔ Convex b
   -- "A word list passes exactly when it has the shape of 01's routing words and its paths are a routing of the board's nets as 01 defines it."
   pub passes : (s : Session) (ws : List ℕ) (r : Judgement) → Sound (sessionOf s) → judgementOf r ≡ judgeWords (sessionOf s) ws
-      → ((x : Report) × (judgementOf r ≡ yes x)) ↔ ((dss : List (List Direction)) × IsRouting s ws dss)
+      → Passes r ↔ OfRouting s ws
+  -- and a list of bytes when it is whole words and they do
+  pub passes-bytes : (s : Session) (bs : List ℕ) (r : Judgement) → Sound (sessionOf s) → judgementOf r ≡ judgeBytes (sessionOf s) bs
+      → Passes r ↔ (WholeWords bs × OfRouting s (wordsIn bs))
   -- "A session written as words reads back with the same board and nets,
-  pub reads-back : (s : Session) (before : List ℕ) (w : WriteAnswer) (after : List ℕ) → Sound (sessionOf s) → 96 ≤ length before
+  pub reads-back : (s : Session) (before : List ℕ) (w : WriteAnswer) (after : List ℕ) → Sound (sessionOf s) → boardLimit ≤ length before
       → WritePromise (sessionOf s) before w after
       → (n : ℕ) × (writeAnswer w ≡ yes n) × ((r : AfterRead) → ReadPromise (readWords (take n after)) r
       → (readAnswer (r .answer) ≡ none) × (sessionOf (r .session) .block ≡ sessionOf s .block) × (sessionOf (r .session) .nets ≡ sessionOf s .nets))
   -- and accepted words write back as the same words."
   pub writes-back : (ws : List ℕ) (r : AfterRead) (before : List ℕ) (w : WriteAnswer) (after : List ℕ) → ReadPromise (readWords ws) r
-      → readAnswer (r .answer) ≡ none → 96 ≤ length before → WritePromise (sessionOf (r .session)) before w after
+      → readAnswer (r .answer) ≡ none → boardLimit ≤ length before → WritePromise (sessionOf (r .session)) before w after
       → (writeAnswer w ≡ yes (length ws)) × (after ≡ writtenInto before ws)
 
 -- ── 3 ──

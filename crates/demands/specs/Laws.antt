@@ -2,12 +2,14 @@
 -- Assumes nothing but what Demands quantifies over: the promises of the calls.
 use mathlib.Core.Path.{_≡_, refl, ap, sym, _∙_, subst}
 use mathlib.Core.List.{List, [], _∷_}
+use mathlib.Core.Logic.{_↔_, inl, inr}
 use mathlib.Core.Option.{none, some}
-use Prim.Native.Nat.{ℕ, _/_, _≤_}
+use Prim.Native.Nat.{ℕ, _/_, _%_, _≤_}
 use native.Mathlib.Omega.{arith}
+use lib.Dec.{eqb}
 use lib.ListN.{length, take}
-use borrow.Author.Tests.{le-ltb}
-use Rattle.count.specs.Truth.{not-true}
+use borrow.Author.Tests.{le-ltb, eq-eqb, ne-eqb, eqb-true}
+use Rattle.count.specs.Truth.{bool, not-true}
 use Rattle.board_block.specs.Block.{Block}
 use Rattle.board.specs.declared.Direction.{Direction}
 use Rattle.net.specs.declared.Net.{Net}
@@ -19,11 +21,13 @@ use Rattle.session_laws.specs.Exact.{sound-exact}
 use Rattle.session_laws.specs.Fine.{AllGood}
 use Rattle.session_laws.specs.Stays.{sound-fine}
 use Rattle.session.specs.View.{sessionOf}
+use Rattle.session.specs.declared.Session.{Session}
+use Rattle.words.specs.Bytes.{wordsIn}
 use Rattle.call_rules.specs.Result.{Result, no, yes, andThen}
-use Rattle.call_rules.specs.Reading.{readWords, readBytes, handedBack}
+use Rattle.call_rules.specs.Reading.{boardLimit, readWords, readBytes, handedBack}
 use Rattle.call_rules.specs.Writing.{boardWords, writeBoard, countOf, bufferAfter}
 use Rattle.call_rules.specs.Report.{Report, reportOf, alike}
-use Rattle.call_rules.specs.Judge.{judged, ifSound, judgeWords, ofList, compareWords, judgeBytes}
+use Rattle.call_rules.specs.Judge.{judged, ifSound, ifEven, judgeWords, ofList, compareWords, judgeBytes}
 use Rattle.call_rules.specs.Route.{routeRefused, HandsBack, HandsBackBytes, Routes, RoutesBytes, refused, given}
 use Rattle.call_rules.specs.Editor.{EditorRoutes, unread, read, editorJudge}
 use Rattle.route_call.specs.Answers.{routeAnswer}
@@ -32,15 +36,37 @@ use Rattle.cidrask.specs.declared.Told.{Told}
 use Rattle.board_convex.specs.Exact.{is-convex}
 use Rattle.board_reading.specs.Promise.{readAnswer, refusalIn, ReadPromise}
 use Rattle.board_reading.specs.declared.AfterRead.{AfterRead}
+use Rattle.judge_call.specs.Answers.{judgementOf}
 use Rattle.judge_laws.specs.Passing.{Numbered}
 use Rattle.judge_laws.specs.Exact.{passes-exactly}
 use Rattle.board_roundtrip.specs.Parts.{unpiled}
 use Rattle.board_roundtrip.specs.Fits.{few-nets}
-use Rattle.board_roundtrip.specs.RoundTrip.{buffer-reads, read-written}
+use Rattle.board_roundtrip.specs.RoundTrip.{buffer-reads, read-written, read-bytes-sound}
 use Rattle.session_history.specs.Routing as history
-use Rattle.demands.specs.Demands.{Demand1, Demand2, Demand3}
+use Rattle.demands.specs.Demands.{Reads, WholeWords, Judges, TellsJudged, Passes, OfRouting, Demand1, Demand2, Demand3}
 
 -- ── 1 ──
+-- the answer is none exactly where the definition gives a session
+reads : (x : Result machine.Session) (r : AfterRead) → ReadPromise x r → Reads x r
+reads (no p) r P = record {
+  accepts = (
+    λ e. absurd (let f : none ≡ some p = sym e ∙ P .answers in let z : _≡_ {A = ℕ} 0 1 = cc in omega arith),
+    λ e. absurd (let f : no p ≡ yes (e .0) = e .1 in let z : _≡_ {A = ℕ} 0 1 = cc in omega arith),
+  );
+  hands-back = λ s e. absurd (let z : _≡_ {A = ℕ} 0 1 = cc in omega arith);
+  refuses = λ q. (λ e. ap no (let f : some p ≡ some q = sym (P .answers) ∙ e in cc), λ e. P .answers ∙ ap some (cc));
+  hands-blank = λ q e. P .session;
+}
+reads (yes m) r P = record {
+  accepts = (λ e. (m, refl), λ e. P .answers);
+  hands-back = λ s e. P .session ∙ cc;
+  refuses = λ q. (
+    λ e. absurd (let f : some q ≡ none = sym e ∙ P .answers in let z : _≡_ {A = ℕ} 0 1 = cc in omega arith),
+    λ e. absurd (let z : _≡_ {A = ℕ} 0 1 = cc in omega arith),
+  );
+  hands-blank = λ q e. absurd (let z : _≡_ {A = ℕ} 0 1 = cc in omega arith);
+}
+
 buffer-kept : (before : List ℕ) (x : Result (List ℕ)) (r : Refusal) → countOf x ≡ no r → bufferAfter before x ≡ before
 buffer-kept before (no q) r e = refl
 buffer-kept before (yes ws) r e = absurd (let z : _≡_ {A = ℕ} 0 1 = cc in omega arith)
@@ -97,26 +123,57 @@ unsound-first s x n = rw (not-true (sound? s) (λ e. n (sound-exact s .0 e))) re
 sound-then : {A : Type 0} (s : machine.Session) (x : Result A) → Sound s → ifSound s x ≡ x
 sound-then s x S = rw (sound-exact s .1 S) refl
 
-judge-is : (s : machine.Session) (ws : List ℕ) → judgeWords s ws ≡ ifSound s (andThen (judged s ws) (λ dss. yes (reportOf (pairs (s .nets)) dss)))
+-- the report on the paths, or the refusal
+abbrev reported : machine.Session → Result (List (List Direction)) → Result Report
+reported s y = andThen y (λ dss. yes (reportOf (pairs (s .nets)) dss))
+
+judge-is : (s : machine.Session) (ws : List ℕ) → judgeWords s ws ≡ ifSound s (reported s (judged s ws))
 unfolding judgeWords
 judge-is s ws = refl
+
+bytes-is : (s : machine.Session) (bs : List ℕ) → judgeBytes s bs ≡ ifSound s (ifEven bs (reported s (judged s (wordsIn bs))))
+unfolding judgeBytes
+bytes-is s bs = refl
+
+judges : (s : machine.Session) (ws : List ℕ) (x : Result Report) → x ≡ reported s (judged s ws) → Judges s ws x
+judges s ws x e = record { refuses = λ q h. e ∙ ap (reported s) h; reports = λ dss h. e ∙ ap (reported s) h }
+
+uneven-first : {A : Type 0} (bs : List ℕ) (x : Result A) → (WholeWords bs → ⊥) → ifEven bs x ≡ no (refusal 10 0)
+uneven-first bs x n = rw (ne-eqb (length bs % 4) 0 n) refl
+
+even-then : {A : Type 0} (bs : List ℕ) (x : Result A) → WholeWords bs → ifEven bs x ≡ x
+even-then bs x e = rw (eq-eqb (length bs % 4) 0 e) refl
 
 compare-is : (s : machine.Session) (vs ws : List ℕ)
     → compareWords s vs ws ≡ ifSound s (andThen (ofList 0 (judged s vs)) (λ dss. andThen (ofList 1 (judged s ws)) (λ ess. yes (alike dss ess))))
 unfolding compareWords
 compare-is s vs ws = refl
 
-c-judged : (board list : List ℕ) → ((q : Refusal) → readBytes board ≡ no q → editorJudge board list ≡ no q)
-    × ((s : machine.Session) → readBytes board ≡ yes s → editorJudge board list ≡ judgeBytes s list)
+-- C: a session that was read is sound, so that 20 is never told
+tells-judged : (board list : List ℕ) (s : machine.Session) (t : Told) → t ≡ judgeTold (editorJudge board list) → readBytes board ≡ yes s
+    → TellsJudged s list t
 unfolding editorJudge
-c-judged board list = (λ q e. rw e refl, λ s e. rw e refl)
+tells-judged board list s t P e =
+    let f : editorJudge board list ≡ judgeBytes s list = rw e refl in
+    let x = reported s (judged s (wordsIn list)) in
+    let g : editorJudge board list ≡ ifEven list x = f ∙ (bytes-is s list ∙ sound-then s (ifEven list x) (read-bytes-sound board s e)) in
+    let w : WholeWords list → editorJudge board list ≡ x = λ h. g ∙ even-then list x h in record {
+      uneven = λ n. P ∙ ap judgeTold (g ∙ uneven-first list x n);
+      refuses = λ h q k. P ∙ ap judgeTold (w h ∙ ap (reported s) k);
+      reports = λ h dss k. P ∙ ap judgeTold (w h ∙ ap (reported s) k);
+    }
+
+c-refused : (board list : List ℕ) (q : Refusal) → readBytes board ≡ no q → editorJudge board list ≡ no q
+unfolding editorJudge
+c-refused board list q e = rw e refl
 
 pub demand-1 : Demand1
 demand-1 = record {
   add = λ s n r P. (P .call .answers, P .call .next, P .call .kept);
   withdraw = λ s k r P. (P .call .answers, P .call .next, P .call .kept);
   take-back = λ s r P. (P .call .answers, P .call .next, P .call .kept);
-  read = λ x r P. (P .answers, P .session, λ q e. P .session ∙ ap handedBack e);
+  read-words = λ ws r P. reads (readWords ws) r P;
+  read-bytes = λ bs r P. reads (readBytes bs) r P;
   write = λ s before r after P. (
     P .answers,
     P .buffer,
@@ -125,20 +182,24 @@ demand-1 = record {
   route = λ s before r after R. by-refusal (sessionOf s) before after (routeAnswer r) R;
   route-bytes = λ s before r after R. by-refusal-bytes (sessionOf s) before after (routeAnswer r) R;
   judge = λ s ws r e.
-      let m = sessionOf s in let f = e ∙ judge-is m ws in (
-        λ n. f ∙ unsound-first m (andThen (judged m ws) (λ dss. yes (reportOf (pairs (m .nets)) dss))) n,
+      let m = sessionOf s in let x = reported m (judged m ws) in let f = e ∙ judge-is m ws in
+      (λ n. f ∙ unsound-first m x n, λ S. judges m ws (judgementOf r) (f ∙ sound-then m x S));
+  judge-bytes = λ s bs r e.
+      let m = sessionOf s in let x = reported m (judged m (wordsIn bs)) in let f = e ∙ bytes-is m bs in (
+        λ n. f ∙ unsound-first m (ifEven bs x) n,
         λ S.
-            let g = f ∙ sound-then m (andThen (judged m ws) (λ dss. yes (reportOf (pairs (m .nets)) dss))) S in
-            let next : Result (List (List Direction)) → Result Report = λ y. andThen y (λ dss. yes (reportOf (pairs (m .nets)) dss)) in
-            (λ q h. g ∙ ap next h, λ dss h. g ∙ ap next h),
+            let g = f ∙ sound-then m (ifEven bs x) S in
+            (λ n. g ∙ uneven-first bs x n, λ h. judges m (wordsIn bs) (judgementOf r) (g ∙ even-then bs x h)),
       );
   compare = λ s vs ws r e.
       let m = sessionOf s in let f = e ∙ compare-is m vs ws in
       let x = andThen (ofList 0 (judged m vs)) (λ dss. andThen (ofList 1 (judged m ws)) (λ ess. yes (alike dss ess))) in
       (λ n. f ∙ unsound-first m x n, λ S. f ∙ sound-then m x S);
   c-route = λ board before number first second after P. c-routed board before after (P .result) (tell number first second 0) (P .told) (P .routes);
-  c-judge = λ board list number first second third P.
-      let c = c-judged board list in (λ q e. P ∙ ap judgeTold (c .0 q e), λ s e. P ∙ ap judgeTold (c .1 s e));
+  c-judge = λ board list number first second third P. (
+    λ q e. P ∙ ap judgeTold (c-refused board list q e),
+    λ s e. tells-judged board list s (tell number first second third) P e,
+  );
 }
 
 -- ── 2 ──
@@ -146,14 +207,29 @@ numbered : (b : Block) (ns : List Net) → AllGood b ns → Numbered ns
 numbered b [] g = tt
 numbered b (n ∷ ns) g = (omega (arith, g .0 .high), numbered b ns (g .1))
 
--- what judging a sound session answers, from its paths
-judged-yes : (s : machine.Session) (ws : List ℕ) → Sound s → judgeWords s ws ≡ andThen (judged s ws) (λ dss. yes (reportOf (pairs (s .nets)) dss))
-judged-yes s ws S = judge-is s ws ∙ sound-then s (andThen (judged s ws) (λ dss. yes (reportOf (pairs (s .nets)) dss))) S
-
-paths-of : (s : machine.Session) (y : Result (List (List Direction))) (x : Report) → andThen y (λ dss. yes (reportOf (pairs (s .nets)) dss)) ≡ yes x
+paths-of : (s : machine.Session) (y : Result (List (List Direction))) (x : Report) → reported s y ≡ yes x
     → (dss : List (List Direction)) × (y ≡ yes dss)
 paths-of s (no r) x e = absurd (let z : _≡_ {A = ℕ} 0 1 = cc in omega arith)
 paths-of s (yes dss) x e = (dss, refl)
+
+-- a report on a list of words exactly where they are a routing's
+reported-exactly : (s : Session) (ws : List ℕ) (y : Result Report) → Sound (sessionOf s) → y ≡ reported (sessionOf s) (judged (sessionOf s) ws)
+    → ((x : Report) × (y ≡ yes x)) ↔ OfRouting s ws
+reported-exactly s ws y S j =
+    let m = sessionOf s in let F = sound-fine m S in
+    let X = passes-exactly m (S .within) (numbered (m .block) (m .nets) (F .good)) (few-nets (m .block) (m .nets) (F .rising) (F .good)) ws in (
+      λ k. let p = paths-of m (judged m ws) (k .0) (sym j ∙ k .1) in let q = X (p .0) .0 (p .1) in
+          (p .0, record { words = q .words; routing = q .routing }),
+      λ k. let q = X (k .0) .1 (record { routing = k .1 .routing; words = k .1 .words }) in
+          (reportOf (pairs (m .nets)) (k .0), j ∙ ap (reported m) q),
+    )
+
+-- a report on a list of bytes only where they are whole words
+whole-words : (bs : List ℕ) (y : Result Report) (x : Report) → ifEven bs y ≡ yes x → WholeWords bs
+whole-words bs y x e = elim (bool (eqb (length bs % 4) 0)) [
+  | inl h ↦ eqb-true (length bs % 4) 0 h
+  | inr h ↦ absurd (let f : no (refusal 10 0) ≡ yes x = rw h at e in let z : _≡_ {A = ℕ} 0 1 = cc in omega arith)
+]
 
 -- reading accepted
 accepted-as : (y : Result machine.Session) (r : AfterRead) → ReadPromise y r → readAnswer (r .answer) ≡ none → y ≡ yes (sessionOf (r .session))
@@ -164,26 +240,21 @@ read-as : (y : Result machine.Session) (s : machine.Session) (r : AfterRead) →
     → (readAnswer (r .answer) ≡ none) × (sessionOf (r .session) ≡ s)
 read-as y s r e P = (P .answers ∙ ap refusalIn e, P .session ∙ ap handedBack e)
 
-written-yes : (m : machine.Session) (room : ℕ) → Sound m → 96 ≤ room → writeBoard m room ≡ yes (boardWords m)
+written-yes : (m : machine.Session) (room : ℕ) → Sound m → boardLimit ≤ room → writeBoard m room ≡ yes (boardWords m)
 unfolding writeBoard
-written-yes m room S l = rw (sound-exact m .1 S, le-ltb room 96 l) refl
+written-yes m room S l = rw (sound-exact m .1 S, le-ltb room boardLimit l) refl
 
 pub demand-2 : Demand2
 demand-2 = record {
   taken = λ b W. let X = is-convex b in (λ e. X .0 e .1, λ C. X .1 (W, C));
   convex = λ b r D W. (λ e. D .exact .0 e .1, λ C. D .exact .1 (W, C));
   passes = λ s ws r S e.
-      let m = sessionOf s in let F = sound-fine m S in
-      let X = passes-exactly m (S .within) (numbered (m .block) (m .nets) (F .good)) (few-nets (m .block) (m .nets) (F .rising) (F .good)) ws in
-      let j = e ∙ judged-yes m ws S in (
-        λ k. let p = paths-of m (judged m ws) (k .0) (sym j ∙ k .1) in let q = X (p .0) .0 (p .1) in
-            (p .0, record { words = q .words; routing = q .routing }),
-        λ k. let q = X (k .0) .1 (record { routing = k .1 .routing; words = k .1 .words }) in (
-          reportOf (pairs (m .nets)) (k .0),
-          j ∙ ap (λ (y : Result (List (List Direction))). andThen y
-              (λ dss. yes (reportOf (pairs (m .nets)) dss))) q,
-        ),
-      );
+      let m = sessionOf s in reported-exactly s ws (judgementOf r) S (e ∙ (judge-is m ws ∙ sound-then m (reported m (judged m ws)) S));
+  passes-bytes = λ s bs r S e.
+      let m = sessionOf s in let x = reported m (judged m (wordsIn bs)) in
+      let f : judgementOf r ≡ ifEven bs x = e ∙ (bytes-is m bs ∙ sound-then m (ifEven bs x) S) in
+      let X : WholeWords bs → Passes r ↔ OfRouting s (wordsIn bs) = λ h. reported-exactly s (wordsIn bs) (judgementOf r) S (f ∙ even-then bs x h) in
+      (λ k. let h = whole-words bs x (k .0) (sym f ∙ k .1) in (h, X h .0 k), λ k. X (k .0) .1 (k .1));
   reads-back = λ s before w after S l W.
       let m = sessionOf s in
       let y : writeBoard m (length before) ≡ yes (boardWords m) = written-yes m (length before) S l in

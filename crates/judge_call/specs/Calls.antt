@@ -13,7 +13,8 @@ use Rattle.session_rules.specs.Refusal.{refusal}
 use Rattle.session_rules.specs.Session.{Session}
 use Rattle.session_rules.specs.Sound.{sound?}
 use Rattle.words.specs.Bytes.{wordsIn}
-use Rattle.words_bytes.specs.Words.{words-length, all-words, FilledWith}
+use Rattle.words_bytes.specs.Words.{FilledWith}
+use Rattle.words_bytes.specs.WordsLaws.{words-length, all-words}
 use Rattle.call_rules.specs.Result.{no}
 use Rattle.call_rules.specs.Shape.{badCount}
 use Rattle.call_rules.specs.Judge.{judged, judgeWords, compareWords, judgeBytes}

@@ -15,7 +15,8 @@ use Rattle.session_rules.specs.Refusal.{Refusal}
 use Rattle.session_rules.specs.Session.{Session}
 use Rattle.words.specs.Bytes.{bytesOf}
 use Rattle.words.specs.RoutingWord.{routingWords}
-use Rattle.words_bytes.specs.Put.{putInto, bytes-length}
+use Rattle.words_bytes.specs.Put.{putInto}
+use Rattle.words_bytes.specs.PutLaws.{bytes-length}
 use Rattle.call_rules.specs.Result.{Result, no, yes}
 use Rattle.call_rules.specs.Route.{routeRefused, HandsBack, HandsBackBytes, Routes, RoutesBytes, refused, given}
 use Rattle.route_call.specs.Answers.{routeAnswer, written}

@@ -1,6 +1,6 @@
 -- Definitions only: document 01's number and place for each answer of a call that changes a session. Nothing is proved here.
-use mathlib.Core.Bool.{Bool, true, false, cond}
-use lib.Dec.{eqb}
+use mathlib.Core.Bool.{Bool, true, false}
+use lib.ListN.{getD}
 use Rattle.session_rules.specs.Refusal.{refusal}
 use Rattle.session_rules.specs.Machine.{Answer, accepted, refused}
 use Rattle.session_answers.specs.declared.AddAnswer.{AddAnswer}
@@ -39,6 +39,7 @@ isAccepted (NoVertex p) = false
 isAccepted SameVertex = false
 isAccepted (PinsTaken p) = false
 
--- an answer by its number and place, number 0 where the call is accepted
-abbrev pub toldOf : Told → Answer
-toldOf t = cond (eqb (t .number) 0) accepted (refused (refusal (t .number) (t .place)))
+-- an answer by its number and place; both are 0 where the call is accepted
+abbrev pub told : Answer → Told
+told accepted = record { number = 0; place = 0 }
+told (refused r) = record { number = r .number; place = getD (r .place) 0 0 }

@@ -1,6 +1,6 @@
 // What the calls that change a session answer, and the number and place by which each answer is told.
 ghost use mathlib.Core.Path.{_≡_};
-ghost use Rattle.session_answers.specs.Answers.{isAccepted, addAnswer, withdrawAnswer, takeBackAnswer, toldOf};
+ghost use Rattle.session_answers.specs.Answers.{isAccepted, addAnswer, withdrawAnswer, takeBackAnswer, told};
 
 // What add answers. The number is that of the terminal: 0 the first, 1 the second.
 pub enum AddAnswer {
@@ -25,7 +25,7 @@ pub enum TakeBackAnswer {
     PileEmpty,
 }
 
-// An answer by its number and place; number 0 where the call is accepted.
+// An answer by its number and place; both are 0 where the call is accepted.
 pub struct Told {
     pub number: u8,
     pub place: u8,
@@ -46,7 +46,7 @@ pub fn is_accepted(answer: AddAnswer) -> bool
 }
 
 pub fn add_told(answer: AddAnswer) -> Told
-    ensures { λ r. ⌜ toldOf r ≡ addAnswer answer ⌝ }
+    ensures { λ r. ⌜ r ≡ told (addAnswer answer) ⌝ }
 {
     match answer {
         AddAnswer::Accepted => Told {
@@ -75,7 +75,7 @@ pub fn add_told(answer: AddAnswer) -> Told
 }
 
 pub fn withdraw_told(answer: WithdrawAnswer) -> Told
-    ensures { λ r. ⌜ toldOf r ≡ withdrawAnswer answer ⌝ }
+    ensures { λ r. ⌜ r ≡ told (withdrawAnswer answer) ⌝ }
 {
     match answer {
         WithdrawAnswer::Accepted => Told {
@@ -94,7 +94,7 @@ pub fn withdraw_told(answer: WithdrawAnswer) -> Told
 }
 
 pub fn take_back_told(answer: TakeBackAnswer) -> Told
-    ensures { λ r. ⌜ toldOf r ≡ takeBackAnswer answer ⌝ }
+    ensures { λ r. ⌜ r ≡ told (takeBackAnswer answer) ⌝ }
 {
     match answer {
         TakeBackAnswer::Accepted => Told {

@@ -24,6 +24,9 @@ use net::Net;
 use net::Pair;
 use numbers::as_word;
 
+// The greatest count of a board's words, and the least buffer to write them into.
+pub const BOARD_WORDS: usize = 96;
+
 // The counts of a board's end word.
 pub struct Counts {
     pub rows: u8,

@@ -1,2 +1,4 @@
 pub mod Words
+pub mod WordsLaws
 pub mod Put
+pub mod PutLaws

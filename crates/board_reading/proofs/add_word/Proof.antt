@@ -1,7 +1,7 @@
 -- `add_word` is `addedWord`.
 use Rattle.board_reading.specs.Adding.{addedWord, told-added, told-kept}
 use Rattle.session_add.specs.Check.{check-answer}
-use Rattle.session_answers.specs.Answers.{addAnswer}
+use Rattle.session_answers.specs.Answers.{addAnswer, told}
 use Rattle.net_places.specs.Places.{netsOf}
 use Rattle.board_block.specs.View.{blockOf}
 use mathlib.Core.Path.{refl, ap, sym, _∙_}
@@ -43,14 +43,15 @@ returns c =
     let at-w = at-check .before .before in let w = at-w .w in
     let at-args = at-w .before .before in let args = at-args .args in
     let b = blockOf (args .b) in let ps = args .nets in
-    let e = add-told .ensures ∙ (ap addAnswer (check .ensures) ∙ check-answer b (netsOf ps) _) in
+    let e = add-told .ensures ∙ ap told (ap addAnswer (check .ensures) ∙ check-answer b (netsOf ps) _) in
     rw (w .given .1, told-added (add-told .result) b ps _ e (if1 .taken), c .stored .ensures) refl
 
 returns-2 : tie.Need-returns-2
 returns-2 c =
     let b = blockOf (c .before .before .before .before .before .before .before .args .b) in
     let ps = c .before .before .before .before .before .before .before .args .nets in
-    let e = c .before .before .add-told .ensures ∙ (ap addAnswer (c .before .before .before .check .ensures) ∙ check-answer b (netsOf ps) _) in
+    let f = ap addAnswer (c .before .before .before .check .ensures) ∙ check-answer b (netsOf ps) _ in
+    let e = c .before .before .add-told .ensures ∙ ap told f in
     rw (c .before .before .before .before .before .w .given .1) (sym (told-kept (c .before .before .add-told .result) b ps _ e (c .if1 .left)))
 
 returns-3 : tie.Need-returns-3

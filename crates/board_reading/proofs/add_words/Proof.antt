@@ -3,7 +3,7 @@ use native.Mathlib.Omega.{arith}
 use borrow.Author.Needs.{needs}
 use Rattle.board_reading.specs.declared.Added.{Added}
 use Rattle.board_reading.specs.Adding.{addedWord, Adding, adding-start, adding-more, adding-refused, adding-end}
-use Rattle.board_scan.specs.Promise.{nonzero}
+use Rattle.board_scan.specs.Laws.{nonzero}
 use Rattle.words.specs.BoardWord.{boardWord}
 use Rattle.board_block.specs.View.{blockOf}
 use lib.ListN.{length, getD}

@@ -1,6 +1,6 @@
 -- `write_board` answers and writes as the definition lays down.
 use native.Mathlib.Omega.{arith}
-use Rattle.board_writing.specs.Promise.{unsound-write, short-write, whole-write}
+use Rattle.board_writing.specs.Laws.{unsound-write, short-write, whole-write}
 use Rattle.session.specs.View.{sessionOf}
 use Rattle.board.specs.View.{height-of}
 use borrow.Author.Tests.{not-true, not-false}

@@ -1,8 +1,10 @@
 -- `write_nets` writes the words of the nets.
 use native.Mathlib.Omega.{arith}
 use borrow.Author.Needs.{needs}
-use Rattle.board_writing.specs.Words.{heldWord, netWords, net-words-more, net-words-le}
-use Rattle.board_writing.specs.Buffer.{Continues, continues-none, continues-more}
+use Rattle.board_writing.specs.Words.{heldWord, netWords}
+use Rattle.board_writing.specs.WordsLaws.{net-words-more, net-words-le}
+use Rattle.board_writing.specs.Buffer.{Continues}
+use Rattle.board_writing.specs.BufferLaws.{continues-none, continues-more}
 use Rattle.net_places.specs.Places.{netsFrom, netsOf}
 use Rattle.net.specs.View.{nothing}
 use lib.ListN.{length, getD}

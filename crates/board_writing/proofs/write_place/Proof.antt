@@ -1,6 +1,6 @@
 -- `write_place` writes the word of what the place holds.
 use native.Mathlib.Omega.{arith}
-use Rattle.board_writing.specs.Buffer.{continues-none, continues-one}
+use Rattle.board_writing.specs.BufferLaws.{continues-none, continues-one}
 use borrow.Author.Needs.{needs}
 use Rattle.board_writing.proofs.write_place.Statement.{statement}
 use Rattle.board_writing.proofs.write_place.Tie as tie

@@ -1,8 +1,10 @@
 -- `write_rows` writes the words of the rows.
 use native.Mathlib.Omega.{arith}
 use borrow.Author.Needs.{needs}
-use Rattle.board_writing.specs.Words.{rowWords, row-words-length, row-words-more}
-use Rattle.board_writing.specs.Buffer.{startWith, store-next, stored-length}
+use Rattle.board_writing.specs.Words.{rowWords}
+use Rattle.board_writing.specs.WordsLaws.{row-words-length, row-words-more}
+use Rattle.board_writing.specs.Buffer.{startWith}
+use Rattle.board_writing.specs.BufferLaws.{store-next, stored-length}
 use lib.ListN.{length}
 use mathlib.Core.Path.{_≡_, refl}
 use Prim.Native.Nat.{_-_, _≤_}

@@ -1,6 +1,6 @@
 -- `write_sound` writes the words of the board and the nets.
 use native.Mathlib.Omega.{arith}
-use Rattle.board_writing.specs.Promise.{all-written}
+use Rattle.board_writing.specs.Laws.{all-written}
 use Rattle.session_pile.specs.Shift.{length-unmapped-by}
 use lib.ListN.{length, length-set}
 use mathlib.Core.Path.{_≡_, _∙_}

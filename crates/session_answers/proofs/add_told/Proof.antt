@@ -26,7 +26,7 @@ enum-known-answer-2 : tie.Need-enum-known-answer-2
 enum-known-answer-2 c = search needs
 
 returns : tie.Need-returns
-returns c = search needs
+returns c = cc
 
 returns-2 : tie.Need-returns-2
 returns-2 c = cc

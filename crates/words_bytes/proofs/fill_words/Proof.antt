@@ -1,7 +1,7 @@
 -- `fill_words` writes the first words of the bytes into the buffer.
 use native.Mathlib.Omega.{arith}
 use borrow.Author.Needs.{needs}
-use Rattle.words_bytes.specs.Words.{fill-next, filled-length}
+use Rattle.words_bytes.specs.WordsLaws.{fill-next, filled-length}
 use Rattle.words.specs.Bytes.{wordsIn}
 use lib.ListN.{length, take, drop}
 use mathlib.Core.List.{_++_}

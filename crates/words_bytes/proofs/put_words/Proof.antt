@@ -4,7 +4,8 @@ use native.Mathlib.Omega.{arith}
 use mathlib.Core.Path.{_≡_, ap, _∙_}
 use Prim.Native.Nat.{_-_, _*_, _≤_}
 use lib.ListN.{take, length}
-use Rattle.words_bytes.specs.Put.{putInto, put-none, put-next, put-length}
+use Rattle.words_bytes.specs.Put.{putInto}
+use Rattle.words_bytes.specs.PutLaws.{put-none, put-next, put-length}
 use Rattle.words_bytes.proofs.put_words.Statement.{statement}
 use Rattle.words_bytes.proofs.put_words.Tie as tie
 use Rattle.words_bytes.proofs.put_words.Reads as reads
