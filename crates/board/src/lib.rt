@@ -3,7 +3,7 @@ ghost use mathlib.Core.Path.{_≡_};
 ghost use Prim.Native.Nat.{_-_, _≤_};
 ghost use lib.ListN.{getD};
 ghost use Rattle.count.specs.Truth.{one, Decides};
-ghost use Rattle.board.specs.Board.{noRow, IsVertex, IsEdge};
+ghost use Rattle.board.specs.Board.{noRow, right, IsVertex, IsEdge};
 ghost use Rattle.board.specs.Path.{along};
 ghost use Rattle.board.specs.Degree.{cell?, belowRight, belowLeft, aboveRight, aboveLeft, vertex?, edge?};
 ghost use Rattle.board.specs.View.{boardOf};
@@ -52,6 +52,19 @@ fn row_at(rows: [Row; 31], i: u8) -> Row
         rows[at]
     } else {
         Row { left: 0, right: 0 }
+    }
+}
+
+// The right end of row i, or 0 below the last row.
+pub fn right_of(b: Board, i: u8) -> u8
+    ensures { λ r. ⌜ r ≡ right (boardOf b) i ⌝ }
+{
+    if i < b.count {
+        let rows = b.rows;
+        let row = row_at(rows, i);
+        row.right
+    } else {
+        0
     }
 }
 

@@ -1,7 +1,9 @@
 pub mod Cut
 pub mod Odd
 pub mod Tally
+pub mod Extent
 pub mod Laws
+pub mod Past
 pub mod RowEdges
 pub mod Order
 pub mod First

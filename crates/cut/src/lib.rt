@@ -7,6 +7,7 @@ ghost use Rattle.count.specs.Truth.{Decides};
 ghost use Rattle.board.specs.View.{boardOf};
 ghost use Rattle.net.specs.View.{pairsOf};
 ghost use Rattle.cut.specs.Cut.{edges, side, crosses, Overfull, overfull?};
+ghost use Rattle.cut.specs.Extent.{places, linesOf, columnsOf, extent};
 ghost use Rattle.cut.specs.Tally.{cutEdge, withHeld, TallyOf};
 use board::Board;
 use board::Direction;
@@ -14,6 +15,8 @@ use board::Vertex;
 use net::Held;
 use net::Pair;
 use net::Place;
+use numbers::before;
+use numbers::larger;
 
 // A row i, or a column j: the cut between columns j and j + 1.
 pub enum Cut {
@@ -95,13 +98,45 @@ fn is_cut_edge(b: Board, x: Cut, k: u8) -> bool
     }
 }
 
+// How many lines or columns are numbered 0 to n: none past 31.
+fn places(n: u8) -> u8
+    ensures { λ r. ⌜ r ≡ places n ⌝ }
+{
+    if n < 31 { n + 1 } else { 32 }
+}
+
+// How many lines the board has: there is no vertex below them.
+pub fn lines_of(b: Board) -> u8
+    ensures { λ r. ⌜ r ≡ linesOf (boardOf b) ⌝ }
+{
+    places(b.count)
+}
+
+// How many columns of line l can have a vertex: none is right of the rows above and below the line.
+pub fn columns_of(b: Board, l: u8) -> u8
+    ensures { λ r. ⌜ r ≡ columnsOf (boardOf b) l ⌝ }
+{
+    places(larger(board::right_of(b, before(l)), board::right_of(b, l)))
+}
+
+// How many columns of a row, or lines of a column, can have an edge of the cut.
+fn extent_of(b: Board, x: Cut) -> u8
+    ensures { λ r. ⌜ r ≡ extent (boardOf b) x ⌝ }
+{
+    match x {
+        Cut::Row(i) => columns_of(b, i),
+        Cut::Column(_) => lines_of(b),
+    }
+}
+
 // The count of the cut's edges.
 pub fn edges_of(b: Board, x: Cut) -> u8
     ensures { λ r. ⌜ r ≡ edges (boardOf b) x ⌝ }
     ensures { λ r. ⌜ r ≤ 32 ⌝ }
 {
+    let end = extent_of(b, x);
     let mut n: u8 = 0;
-    for k in 0..32 {
+    for k in 0..end {
         n += board::bit(is_cut_edge(b, x, k));
     }
     n

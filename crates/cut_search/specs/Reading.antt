@@ -1,7 +1,7 @@
 -- The reading order from some line, or from some column of a line, on: what a search through it has still to see.
 -- Assumes nothing.
 use mathlib.Core.Path.{_≡_, refl}
-use mathlib.Core.List.{List, [], _∷_, _++_, flatMap, map}
+use mathlib.Core.List.{List, _∷_, _++_, flatMap, map}
 use Prim.Native.Nat.{ℕ, _+_, _-_, _<_}
 use Rattle.count.specs.Lists.{rising, upTo, rising-more}
 use Rattle.board.specs.Board.{at}
@@ -23,7 +23,3 @@ lines-more l h = rw (rising-more l 32 h) refl
 pub line-more : (l c : ℕ) (rest : List Vertex) → c < 32
     → map (at l) (rising c (32 - c)) ++ rest ≡ at l c ∷ (map (at l) (rising (c + 1) (32 - (c + 1))) ++ rest)
 line-more l c rest h = rw (rising-more c 32 h) refl
-
-pub lines-none : linesFrom 32 ≡ []
-unfolding linesFrom flatMap
-lines-none = refl

@@ -1,15 +1,19 @@
 // Searches: the first overfull cut of a board, and its first odd vertex.
 ghost use mathlib.Core.Path.{_≡_};
 ghost use mathlib.Core.List.{head?};
+ghost use Prim.Native.Nat.{min};
 ghost use Rattle.board.specs.View.{boardOf};
 ghost use Rattle.net.specs.View.{pairsOf};
 ghost use Rattle.cut.specs.Cut.{overfullCuts};
 ghost use Rattle.cut.specs.Odd.{oddVertices};
-ghost use Rattle.cut_search.specs.Found.{overfullRows, overfullColumns, overfullAmong, foundCut, oddWith, foundVertex};
+ghost use Rattle.cut_search.specs.Found.{overfullRows, overfullColumns, overfullAmong, further, NoneCrossesFrom};
+ghost use Rattle.cut_search.specs.Found.{foundCut, oddWith, foundVertex};
 use board::Board;
 use board::Vertex;
 use cut::Cut;
+use net::Held;
 use net::Place;
+use numbers::larger;
 use numbers::wide;
 
 // The first overfull cut, if there is one.
@@ -22,6 +26,12 @@ pub enum FoundCut {
 pub enum FoundVertex {
     Nothing,
     At(Vertex),
+}
+
+fn smaller(m: u8, n: u8) -> u8
+    ensures { λ r. ⌜ r ≡ min m n ⌝ }
+{
+    if m < n { m } else { n }
 }
 
 // The first overfull row, from the top.
@@ -37,11 +47,34 @@ fn overfull_row(b: Board, nets: [Place; 64]) -> FoundCut
     FoundCut::Nothing
 }
 
-// The first overfull column, from the left.
+// The greatest of m and the columns of what a place holds.
+fn further(m: u8, place: Place) -> u8
+    ensures { λ r. ⌜ r ≡ further m (place .held) ⌝ }
+{
+    let held = place.held;
+    match held {
+        Held::Nothing => m,
+        Held::Ends(ends) => larger(larger(m, ends.first.column), ends.second.column),
+    }
+}
+
+// The greatest column of a terminal: no net crosses that column or one right of it.
+fn last_column(nets: [Place; 64]) -> u8
+    ensures { λ r. ⌜ NoneCrossesFrom (pairsOf nets) r ⌝ }
+{
+    let mut last: u8 = 0;
+    for i in 0..64 {
+        last = further(last, nets[i]);
+    }
+    last
+}
+
+// The first overfull column, from the left. A column that no net crosses is not overfull.
 fn overfull_column(b: Board, nets: [Place; 64]) -> FoundCut
     ensures { λ r. ⌜ r ≡ foundCut (head? (overfullColumns (boardOf b) (pairsOf nets))) ⌝ }
 {
-    for j in 0..31 {
+    let end = smaller(last_column(nets), 31);
+    for j in 0..end {
         if cut::is_overfull(b, nets, Cut::Column(j)) {
             return FoundCut::At(Cut::Column(j));
         }
@@ -82,7 +115,7 @@ fn is_odd(b: Board, terminals: u8, v: Vertex) -> bool
     }
 }
 
-// The first odd vertex, line by line and column by column.
+// The first odd vertex, line by line and column by column, on the lines and columns that the board has.
 pub fn first_odd(b: Board, nets: [Place; 64]) -> FoundVertex
     ensures { λ r. ⌜ r ≡ foundVertex (head? (oddVertices (boardOf b) (pairsOf nets))) ⌝ }
 {
@@ -90,8 +123,10 @@ pub fn first_odd(b: Board, nets: [Place; 64]) -> FoundVertex
     let mut line: u8 = 0;
     let mut column: u8 = 0;
     let mut found = false;
-    'lines: for l in 0..32 {
-        for c in 0..32 {
+    let lines = cut::lines_of(b);
+    'lines: for l in 0..lines {
+        let columns = cut::columns_of(b, l);
+        for c in 0..columns {
             let terminals = counts[wide(l) * 32 + wide(c)];
             if is_odd(b, terminals, Vertex { line: l, column: c }) {
                 line = l;

@@ -1,6 +1,6 @@
 // Casts that lose nothing, and small functions on numbers, for every crate.
 ghost use mathlib.Core.Path.{_≡_};
-ghost use Prim.Native.Nat.{_-_, _<_, min};
+ghost use Prim.Native.Nat.{_-_, _<_, min, max};
 
 // A byte as an index.
 pub fn wide(x: u8) -> usize
@@ -35,6 +35,12 @@ pub fn before_index(i: usize) -> usize
     ensures { λ r. ⌜ r ≡ i - 1 ⌝ }
 {
     if 0 < i { i - 1 } else { 0 }
+}
+
+pub fn larger(a: u8, b: u8) -> u8
+    ensures { λ r. ⌜ r ≡ max a b ⌝ }
+{
+    if a < b { b } else { a }
 }
 
 pub fn least(a: usize, b: usize) -> usize
