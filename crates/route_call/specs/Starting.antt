@@ -1,8 +1,8 @@
--- The arrays that hold a board's lines and its nets' pairs are a start of the router.
--- Assumes a problem on a board with no odd vertex and no overfull cut, and zeroed notes.
+-- The arrays that hold a board's lines and a table of pairs are a start of the router; the table of the nets alone is such a table.
+-- Assumes pairs that are good on the board's lines, and zeroed notes; of the nets alone, a sound session with no odd vertex and no overfull cut.
 use mathlib.Core.Path.{_≡_, refl, ap, ap₂, _∙_, sym, subst}
 use mathlib.Core.Bool.{false}
-use mathlib.Core.List.{List, [], _∷_}
+use mathlib.Core.List.{List, [], _∷_, append-nil}
 use mathlib.Core.Logic.{inl, inr}
 use Prim.Native.Nat.{ℕ, zero, suc, _+_, _≤_, _<_}
 use native.Mathlib.Omega.{arith}
@@ -11,14 +11,12 @@ use Rattle.count.specs.Sum.{sum, sum-zero, sum-suc, sum-eq}
 use Rattle.board.specs.Board.{Board, height, at}
 use Rattle.board.specs.declared.Vertex.{Vertex}
 use Rattle.net.specs.declared.Pair.{Pair}
-use Rattle.cut.specs.Cut.{overfullCuts}
-use Rattle.cut.specs.Odd.{oddVertices}
+use Rattle.session_rules.specs.Session.{Session, pairs}
 use Rattle.corner.specs.Pairs.{pair, tally, All, SamePairs}
 use Rattle.corner.specs.Shape.{Here, Shaped, Good, last, size}
 use Rattle.corner.specs.Presence.{last-suc}
 use Rattle.corner.specs.Lines.{linesOf}
 use Rattle.corner.specs.Order.{good-same}
-use Rattle.corner.specs.Problem.{Problem}
 use Rattle.corner.specs.Boards.{problem-good}
 use Rattle.router_notes.specs.Notes.{Item, item}
 use Rattle.router_notes.specs.Inv.{turnI}
@@ -32,6 +30,10 @@ use Rattle.router_ends.specs.declared.Work.{Work}
 use Rattle.router_ends.specs.View.{run}
 use Rattle.router_start.specs.Lines.{Lined, lined-alike}
 use Rattle.router_start.specs.Table.{wordOf, noPair, Clear, Table}
+use Rattle.route_call.specs.Answers.{Even, Roomy}
+use Rattle.route_call.specs.AnswerLaws.{even-sound}
+use Rattle.route_call.specs.Filled.{firstWork, Filled}
+use Rattle.route_call.specs.Sessions.{problem-of}
 
 -- ── pairs by their place in the list ──
 pub all-get : (P : Vertex → Type 0) (ps : List Pair) (i : ℕ) → i < length ps → All P ps → P (getD ps i noPair .first) × P (getD ps i noPair .second)
@@ -73,26 +75,15 @@ clear-zeros = record {
   s2-size = length-replicate {A = ℕ} 2112 0;
 }
 
--- the table of the same pairs
-pub table-as : {ps qs : List Pair} {n : ℕ} {la lb ids s1 s2 : List ℕ} → ps ≡ qs → Table qs n la lb ids s1 s2 → Table ps n la lb ids s1 s2
-table-as e T = rw e T
-
 -- ── the start ──
-abbrev pub firstWork : (bottom n : ℕ) → Work
-firstWork bottom n = record { top = 0; bottom = bottom; up = false; n = n; next = n; stuck = false }
-
 pub first-low : (w : Work) (bottom n : ℕ) → w ≡ firstWork bottom n → bottom ≤ 31 → n ≤ 64
     → (w .top ≤ 31) × (w .bottom ≤ 31) × (w .n ≤ 64) × (w .next ≤ 64)
 first-low w bottom n e h k = rw e (omega arith, h, k, k)
 
-module _ (b : Board) (ps : List Pair) (P : Problem b ps) (even : oddVertices b ps ≡ []) (roomy : overfullCuts b ps ≡ [])
-    {lo hi : List ℕ} {h : ℕ} (tall : h ≡ height b) (L : Lined b lo hi (h + 1)) {la lb ids s1 s2 : List ℕ} {n : ℕ}
-    (T : Table ps n la lb ids s1 s2) where
+module _ (b : Board) (ps : List Pair) (G : Good (linesOf b) ps) (some : 1 ≤ height b) {lo hi : List ℕ} {h : ℕ} (tall : h ≡ height b)
+    (L : Lined b lo hi (h + 1)) {la lb ids s1 s2 : List ℕ} {n : ℕ} (T : Table ps n la lb ids s1 s2) where
   abbrev pub R0 : Run
   R0 = run la lb ids (replicate 1024 0) (replicate 1024 0) (replicate 2112 0) s1 s2 (replicate 2112 0) (replicate 2112 0) lo hi (firstWork h n)
-
-  G : Good (linesOf b) ps
-  G = problem-good b ps P even roomy
 
   low : (v : Vertex) → Here (linesOf b) v → (v .line ≤ last) × (v .column < 32)
   low v k = let S = G .shaped in let t = S .thin (v .line) (k .low, k .high) in
@@ -137,7 +128,7 @@ module _ (b : Board) (ps : List Pair) (P : Problem b ps) (even : oddVertices b p
       subst (λ (x : Item). x .b .line ≤ last) (sym e) (low (getD ps i noPair .second) (ends i l .1) .0),
     );
     next = refl;
-    good = good-same (shapeR R0) ps (pairsR R0) same-pairs (good-alike (linesOf b) (shapeR R0) (lined-alike b lo hi h (P .within .some) tall L) ps G);
+    good = good-same (shapeR R0) ps (pairsR R0) same-pairs (good-alike (linesOf b) (shapeR R0) (lined-alike b lo hi h some tall L) ps G);
   }
 
   pub sized : Sized R0
@@ -155,3 +146,16 @@ module _ (b : Board) (ps : List Pair) (P : Problem b ps) (even : oddVertices b p
     lo = L .lo-size;
     hi = L .hi-size;
   }
+
+-- ── the nets alone ──
+pub nets-filled : (s : Session) → Even s → Roomy s → (ps : List Pair) → pairs (s .nets) ≡ ps → {n : ℕ} {la lb ids s1 s2 : List ℕ}
+    → Table ps n la lb ids s1 s2 → n ≤ 64 → Filled s n la lb ids s1 s2
+nets-filled s E R ps e T most = record {
+  ps = ps;
+  helpers = [];
+  nets-first = append-nil (pairs (s .nets)) ∙ e;
+  table = T;
+  most = most;
+  good = subst (λ (qs : List Pair). Good (linesOf (s .board)) qs) e
+      (problem-good (s .board) (pairs (s .nets)) (problem-of s (even-sound s E)) (E .even) R);
+}

@@ -14,6 +14,7 @@ use Rattle.count.specs.Sums.{sum-get}
 use Rattle.board.specs.Board.{Board, Within}
 use Rattle.net.specs.declared.Net.{Net}
 use Rattle.words.specs.RoutingWord.{pathsWords, routingWords}
+use Rattle.call_rules.specs.Shape.{routingLimit}
 use Rattle.corner.specs.Shape.{size}
 use Rattle.corner.specs.Trails.{Link, hor, ver}
 use Rattle.corner.specs.Links.{onBoard}
@@ -104,7 +105,7 @@ module _ (side vert half s1 s2 d1 d2 : List ℕ) (O : Ordered half d1 d2) (b : B
       sum-eq n (λ i. length (P i)) (λ i. length (R .ms i))
       (λ i l. ap length (path-moves side vert half s1 s2 d1 d2 O b W B edges n few it R made i l) ∙ length-dirs (R .ms i))
 
-  pub words-fit : (ns : List Net) → length ns ≡ n → n ≤ 64 → length (routingWords ns (pathsFrom P 0 n)) ≤ 2049
+  pub words-fit : (ns : List Net) → length ns ≡ n → n ≤ 64 → length (routingWords ns (pathsFrom P 0 n)) ≤ routingLimit
   unfolding routingWords
   words-fit ns e h =
       let w : sum 0 (λ i. length (P i)) + length (pathsWords ns (pathsFrom P 0 n)) ≤ n + sum (0 + n) (λ i. length (P i)) =

@@ -1,5 +1,5 @@
 -- What `write_paths` leaves of a finished router's notes is what the call `route` hands back: its words are those of a routing.
--- Assumes what the router's run leaves, as in Routes, for the nets of a session, and a buffer of 2,049 words or more.
+-- Assumes what the router's run leaves, as in Routes, for the nets of a session, and a buffer of as many words as routing asks for.
 use mathlib.Core.Path.{_≡_, refl, sym, subst}
 use mathlib.Core.List.{List}
 use Prim.Native.Nat.{ℕ, _≤_, _<_}
@@ -12,7 +12,7 @@ use Rattle.net.specs.declared.Pair.{Pair}
 use Rattle.routing_rules.specs.Routing.{Routing}
 use Rattle.session_rules.specs.Session.{Session, pairs}
 use Rattle.words.specs.RoutingWord.{routingWords}
-use Rattle.call_rules.specs.Route.{HandsBack}
+use Rattle.call_rules.specs.Route.{routeRoom, HandsBack}
 use Rattle.corner.specs.Trails.{Link}
 use Rattle.corner.specs.Links.{onBoard}
 use Rattle.router_notes.specs.Notes.{Item, Routed}
@@ -38,7 +38,7 @@ module _ (side vert half s1 s2 d1 d2 : List ℕ) (O : Ordered half d1 d2) (s : S
   few : length (s .nets) ≤ 2112
   few = omega arith
 
-  pub handed : {before after : List ℕ} {count : ℕ} → 2049 ≤ length before
+  pub handed : {before after : List ℕ} {count : ℕ} → routeRoom s ≤ length before
       → (Short P (length (s .nets)) → Written (routingWords (s .nets) paths) before count after) → HandsBack s before after count
   handed {before} room wrote =
       let w = wrote (paths-short side vert half s1 s2 d1 d2 O (s .board) W B edges (length (s .nets)) few it R made) in

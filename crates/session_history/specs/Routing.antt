@@ -27,7 +27,18 @@ use Rattle.session_laws.specs.Exact.{sound-exact}
 use Rattle.session.specs.declared.Session as code
 use Rattle.session.specs.View.{sessionOf}
 use Rattle.call_rules.specs.Result.{Result, no, yes}
-use Rattle.call_rules.specs.Route.{overfullRefusal, overfullRefused, routeRefused, HandsBack, HandsBackBytes, Routes, RoutesBytes, refused, given}
+use Rattle.call_rules.specs.Route.{
+  routeRoom,
+  overfullRefusal,
+  overfullRefused,
+  routeRefused,
+  HandsBack,
+  HandsBackBytes,
+  Routes,
+  RoutesBytes,
+  refused,
+  given,
+}
 use Rattle.route_call.specs.Answers.{routeAnswer}
 use Rattle.route_call.specs.Sessions.{problem-of}
 use Rattle.session_history.specs.Made.{Made, added, withdrew, tookBack, routed, routedBytes, Meets, Chain, last, callsOf, answersOf, Everywhere}
@@ -48,8 +59,8 @@ pub record Rightly (m : Session) (answer : Result ℕ) (HandedBack : ℕ → Typ
 
 -- "Wherever routing is called .. with 2,049 words or more", m being the machine's session then
 abbrev pub RoutedRightly : Session → Made → Type 0
-RoutedRightly m (routed before r after) = 2049 ≤ length before → AllEven m → Rightly m (routeAnswer r) (HandsBack m before after)
-RoutedRightly m (routedBytes before r after) = 2049 ≤ length before / 4 → AllEven m → Rightly m (routeAnswer r) (HandsBackBytes m before after)
+RoutedRightly m (routed before r after) = routeRoom m ≤ length before → AllEven m → Rightly m (routeAnswer r) (HandsBack m before after)
+RoutedRightly m (routedBytes before r after) = routeRoom m ≤ length before / 4 → AllEven m → Rightly m (routeAnswer r) (HandsBackBytes m before after)
 RoutedRightly m (added n r) = Unit {0}
 RoutedRightly m (withdrew k r) = Unit {0}
 RoutedRightly m (tookBack r) = Unit {0}
@@ -63,14 +74,14 @@ pub record Demand3 (s : code.Session) (ms : List Made) : Type 0 where
   pub routings : Everywhere RoutedRightly (bare (sessionOf s .board)) ms
 
 -- ── one routing call ──
-module _ (m : Session) (S : Sound m) (E : AllEven m) {room : ℕ} (long : 2049 ≤ room) where
+module _ (m : Session) (S : Sound m) (E : AllEven m) {room : ℕ} (long : routeRoom m ≤ room) where
   even : oddVertices (m .board) (pairs (m .nets)) ≡ []
   even = no-odd (m .board) (pairs (m .nets)) (S .within) .1 E
 
   -- only an overfull cut is left to refuse it
   left : routeRefused m room ≡ overfullRefused (head? (overfullCuts (m .board) (pairs (m .nets))))
   unfolding routeRefused
-  left = rw (sound-exact m .1 S, le-ltb room 2049 long, even) refl
+  left = rw (sound-exact m .1 S, le-ltb room (routeRoom m) long, even) refl
 
   theorem : Routable (m .board) (pairs (m .nets)) ↔ (overfullCuts (m .board) (pairs (m .nets)) ≡ [])
   theorem = routable (m .board) (pairs (m .nets)) (problem-of m S) even
@@ -100,12 +111,12 @@ module _ (m : Session) (S : Sound m) (E : AllEven m) {room : ℕ} (long : 2049 �
       (none-refused (head? (overfullCuts (m .board) (pairs (m .nets)))) (sym left ∙ e))) in
       record { exactly = (λ j. R, λ j. (n, refl, k)); named = λ j. absurd (j R) }
 
-words-rightly : (m : Session) → Sound m → AllEven m → {before after : List ℕ} {a : Result ℕ} → 2049 ≤ length before → Routes m before a after
+words-rightly : (m : Session) → Sound m → AllEven m → {before after : List ℕ} {a : Result ℕ} → routeRoom m ≤ length before → Routes m before a after
     → Rightly m a (HandsBack m before after)
 words-rightly m S E long (refused {r} e) = refused-rightly m S E long r e (HandsBack m _ _)
 words-rightly m S E long (given {after} {count} e H) = given-rightly m S E long count e (HandsBack m _ after) H
 
-bytes-rightly : (m : Session) → Sound m → AllEven m → {before after : List ℕ} {a : Result ℕ} → 2049 ≤ length before / 4 → RoutesBytes m before a after
+bytes-rightly : (m : Session) → Sound m → AllEven m → {before after : List ℕ} {a : Result ℕ} → routeRoom m ≤ length before / 4 → RoutesBytes m before a after
     → Rightly m a (HandsBackBytes m before after)
 bytes-rightly m S E long (refused {r} e) = refused-rightly m S E long r e (HandsBackBytes m _ _)
 bytes-rightly m S E long (given {after} {count} e H) = given-rightly m S E long count e (HandsBackBytes m _ after) H
