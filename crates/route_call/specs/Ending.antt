@@ -17,14 +17,15 @@ use Rattle.net.specs.declared.Pair.{Pair}
 use Rattle.board_convex.specs.Lemma1.{lemma-1}
 use Rattle.session_rules.specs.Session.{Session, pairs}
 use Rattle.session_rules.specs.Sound.{Sound}
-use Rattle.words.specs.RoutingWord.{routingWords}
 use Rattle.call_rules.specs.Route.{routeRoom, HandsBack}
+use Rattle.call_rules.specs.Writing.{writtenInto}
 use Rattle.corner.specs.Pairs.{pair}
 use Rattle.corner.specs.Shape.{Shape, present, last}
 use Rattle.corner.specs.Trails.{Link, hor, ver, lo, hi, joined}
 use Rattle.corner.specs.Links.{onBoard}
 use Rattle.corner.specs.Lines.{linesOf, joined-board}
-use Rattle.router_notes.specs.Notes.{Item}
+use Rattle.router_notes.specs.Limits.{pairLimit}
+use Rattle.router_notes.specs.Notes.{Item, Routed}
 use Rattle.router_notes.specs.Lift.{lift-fewer}
 use Rattle.router_notes.specs.State.{room as edgesLeft}
 use Rattle.router_notes.specs.Alike.{Alike, present-alike, shapeOf}
@@ -34,14 +35,14 @@ use Rattle.router_invariant.specs.Run.{Run, stateR, shapeR, rowR}
 use Rattle.router_ends.specs.declared.Work.{Work}
 use Rattle.router_loop.specs.Promise.{CutAll}
 use Rattle.router_loop.specs.Routed as ended
-use Rattle.router_writer.specs.Written.{Written}
-use Rattle.router_writer.specs.Paths.{pathsFrom, Short}
+use Rattle.router_writer.specs.Paths.{wordsOf, Fits}
 use Rattle.router_writer.specs.Routes.{pairsFrom, pairs-from}
-use Rattle.router_writer.specs.Handed.{handed}
-use Rattle.router_start.specs.Lines.{Lined, lined-alike}
+use Rattle.router_writer.specs.Handed.{fits, handed}
+use Rattle.router_start.specs.Lines.{Lined}
+use Rattle.router_start.specs.LineLaws.{lined-alike}
 use Rattle.router_start.specs.Table.{noPair}
 use Rattle.route_call.specs.Filled.{firstWork, Filled}
-use Rattle.route_call.specs.Starting.{R0, row-is, starts, sized}
+use Rattle.route_call.specs.Starting.{pairZeros, vertexZeros, R0, row-is, starts, sized}
 
 -- ── a unit edge between two vertices of the shape is an edge of the board ──
 left-present : (S S' : Shape) → Alike S S' → (v : Vertex) → leftOf S' false v ≡ true → present S (v .line) (v .column) ≡ true
@@ -62,8 +63,9 @@ room-edge b W C S' A e = elim (bool (leftOf S' false (lo e) && leftOf S' false (
       omega (arith, ap one j, one-le (leftOf S' false (lo e) && leftOf S' false (hi e)))
 ]
 
-module _ (s : Session) (S : Sound s) {first second : List ℕ} {h : ℕ} (tall : h ≡ height (s .board)) (L : Lined (s .board) first second (h + 1))
-    {la lb ids s1 s2 : List ℕ} {n : ℕ} (F : Filled s n la lb ids s1 s2) where
+module _ (s : Session) (S : Sound s) {first second : List ℕ} {h : ℕ} (tall : h ≡ height (s .board))
+    (L : Lined (s .board) (h + 1) (replicate 32 0) (replicate 32 0) first second) {la lb ids s1 s2 : List ℕ} {n : ℕ}
+    (F : Filled s n la lb ids s1 s2) where
   abbrev R : Run
   R = R0 (s .board) (F .ps) (F .good) (S .within .some) tall L (F .table)
 
@@ -87,25 +89,34 @@ module _ (s : Session) (S : Sound s) {first second : List ℕ} {h : ℕ} (tall :
       rw z (net-pair i l)) in
       subst (λ (k : ℕ). pairs (s .nets) ≡ pairsFrom (rowR R) 0 k) nets f
 
-  pub handed-back : (w : Work) → w ≡ firstWork h n → {la' lb' ids' side' vert' half' s1' s2' d1' d2' lo' : List ℕ} {r : Bool}
-      → CutAll la lb ids (replicate 1024 0) (replicate 1024 0) (replicate 2112 0) s1 s2 (replicate 2112 0) (replicate 2112 0) first second w
-      la' lb' ids' side' vert' half' s1' s2' d1' d2' lo' r
-      → {before after : List ℕ} {answer : ℕ} → routeRoom s ≤ length before
-      → (Short (pathD side' vert' half' s1' s2' d1' d2' 2112) (length (s .nets))
-      → Written (routingWords (s .nets) (pathsFrom (pathD side' vert' half' s1' s2' d1' d2' 2112) 0 (length (s .nets)))) before answer after)
-      → HandsBack s before after answer
-  handed-back w start {la' = la'} {lb' = lb'} {ids' = ids'} {side' = side'} {vert' = vert'} {half' = half'} {s1' = s1'} {s2' = s2'} {d1' = d1'}
-      {d2' = d2'} {lo' = lo'} {r = r} C room wrote =
-      let A = lined-alike (s .board) first second h (S .within .some) tall L in
-      let K = ended.routed la lb ids (replicate 1024 0) (replicate 1024 0) (replicate 2112 0) s1 s2 (replicate 2112 0) (replicate 2112 0) first second
-      (firstWork h n)
-      la' lb' ids' side' vert' half' s1' s2' d1' d2' lo' r
-      (subst (λ (v : Work). CutAll la lb ids (replicate 1024 0) (replicate 1024 0) (replicate 2112 0) s1 s2 (replicate 2112 0)
-      (replicate 2112 0) first second v
-      la' lb' ids' side' vert' half' s1' s2' d1' d2' lo' r) start C)
-      (starts (s .board) (F .ps) (F .good) (S .within .some) tall L (F .table)) (sized (s .board) (F .ps) (F .good) (S .within .some) tall L (F .table))
-      .1 in
-      handed side' vert' half' s1' s2' d1' d2' (K .ordered) s (S .within) (edgesLeft (leftOf (shapeR R) false))
-      (room-edge (s .board) (S .within) (S .convex) (shapeR R) A) (rowR R)
-      (lift-fewer (notesOf side' vert' half' s1' s2' d1' d2') (edgesLeft (leftOf (shapeR R) false)) (length (s .nets)) n (rowR R) fewer (K .routes))
-      (λ i l. K .made i (omega (arith, fewer))) ends (omega (arith, fewer, F .most)) room wrote
+  -- the router has run
+  module _ (w : Work) (start : w ≡ firstWork h n) {la' lb' ids' side' vert' half' s1' s2' d1' d2' lo' : List ℕ} {r : Bool}
+      (C : CutAll la lb ids vertexZeros vertexZeros pairZeros s1 s2 pairZeros pairZeros first second w
+      la' lb' ids' side' vert' half' s1' s2' d1' d2' lo' r) where
+    K : ended.Routed (stateR R) side' vert' half' s1' s2' d1' d2'
+    K = ended.routed la lb ids vertexZeros vertexZeros pairZeros s1 s2 pairZeros pairZeros first second
+        (firstWork h n)
+        la' lb' ids' side' vert' half' s1' s2' d1' d2' lo' r
+        (subst (λ (v : Work). CutAll la lb ids vertexZeros vertexZeros pairZeros s1 s2 pairZeros pairZeros first second v
+        la' lb' ids' side' vert' half' s1' s2' d1' d2' lo' r) start C)
+        (starts (s .board) (F .ps) (F .good) (S .within .some) tall L (F .table))
+        (sized (s .board) (F .ps) (F .good) (S .within .some) tall L (F .table) (omega (arith, tall, S .within .few))) .1
+
+    abbrev P : ℕ → List ℕ
+    P = pathD side' vert' half' s1' s2' d1' d2' pairLimit
+
+    edges : (e : Link) → edgesLeft (leftOf (shapeR R) false) e ≤ one (onBoard (s .board) e)
+    edges = room-edge (s .board) (S .within) (S .convex) (shapeR R) (lined-alike (s .board) h (S .within .some) tall L)
+
+    nets-routed : Routed (notesOf side' vert' half' s1' s2' d1' d2') (edgesLeft (leftOf (shapeR R) false)) (length (s .nets)) (rowR R)
+    nets-routed = lift-fewer (notesOf side' vert' half' s1' s2' d1' d2') (edgesLeft (leftOf (shapeR R) false)) (length (s .nets)) n (rowR R) fewer
+        (K .routes)
+
+    pub fits-buffer : {before : List ℕ} → routeRoom s ≤ length before → Fits P (s .nets) before
+    fits-buffer room = fits side' vert' half' s1' s2' d1' d2' (K .ordered) s (S .within) (edgesLeft (leftOf (shapeR R) false)) edges (rowR R)
+        nets-routed (λ i l. K .made i (omega (arith, fewer))) ends (omega (arith, fewer, F .most)) room
+
+    pub handed-back : {before after : List ℕ} {answer : ℕ} → answer ≡ length (wordsOf P (s .nets)) → after ≡ writtenInto before (wordsOf P (s .nets))
+        → HandsBack s before after answer
+    handed-back counted words = handed side' vert' half' s1' s2' d1' d2' (K .ordered) s (S .within) (edgesLeft (leftOf (shapeR R) false)) edges
+        (rowR R) nets-routed (λ i l. K .made i (omega (arith, fewer))) ends (omega (arith, fewer, F .most)) counted words

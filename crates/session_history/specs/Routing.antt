@@ -116,8 +116,8 @@ words-rightly : (m : Session) → Sound m → AllEven m → {before after : List
 words-rightly m S E long (refused {r} e) = refused-rightly m S E long r e (HandsBack m _ _)
 words-rightly m S E long (given {after} {count} e H) = given-rightly m S E long count e (HandsBack m _ after) H
 
-bytes-rightly : (m : Session) → Sound m → AllEven m → {before after : List ℕ} {a : Result ℕ} → routeRoom m ≤ length before / 4 → RoutesBytes m before a after
-    → Rightly m a (HandsBackBytes m before after)
+bytes-rightly : (m : Session) → Sound m → AllEven m → {before after : List ℕ} {a : Result ℕ} → routeRoom m ≤ length before / 4
+    → RoutesBytes m before a after → Rightly m a (HandsBackBytes m before after)
 bytes-rightly m S E long (refused {r} e) = refused-rightly m S E long r e (HandsBackBytes m _ _)
 bytes-rightly m S E long (given {after} {count} e H) = given-rightly m S E long count e (HandsBackBytes m _ after) H
 

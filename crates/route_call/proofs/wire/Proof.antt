@@ -23,7 +23,7 @@ wire-table-requires c κs =
     let s = at-start .args .s in
     let E = at-start .pre .0 .0 in
     let T = at-fill-table .fill-table .ensures in
-    ((even-sound (sessionOf s) E, nets-filled (sessionOf s) E (at-start .pre .0 .1) _ (pairs-of (s .nets)) (T .0) (T .1)), at-start .pre .1)
+    ((even-sound (sessionOf s) E, nets-filled (sessionOf s) E (at-start .pre .0 .1) _ (pairs-of (s .nets)) (T .1) (T .0)), at-start .pre .1)
 
 -- src/lib.rt:78:1
 same-length : tie.Need-same-length

@@ -1,4 +1,4 @@
--- `wire_table` hands back a routing: the parts promise what the law `handed-back` asks for.
+-- `wire_table` hands back a routing: the parts promise what the laws `fits-buffer` and `handed-back` ask for.
 use native.Mathlib.Omega.{arith}
 use mathlib.Core.Path.{sym}
 use Prim.Native.Nat.{ℕ}
@@ -6,7 +6,7 @@ use lib.ListN.{length-replicate}
 use Rattle.board.specs.View.{height-of}
 use Rattle.session.specs.View.{sessionOf}
 use Rattle.route_call.specs.Starting.{first-low}
-use Rattle.route_call.specs.Ending.{handed-back}
+use Rattle.route_call.specs.Ending.{fits-buffer, handed-back}
 use borrow.Author.Needs.{needs}
 use Rattle.route_call.proofs.wire_table.Statement.{statement}
 use Rattle.route_call.proofs.wire_table.Tie as tie
@@ -45,7 +45,15 @@ cut-all-requires c κs =
 
 -- src/lib.rt:74:5
 write-paths-requires : tie.Need-write-paths-requires
-write-paths-requires c κs = search needs
+write-paths-requires c κs =
+    let at-cut-all = c .before .before .before .before .before .before .before .before in
+    let at-first-work = at-cut-all .before .before .before .before .before .before .before .before .before .before .before .before .before in
+    let at-fill-lines = at-first-work .before in
+    let at-start = at-fill-lines .before .before .before .before .before .before in
+    let args = at-start .args in
+    fits-buffer (sessionOf (args .s)) (at-start .pre .0 .0) (sym (height-of (args .s .board))) (at-fill-lines .fill-lines .ensures)
+    (at-start .pre .0 .1) (at-first-work .first-work .result) (at-first-work .first-work .ensures) (at-cut-all .cut-all .ensures)
+    (at-start .pre .1)
 
 -- src/lib.rt:46:1
 same-length : tie.Need-same-length
@@ -62,7 +70,7 @@ returns c =
     let args = at-start .args in
     handed-back (sessionOf (args .s)) (at-start .pre .0 .0) (sym (height-of (args .s .board))) (at-fill-lines .fill-lines .ensures)
     (at-start .pre .0 .1) (at-first-work .first-work .result) (at-first-work .first-work .ensures) (at-cut-all .cut-all .ensures)
-    (at-start .pre .1) (at-write-paths .write-paths .ensures)
+    (at-write-paths .write-paths .ensures .0) (at-write-paths .write-paths .ensures .1)
 
 pub wire-table-spec : {M : Type 1} → statement M
 wire-table-spec =
