@@ -18,23 +18,23 @@ use Rattle.words.specs.RoutingWord.{routingWords}
 use Rattle.words_bytes.specs.Put.{putInto}
 use Rattle.words_bytes.specs.PutLaws.{bytes-length}
 use Rattle.call_rules.specs.Result.{Result, no, yes}
-use Rattle.call_rules.specs.Route.{routeRefused, HandsBack, HandsBackBytes, Routes, RoutesBytes, refused, given}
+use Rattle.call_rules.specs.Route.{routeRoom, routeRefused, HandsBack, HandsBackBytes, Routes, RoutesBytes, refused, given}
 use Rattle.route_call.specs.Answers.{routeAnswer, written}
 use Rattle.route_call.specs.declared.RouteAnswer.{RouteAnswer}
 use Rattle.route_call.specs.declared.RouteAnswer.the-variants as answer
 
--- 2,049 words are as good as more
-same-short : (n : ℕ) → ltb (min n 2049) 2049 ≡ ltb n 2049
-same-short n = elim (le-or-lt 2049 n) [
-  | inl h ↦ le-ltb (min n 2049) 2049 (omega arith) ∙ sym (le-ltb n 2049 h)
-  | inr h ↦ lt-ltb (min n 2049) 2049 (omega arith) ∙ sym (lt-ltb n 2049 h)
+-- as many words as are enough are as good as more
+same-short : (n enough : ℕ) → ltb (min n enough) enough ≡ ltb n enough
+same-short n enough = elim (le-or-lt enough n) [
+  | inl h ↦ le-ltb (min n enough) enough (omega arith) ∙ sym (le-ltb n enough h)
+  | inr h ↦ lt-ltb (min n enough) enough (omega arith) ∙ sym (lt-ltb n enough h)
 ]
 
-same-refused : (s : Session) (n : ℕ) → routeRefused s (min n 2049) ≡ routeRefused s n
+same-refused : (s : Session) (n : ℕ) → routeRefused s (min n (routeRoom s)) ≡ routeRefused s n
 unfolding routeRefused
-same-refused s n = rw (same-short n) refl
+same-refused s n = rw (same-short n (routeRoom s)) refl
 
--- DEFINITION: how many words a result tells of
+-- how many words a result tells of
 abbrev pub countIn : Result ℕ → ℕ
 countIn (no r) = 0
 countIn (yes n) = n
@@ -55,7 +55,7 @@ module _ (s : Session) where
       omega (arith, H .counted, ap length (H .words), length-append ws (drop (length ws) words))
 
   pub into-bytes : (rest : List ℕ) {before words words' : List ℕ} {a : Result ℕ} → Routes s words a words'
-      → length words ≡ min (length before / 4) 2049
+      → length words ≡ min (length before / 4) (routeRoom s)
       → RoutesBytes s before a (putInto before (take (countIn a) (words' ++ rest)))
   unfolding bytesOf
   into-bytes rest {before} {words} (refused {r} e) k = refused {r = r} (sym (same-refused s (length before / 4)) ∙ ap (routeRefused s) (sym k) ∙ e)

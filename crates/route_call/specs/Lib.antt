@@ -1,5 +1,7 @@
+pub mod Answers
+pub mod AnswerLaws
+pub mod Filled
 pub mod Sessions
 pub mod Starting
 pub mod Ending
-pub mod Answers
 pub mod InBytes

@@ -1,8 +1,8 @@
--- The arrays that hold a board's lines and its nets' pairs are a start of the router.
--- Assumes a problem on a board with no odd vertex and no overfull cut, and zeroed notes.
+-- The arrays that hold a board's lines and a table of pairs are a start of the router; the table of the nets alone is such a table.
+-- Assumes pairs that are good on the board's lines, and zeroed notes; of the nets alone, a sound session with no odd vertex and no overfull cut.
 use mathlib.Core.Path.{_≡_, refl, ap, ap₂, _∙_, sym, subst}
 use mathlib.Core.Bool.{false}
-use mathlib.Core.List.{List, [], _∷_}
+use mathlib.Core.List.{List, [], _∷_, append-nil}
 use mathlib.Core.Logic.{inl, inr}
 use Prim.Native.Nat.{ℕ, zero, suc, _+_, _≤_, _<_}
 use native.Mathlib.Omega.{arith}
@@ -11,15 +11,14 @@ use Rattle.count.specs.Sum.{sum, sum-zero, sum-suc, sum-eq}
 use Rattle.board.specs.Board.{Board, height, at}
 use Rattle.board.specs.declared.Vertex.{Vertex}
 use Rattle.net.specs.declared.Pair.{Pair}
-use Rattle.cut.specs.Cut.{overfullCuts}
-use Rattle.cut.specs.Odd.{oddVertices}
+use Rattle.session_rules.specs.Session.{Session, pairs}
 use Rattle.corner.specs.Pairs.{pair, tally, All, SamePairs}
 use Rattle.corner.specs.Shape.{Here, Shaped, Good, last, size}
 use Rattle.corner.specs.Presence.{last-suc}
 use Rattle.corner.specs.Lines.{linesOf}
 use Rattle.corner.specs.Order.{good-same}
-use Rattle.corner.specs.Problem.{Problem}
 use Rattle.corner.specs.Boards.{problem-good}
+use Rattle.router_notes.specs.Limits.{pairLimit, vertexLimit}
 use Rattle.router_notes.specs.Notes.{Item, item}
 use Rattle.router_notes.specs.Inv.{turnI}
 use Rattle.router_notes.specs.Table.{pairsOf, tally-of}
@@ -30,8 +29,14 @@ use Rattle.router_invariant.specs.Place.{vtx-at, last-is}
 use Rattle.router_tidy.specs.Start.{Starts}
 use Rattle.router_ends.specs.declared.Work.{Work}
 use Rattle.router_ends.specs.View.{run}
-use Rattle.router_start.specs.Lines.{Lined, lined-alike}
-use Rattle.router_start.specs.Table.{wordOf, noPair, Clear, Table}
+use Rattle.router_start.specs.Lines.{Lined}
+use Rattle.router_start.specs.LineLaws.{lined-lo, lined-hi, lined-alike}
+use Rattle.router_start.specs.Table.{wordOf, noPair, Clear, Table, Fills}
+use Rattle.router_start.specs.TableLaws.{fills-table}
+use Rattle.route_call.specs.Answers.{Even, Roomy}
+use Rattle.route_call.specs.AnswerLaws.{even-sound}
+use Rattle.route_call.specs.Filled.{firstWork, Filled}
+use Rattle.route_call.specs.Sessions.{problem-of}
 
 -- ── pairs by their place in the list ──
 pub all-get : (P : Vertex → Type 0) (ps : List Pair) (i : ℕ) → i < length ps → All P ps → P (getD ps i noPair .first) × P (getD ps i noPair .second)
@@ -63,36 +68,32 @@ zeros zero p = refl
 zeros (suc m) zero = refl
 zeros (suc m) (suc p) = zeros m p
 
-pub clear-zeros : Clear (replicate 2112 0) (replicate 2112 0) (replicate 2112 0) (replicate 2112 0) (replicate 2112 0)
+-- notes of pairs and notes of vertices before anything is written
+abbrev pub pairZeros : List ℕ
+pairZeros = replicate pairLimit 0
+
+abbrev pub vertexZeros : List ℕ
+vertexZeros = replicate vertexLimit 0
+
+pub clear-zeros : Clear pairZeros pairZeros pairZeros pairZeros pairZeros
 clear-zeros = record {
-  low = λ k. omega (arith, zeros 2112 k);
-  la-size = length-replicate {A = ℕ} 2112 0;
-  lb-size = length-replicate {A = ℕ} 2112 0;
-  ids-size = length-replicate {A = ℕ} 2112 0;
-  s1-size = length-replicate {A = ℕ} 2112 0;
-  s2-size = length-replicate {A = ℕ} 2112 0;
+  low = λ k. omega (arith, zeros pairLimit k);
+  la-size = length-replicate {A = ℕ} pairLimit 0;
+  lb-size = length-replicate {A = ℕ} pairLimit 0;
+  ids-size = length-replicate {A = ℕ} pairLimit 0;
+  s1-size = length-replicate {A = ℕ} pairLimit 0;
+  s2-size = length-replicate {A = ℕ} pairLimit 0;
 }
 
--- the table of the same pairs
-pub table-as : {ps qs : List Pair} {n : ℕ} {la lb ids s1 s2 : List ℕ} → ps ≡ qs → Table qs n la lb ids s1 s2 → Table ps n la lb ids s1 s2
-table-as e T = rw e T
-
 -- ── the start ──
-abbrev pub firstWork : (bottom n : ℕ) → Work
-firstWork bottom n = record { top = 0; bottom = bottom; up = false; n = n; next = n; stuck = false }
-
 pub first-low : (w : Work) (bottom n : ℕ) → w ≡ firstWork bottom n → bottom ≤ 31 → n ≤ 64
     → (w .top ≤ 31) × (w .bottom ≤ 31) × (w .n ≤ 64) × (w .next ≤ 64)
 first-low w bottom n e h k = rw e (omega arith, h, k, k)
 
-module _ (b : Board) (ps : List Pair) (P : Problem b ps) (even : oddVertices b ps ≡ []) (roomy : overfullCuts b ps ≡ [])
-    {lo hi : List ℕ} {h : ℕ} (tall : h ≡ height b) (L : Lined b lo hi (h + 1)) {la lb ids s1 s2 : List ℕ} {n : ℕ}
-    (T : Table ps n la lb ids s1 s2) where
+module _ (b : Board) (ps : List Pair) (G : Good (linesOf b) ps) (some : 1 ≤ height b) {lo hi : List ℕ} {h : ℕ} (tall : h ≡ height b)
+    (L : Lined b (h + 1) (replicate 32 0) (replicate 32 0) lo hi) {la lb ids s1 s2 : List ℕ} {n : ℕ} (T : Table ps n la lb ids s1 s2) where
   abbrev pub R0 : Run
-  R0 = run la lb ids (replicate 1024 0) (replicate 1024 0) (replicate 2112 0) s1 s2 (replicate 2112 0) (replicate 2112 0) lo hi (firstWork h n)
-
-  G : Good (linesOf b) ps
-  G = problem-good b ps P even roomy
+  R0 = run la lb ids vertexZeros vertexZeros pairZeros s1 s2 pairZeros pairZeros lo hi (firstWork h n)
 
   low : (v : Vertex) → Here (linesOf b) v → (v .line ≤ last) × (v .column < 32)
   low v k = let S = G .shaped in let t = S .thin (v .line) (k .low, k .high) in
@@ -124,11 +125,11 @@ module _ (b : Board) (ps : List Pair) (P : Problem b ps) (even : oddVertices b p
 
   pub starts : Starts R0
   starts = record {
-    side = zeros 1024;
-    vert = zeros 1024;
-    half = zeros 2112;
-    d1 = zeros 2112;
-    d2 = zeros 2112;
+    side = zeros vertexLimit;
+    vert = zeros vertexLimit;
+    half = zeros pairLimit;
+    d1 = zeros pairLimit;
+    d2 = zeros pairLimit;
     number = T .number;
     first = T .made-first;
     second = T .made-second;
@@ -137,21 +138,37 @@ module _ (b : Board) (ps : List Pair) (P : Problem b ps) (even : oddVertices b p
       subst (λ (x : Item). x .b .line ≤ last) (sym e) (low (getD ps i noPair .second) (ends i l .1) .0),
     );
     next = refl;
-    good = good-same (shapeR R0) ps (pairsR R0) same-pairs (good-alike (linesOf b) (shapeR R0) (lined-alike b lo hi h (P .within .some) tall L) ps G);
+    good = good-same (shapeR R0) ps (pairsR R0) same-pairs (good-alike (linesOf b) (shapeR R0) (lined-alike b h some tall L) ps G);
   }
 
-  pub sized : Sized R0
-  sized = record {
+  room : h ≤ 31 → h + 1 ≤ length {A = ℕ} (replicate 32 0)
+  room k = omega (arith, length-replicate {A = ℕ} 32 0)
+
+  pub sized : h ≤ 31 → Sized R0
+  sized few = record {
     la = T .clear .la-size;
     lb = T .clear .lb-size;
     ids = T .clear .ids-size;
-    side = length-replicate {A = ℕ} 1024 0;
-    vert = length-replicate {A = ℕ} 1024 0;
-    half = length-replicate {A = ℕ} 2112 0;
+    side = length-replicate {A = ℕ} vertexLimit 0;
+    vert = length-replicate {A = ℕ} vertexLimit 0;
+    half = length-replicate {A = ℕ} pairLimit 0;
     s1 = T .clear .s1-size;
     s2 = T .clear .s2-size;
-    d1 = length-replicate {A = ℕ} 2112 0;
-    d2 = length-replicate {A = ℕ} 2112 0;
-    lo = L .lo-size;
-    hi = L .hi-size;
+    d1 = length-replicate {A = ℕ} pairLimit 0;
+    d2 = length-replicate {A = ℕ} pairLimit 0;
+    lo = lined-lo b L (room few) ∙ length-replicate {A = ℕ} 32 0;
+    hi = lined-hi b L (room few) ∙ length-replicate {A = ℕ} 32 0;
   }
+
+-- ── the nets alone ──
+pub nets-filled : (s : Session) → Even s → Roomy s → (ps : List Pair) → pairs (s .nets) ≡ ps → {n : ℕ} {la lb ids s1 s2 : List ℕ} → n ≤ 64
+    → Fills ps n pairZeros pairZeros pairZeros pairZeros pairZeros la lb ids s1 s2 → Filled s n la lb ids s1 s2
+nets-filled s E R ps e most F = record {
+  ps = ps;
+  helpers = [];
+  nets-first = append-nil (pairs (s .nets)) ∙ e;
+  table = fills-table clear-zeros most F;
+  most = most;
+  good = subst (λ (qs : List Pair). Good (linesOf (s .block .board)) qs) e
+      (problem-good (s .block .board) (pairs (s .nets)) (problem-of s (even-sound s E)) (E .even) R);
+}

@@ -3,9 +3,10 @@ ghost use mathlib.Core.Path.{_≡_};
 ghost use Prim.Native.Nat.{_≤_, min};
 ghost use lib.ListN.{length};
 ghost use Rattle.session.specs.View.{sessionOf};
-ghost use Rattle.call_rules.specs.Route.{HandsBack, Routes, RoutesBytes};
+ghost use Rattle.session_rules.specs.Sound.{Sound};
+ghost use Rattle.call_rules.specs.Route.{routeRoom, HandsBack, Routes, RoutesBytes};
 ghost use Rattle.route_call.specs.Answers.{Even, Roomy, routeAnswer, written};
-ghost use Rattle.route_call.specs.Starting.{firstWork};
+ghost use Rattle.route_call.specs.Filled.{firstWork, Filled};
 use board::Vertex;
 use cut::Cut;
 use cut_search::FoundCut;
@@ -13,7 +14,12 @@ use cut_search::FoundVertex;
 use numbers::least;
 use numbers::wide;
 use router_ends::Work;
+use router_notes::PAIRS;
+use router_notes::VERTICES;
 use session::Session;
+
+// The words that routing asks for.
+const WORDS: usize = 2049;
 
 // What routing answers: the count of words written, or a refusal: 20 an unsound session, 31 a buffer under 2,049 words, 32 the first odd
 // vertex, 33 the first overfull cut.
@@ -40,10 +46,20 @@ fn first_work(rows: u8, n: usize) -> Work
     }
 }
 
-// The words of a routing at the start of the buffer; answers with their count.
-fn wire(s: Session, out: &mut [u32]) -> usize
-    requires { ⌜ Even (sessionOf s) × Roomy (sessionOf s) ⌝ }
-    requires { ⌜ 2049 ≤ length (now out) ⌝ }
+// The words of a routing of the nets at the start of the buffer, from a table of n rows: the nets' pairs and then helpers. Answers with the count of
+// words.
+fn wire_table(
+    s: Session,
+    n: usize,
+    la: &mut [u16; PAIRS],
+    lb: &mut [u16; PAIRS],
+    ids: &mut [u16; PAIRS],
+    s1: &mut [u16; PAIRS],
+    s2: &mut [u16; PAIRS],
+    out: &mut [u32],
+) -> usize
+    requires { ⌜ Sound (sessionOf s) × Filled (sessionOf s) n (now la) (now lb) (now ids) (now s1) (now s2) ⌝ }
+    requires { ⌜ routeRoom (sessionOf s) ≤ length (now out) ⌝ }
     ensures { λ r. ⌜ HandsBack (sessionOf s) (now (out .entry)) (now (out .exit)) r ⌝ }
 {
     let board = s.block.board;
@@ -51,40 +67,50 @@ fn wire(s: Session, out: &mut [u32]) -> usize
     let mut lo = [0u8; 32];
     let mut hi = [0u8; 32];
     router_start::fill_lines(board, &mut lo, &mut hi);
-    let mut la = [0u16; 2112];
-    let mut lb = [0u16; 2112];
-    let mut ids = [0u16; 2112];
-    let mut s1 = [0u16; 2112];
-    let mut s2 = [0u16; 2112];
-    let n = router_start::fill_table(nets, &mut la, &mut lb, &mut ids, &mut s1, &mut s2);
-    let mut side = [0u16; 1024];
-    let mut vert = [0u16; 1024];
-    let mut half = [0u16; 2112];
-    let mut d1 = [0u8; 2112];
-    let mut d2 = [0u8; 2112];
+    let mut side = [0u16; VERTICES];
+    let mut vert = [0u16; VERTICES];
+    let mut half = [0u16; PAIRS];
+    let mut d1 = [0u8; PAIRS];
+    let mut d2 = [0u8; PAIRS];
     let work = first_work(board.count, n);
     router_loop::cut_all(
-        &mut la,
-        &mut lb,
-        &mut ids,
+        la,
+        lb,
+        ids,
         &mut side,
         &mut vert,
         &mut half,
-        &mut s1,
-        &mut s2,
+        s1,
+        s2,
         &mut d1,
         &mut d2,
         &mut lo,
         &hi,
         work,
     );
-    router_writer::write_paths(&side, &vert, &half, &s1, &s2, &d1, &d2, nets, out)
+    router_writer::write_paths(&side, &vert, &half, s1, s2, &d1, &d2, nets, out)
+}
+
+// The same from the nets' pairs alone: no vertex is odd, so there are no helpers.
+fn wire(s: Session, out: &mut [u32]) -> usize
+    requires { ⌜ Even (sessionOf s) × Roomy (sessionOf s) ⌝ }
+    requires { ⌜ routeRoom (sessionOf s) ≤ length (now out) ⌝ }
+    ensures { λ r. ⌜ HandsBack (sessionOf s) (now (out .entry)) (now (out .exit)) r ⌝ }
+{
+    let nets = s.nets;
+    let mut la = [0u16; PAIRS];
+    let mut lb = [0u16; PAIRS];
+    let mut ids = [0u16; PAIRS];
+    let mut s1 = [0u16; PAIRS];
+    let mut s2 = [0u16; PAIRS];
+    let n = router_start::fill_table(nets, &mut la, &mut lb, &mut ids, &mut s1, &mut s2);
+    wire_table(s, n, &mut la, &mut lb, &mut ids, &mut s1, &mut s2, out)
 }
 
 // Where no vertex is odd: the first overfull cut, or a routing.
 fn route_even(s: Session, out: &mut [u32]) -> RouteAnswer
     requires { ⌜ Even (sessionOf s) ⌝ }
-    requires { ⌜ 2049 ≤ length (now out) ⌝ }
+    requires { ⌜ routeRoom (sessionOf s) ≤ length (now out) ⌝ }
     ensures { λ r. ⌜ Routes (sessionOf s) (now (out .entry)) (routeAnswer r) (now (out .exit)) ⌝ }
 {
     let board = s.block.board;
@@ -106,7 +132,7 @@ pub fn route(s: Session, out: &mut [u32]) -> RouteAnswer
     if !s.sound() {
         return RouteAnswer::Unsound;
     }
-    if out.len() < 2049 {
+    if out.len() < WORDS {
         return RouteAnswer::ShortBuffer;
     }
     let board = s.block.board;
@@ -135,8 +161,8 @@ fn written(answer: RouteAnswer) -> usize
 pub fn route_bytes(s: Session, out: &mut [u8]) -> RouteAnswer
     ensures { λ r. ⌜ RoutesBytes (sessionOf s) (now (out .entry)) (routeAnswer r) (now (out .exit)) ⌝ }
 {
-    let mut words = [0u32; 2049];
-    let room = least(out.len() / 4, 2049);
+    let mut words = [0u32; WORDS];
+    let room = least(out.len() / 4, WORDS);
     let answer = route(s, &mut words[..room]);
     words_bytes::put_words(&words, written(answer), out);
     answer

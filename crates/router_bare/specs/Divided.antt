@@ -14,6 +14,7 @@ use Rattle.count.specs.Truth.{bool, eq-or-ne, le-or-lt}
 use Rattle.count.specs.Sum.{sum-zero, sum-suc}
 use Rattle.corner.specs.Pairs.{apart}
 use Rattle.corner.specs.Apart.{apart-le}
+use Rattle.router_notes.specs.Limits.{pairLimit, lastPair}
 use Rattle.router_table.specs.Scans.{First, Least, crossD, leaveD}
 use Rattle.router_table.specs.Writes.{Added, Divided}
 use Rattle.router_invariant.specs.Run.{Run, lineR, colR, ulR, nulR, bulR, bulW}
@@ -25,13 +26,13 @@ use Rattle.router_ends.specs.View.{run, Low, Went, halted, counted}
 use Rattle.router_bare.specs.Promise.{CutRow, NoEndsR}
 
 -- a number that is stored is low
-pub low-set : (ids : List ℕ) (i v : ℕ) → Low ids → v < 2112 → Low (set ids i v)
+pub low-set : (ids : List ℕ) (i v : ℕ) → Low ids → v < pairLimit → Low (set ids i v)
 low-set ids i v h l k = elim (eq-or-ne k i) [
   | inl e ↦ elim (le-or-lt (length ids) i) [
-    | inl b ↦ subst (λ z. z < 2112) (sym (getD-out ids i v k b)) (h k)
-    | inr b ↦ subst (λ z. z < 2112) (sym (ap (λ t. getD (set ids i v) t 0) e ∙ getD-set-same ids i v 0 b)) l
+    | inl b ↦ subst (λ z. z < pairLimit) (sym (getD-out ids i v k b)) (h k)
+    | inr b ↦ subst (λ z. z < pairLimit) (sym (ap (λ t. getD (set ids i v) t 0) e ∙ getD-set-same ids i v 0 b)) l
   ]
-  | inr e ↦ subst (λ z. z < 2112) (sym (getD-set-other ids i k v 0 e)) (h k)
+  | inr e ↦ subst (λ z. z < pairLimit) (sym (getD-set-other ids i k v 0 e)) (h k)
 ]
   where
     getD-out : (l : List ℕ) (i v k : ℕ) → length l ≤ i → getD (set l i v) k 0 ≡ getD l k 0
@@ -52,7 +53,7 @@ leave-le la lb l (suc n) = omega (
 )
 
 -- the table after a division
-pub low-cut-row : (ids ids' : List ℕ) (i n next : ℕ) → Low ids → next < 2111 → ids' ≡ set (set ids i next) n (next + 1) → Low ids'
+pub low-cut-row : (ids ids' : List ℕ) (i n next : ℕ) → Low ids → next < lastPair → ids' ≡ set (set ids i next) n (next + 1) → Low ids'
 low-cut-row ids ids' i n next h l e = rw e (low-set (set ids i next) n (next + 1) (low-set ids i next h (omega arith)) (omega arith))
 
 -- the writes of cut_row, one after the other

@@ -2,11 +2,13 @@
 ghost use mathlib.Core.Path.{_≡_};
 ghost use mathlib.Core.Bool.{cond};
 ghost use Prim.Native.Nat.{_≤_, _<_};
+ghost use Rattle.router_notes.specs.Limits.{pairLimit, lastPair};
 ghost use Rattle.router_invariant.specs.Divide.{dir1, dir2};
 ghost use Rattle.router_ends.specs.View.{Low, Near};
 ghost use Rattle.router_bare.specs.Promise.{CutRow, NoEnds};
 use numbers::long;
 use router_ends::Work;
+use router_notes::PAIRS;
 
 fn pick(first: bool, a: u16, b: u16) -> u16
     ensures { λ r. ⌜ r ≡ cond first a b ⌝ }
@@ -29,21 +31,21 @@ fn second_dir(first: bool, up: bool) -> u8
 
 // Row i is divided; its first half ends at nul if its first end is the right one, else at bul.
 fn cut_row(
-    la: &mut [u16; 2112],
-    lb: &mut [u16; 2112],
-    ids: &mut [u16; 2112],
-    half: &mut [u16; 2112],
-    s1: &mut [u16; 2112],
-    s2: &mut [u16; 2112],
-    d1: &mut [u8; 2112],
-    d2: &mut [u8; 2112],
+    la: &mut [u16; PAIRS],
+    lb: &mut [u16; PAIRS],
+    ids: &mut [u16; PAIRS],
+    half: &mut [u16; PAIRS],
+    s1: &mut [u16; PAIRS],
+    s2: &mut [u16; PAIRS],
+    d1: &mut [u8; PAIRS],
+    d2: &mut [u8; PAIRS],
     w: Work,
     i: usize,
     first: bool,
     nul: u16,
     bul: u16,
 ) -> Work
-    requires { ⌜ (i < w .n) × (w .n < 2112) × (w .next < 2111) × Low (now ids) × (w .top ≤ 31) × (w .bottom ≤ 31) ⌝ }
+    requires { ⌜ (i < w .n) × (w .n < pairLimit) × (w .next < lastPair) × Low (now ids) × (w .top ≤ 31) × (w .bottom ≤ 31) ⌝ }
     ensures { λ r. ⌜ CutRow (now (la .entry)) (now (lb .entry)) (now (ids .entry)) (now (half .entry)) (now (s1 .entry)) (now (s2 .entry))
         (now (d1 .entry)) (now (d2 .entry)) w i first nul bul
         (now (la .exit)) (now (lb .exit)) (now (ids .exit)) (now (half .exit)) (now (s1 .exit)) (now (s2 .exit)) (now (d1 .exit))
@@ -77,21 +79,22 @@ fn cut_row(
 
 // Two edges and no end at the corner: a pair is divided there, or a helper pair is added.
 pub fn no_end(
-    la: &mut [u16; 2112],
-    lb: &mut [u16; 2112],
-    ids: &mut [u16; 2112],
-    half: &mut [u16; 2112],
-    s1: &mut [u16; 2112],
-    s2: &mut [u16; 2112],
-    d1: &mut [u8; 2112],
-    d2: &mut [u8; 2112],
+    la: &mut [u16; PAIRS],
+    lb: &mut [u16; PAIRS],
+    ids: &mut [u16; PAIRS],
+    half: &mut [u16; PAIRS],
+    s1: &mut [u16; PAIRS],
+    s2: &mut [u16; PAIRS],
+    d1: &mut [u8; PAIRS],
+    d2: &mut [u8; PAIRS],
     lo: &mut [u8; 32],
     w: Work,
     line: usize,
     x: usize,
     end: usize,
 ) -> Work
-    requires { ⌜ (w .n < 2112) × (w .next < 2111) × (line < 32) × (x < 32) × (end < 256) × Low (now ids) × (w .top < w .bottom) × (w .bottom ≤ 31) ⌝ }
+    requires { ⌜ (w .n < pairLimit) × (w .next < lastPair) × (line < 32) × (x < 32) × (end < 256) × Low (now ids) × (w .top < w .bottom)
+        × (w .bottom ≤ 31) ⌝ }
     ensures { λ r. ⌜ NoEnds (now (la .entry)) (now (lb .entry)) (now (ids .entry)) (now (half .entry)) (now (s1 .entry)) (now (s2 .entry))
         (now (d1 .entry)) (now (d2 .entry)) (now (lo .entry)) w line x end
         (now (la .exit)) (now (lb .exit)) (now (ids .exit)) (now (half .exit)) (now (s1 .exit)) (now (s2 .exit)) (now (d1 .exit)) (now (d2 .exit))

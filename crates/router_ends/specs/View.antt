@@ -6,6 +6,7 @@ use mathlib.Core.List.{List}
 use mathlib.Core.Logic.{_⊎_}
 use Prim.Native.Nat.{ℕ, _+_, _≤_, _<_}
 use lib.ListN.{getD}
+use Rattle.router_notes.specs.Limits.{pairLimit}
 use Rattle.router_invariant.specs.Run.{Run, lineR, colR, ulR}
 use Rattle.router_invariant.specs.Step.{Step, Stuck, FirstR, endR}
 use Rattle.router_ends.specs.declared.Work.{Work}
@@ -39,9 +40,9 @@ halted w = record { top = w .top; bottom = w .bottom; up = w .up; n = w .n; next
 abbrev pub counted : Work → ℕ → ℕ → Work
 counted w n next = record { top = w .top; bottom = w .bottom; up = w .up; n = n; next = next; stuck = false }
 
--- numbers are below 2112
+-- numbers are those of pairs
 abbrev pub Low : List ℕ → Type 0
-Low ids = (k : ℕ) → getD ids k 0 < 2112
+Low ids = (k : ℕ) → getD ids k 0 < pairLimit
 
 -- how far a step can bring the numbers
 abbrev pub Near : Work → Work → Type 0

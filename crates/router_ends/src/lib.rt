@@ -3,11 +3,14 @@ ghost use mathlib.Core.Path.{_≡_};
 ghost use mathlib.Core.Bool.{cond};
 ghost use Prim.Native.Nat.{_+_, _*_, _≤_, _<_};
 ghost use lib.ListN.{set};
+ghost use Rattle.router_notes.specs.Limits.{pairLimit, vertexLimit};
 ghost use Rattle.router_table.specs.Writes.{Moved};
 ghost use Rattle.router_invariant.specs.Run.{bulW};
 ghost use Rattle.router_invariant.specs.Ready.{upN};
 ghost use Rattle.router_ends.specs.View.{Low, Near, TwoEnds, OneDown, OneRight, halted, counted};
 use numbers::long;
+use router_notes::PAIRS;
+use router_notes::VERTICES;
 
 // Where the router stands: lines top to bottom as the shape is read, upside down where `up` holds; the count of live pairs, and the first number
 // that no pair has had. It is stuck only where the problem was not good.
@@ -51,14 +54,14 @@ pub fn counted(w: Work, n: usize, next: u16) -> Work
 // The word of the vertex in column x of a line.
 pub fn word(line: usize, x: usize) -> u16
     requires { ⌜ (line < 32) × (x < 32) ⌝ }
-    ensures { λ r. ⌜ (r ≡ line * 32 + x) × (r < 1024) ⌝ }
+    ensures { λ r. ⌜ (r ≡ line * 32 + x) × (r < vertexLimit) ⌝ }
 {
     (line * 32 + x) as u16
 }
 
 // The word of the vertex below, as the shape is read.
 pub fn below(v: u16, up: bool) -> u16
-    requires { ⌜ v < 1024 ⌝ }
+    requires { ⌜ v < vertexLimit ⌝ }
     ensures { λ r. ⌜ r ≡ bulW up v ⌝ }
 {
     if up {
@@ -90,17 +93,17 @@ pub fn shorten(lo: &mut [u8; 32], line: usize, x: usize)
 
 // The end of row i leaves the corner; s and v are noted there.
 fn slide(
-    la: &mut [u16; 2112],
-    lb: &mut [u16; 2112],
-    side: &mut [u16; 1024],
-    vert: &mut [u16; 1024],
+    la: &mut [u16; PAIRS],
+    lb: &mut [u16; PAIRS],
+    side: &mut [u16; VERTICES],
+    vert: &mut [u16; VERTICES],
     i: usize,
     from: u16,
     to: u16,
     s: u16,
     v: u16,
 )
-    requires { ⌜ (i < 2112) × (from < 1024) ⌝ }
+    requires { ⌜ (i < pairLimit) × (from < vertexLimit) ⌝ }
     ensures { λ _. ⌜ Moved (now (la .entry)) (now (lb .entry)) i from to (now (la .exit)) (now (lb .exit)) ⌝ }
     ensures { λ _. ⌜ (now (side .exit) ≡ set (now (side .entry)) from s) × (now (vert .exit) ≡ set (now (vert .entry)) from v) ⌝ }
 {
@@ -112,18 +115,18 @@ fn slide(
 
 // Two edges and an end at the corner, that of row i: there is a second one, and the two part.
 pub fn two_ends(
-    la: &mut [u16; 2112],
-    lb: &mut [u16; 2112],
-    ids: &[u16; 2112],
-    side: &mut [u16; 1024],
-    vert: &mut [u16; 1024],
+    la: &mut [u16; PAIRS],
+    lb: &mut [u16; PAIRS],
+    ids: &[u16; PAIRS],
+    side: &mut [u16; VERTICES],
+    vert: &mut [u16; VERTICES],
     lo: &mut [u8; 32],
     w: Work,
     i: usize,
     line: usize,
     x: usize,
 ) -> Work
-    requires { ⌜ (i < w .n) × (w .n < 2112) × (line < 32) × (x < 32) × Low (now ids) × (w .top ≤ 31) × (w .bottom ≤ 31) ⌝ }
+    requires { ⌜ (i < w .n) × (w .n < pairLimit) × (line < 32) × (x < 32) × Low (now ids) × (w .top ≤ 31) × (w .bottom ≤ 31) ⌝ }
     ensures { λ r. ⌜ TwoEnds (now (la .entry)) (now (lb .entry)) (now (ids .entry)) (now (side .entry)) (now (vert .entry))
         (now (lo .entry)) w i line x
         (now (la .exit)) (now (lb .exit)) (now (side .exit)) (now (vert .exit)) (now (lo .exit)) r ⌝ }
@@ -161,18 +164,18 @@ pub fn two_ends(
 
 // A corner without a right neighbour: the one pair that ends there, row i, goes down.
 pub fn go_down(
-    la: &mut [u16; 2112],
-    lb: &mut [u16; 2112],
-    ids: &[u16; 2112],
-    side: &mut [u16; 1024],
-    vert: &mut [u16; 1024],
+    la: &mut [u16; PAIRS],
+    lb: &mut [u16; PAIRS],
+    ids: &[u16; PAIRS],
+    side: &mut [u16; VERTICES],
+    vert: &mut [u16; VERTICES],
     w: Work,
     i: usize,
     line: usize,
     x: usize,
     end: usize,
 ) -> Work
-    requires { ⌜ (i ≤ w .n) × (w .n < 2112) × (line < 32) × (x < 32) × Low (now ids) × (w .top < w .bottom) × (w .bottom ≤ 31) ⌝ }
+    requires { ⌜ (i ≤ w .n) × (w .n < pairLimit) × (line < 32) × (x < 32) × Low (now ids) × (w .top < w .bottom) × (w .bottom ≤ 31) ⌝ }
     ensures { λ r. ⌜ OneDown (now (la .entry)) (now (lb .entry)) (now (ids .entry)) (now (side .entry)) (now (vert .entry)) w i line x end
         (now (la .exit)) (now (lb .exit)) (now (side .exit)) (now (vert .exit)) r ⌝ }
     ensures { λ r. ⌜ Near w r ⌝ }
@@ -200,11 +203,11 @@ pub fn go_down(
 
 // A single line: the one pair that ends at the corner, row i, goes right.
 pub fn go_right(
-    la: &mut [u16; 2112],
-    lb: &mut [u16; 2112],
-    ids: &[u16; 2112],
-    side: &mut [u16; 1024],
-    vert: &mut [u16; 1024],
+    la: &mut [u16; PAIRS],
+    lb: &mut [u16; PAIRS],
+    ids: &[u16; PAIRS],
+    side: &mut [u16; VERTICES],
+    vert: &mut [u16; VERTICES],
     lo: &mut [u8; 32],
     w: Work,
     i: usize,
@@ -212,7 +215,7 @@ pub fn go_right(
     x: usize,
     end: usize,
 ) -> Work
-    requires { ⌜ (i ≤ w .n) × (w .n < 2112) × (line < 32) × (x < 32) × Low (now ids) × (w .top ≤ 31) × (w .bottom ≤ 31) ⌝ }
+    requires { ⌜ (i ≤ w .n) × (w .n < pairLimit) × (line < 32) × (x < 32) × Low (now ids) × (w .top ≤ 31) × (w .bottom ≤ 31) ⌝ }
     ensures { λ r. ⌜ OneRight (now (la .entry)) (now (lb .entry)) (now (ids .entry)) (now (side .entry)) (now (vert .entry))
         (now (lo .entry)) w i line x end
         (now (la .exit)) (now (lb .exit)) (now (side .exit)) (now (vert .exit)) (now (lo .exit)) r ⌝ }

@@ -12,6 +12,7 @@ use Rattle.net.specs.Terminals.{same}
 use Rattle.corner.specs.Pairs.{standing}
 use Rattle.corner.specs.Shape.{Shape, UL, NUL, BUL, Full, Roomy, topCut, leftCut}
 use Rattle.corner.specs.TopLine.{full-top, full-below}
+use Rattle.router_notes.specs.Limits.{pairLimit, lastPair}
 use Rattle.router_notes.specs.Notes.{Item, item}
 use Rattle.router_notes.specs.Goods.{nul-table}
 use Rattle.router_notes.specs.Corner.{turn-twice}
@@ -22,8 +23,10 @@ use Rattle.router_notes.specs.State.{State, room}
 use Rattle.router_table.specs.Scans.{First}
 use Rattle.router_invariant.specs.Run.{Run, shapeR, rowR, pairsR, Holds, nulR, bulR}
 use Rattle.router_invariant.specs.Place.{nul-is, bul-is}
-use Rattle.router_invariant.specs.Ready.{Ready, shaped, nul-low, bul-low}
-use Rattle.router_invariant.specs.Divide.{divideRun, halved, half-one, half-two, rest-kept, divide-holds}
+use Rattle.router_invariant.specs.Ready.{Ready}
+use Rattle.router_invariant.specs.ReadyLaws.{shaped, nul-low, bul-low}
+use Rattle.router_invariant.specs.Divide.{divideRun}
+use Rattle.router_invariant.specs.DivideLaws.{halved, half-one, half-two, rest-kept, divide-holds}
 use Rattle.router_invariant.specs.Ends.{standing-clear}
 
 module _ (s0 : State) (R : Run) (Q : Ready s0 R) (wide : shapeR R .a (R .top) < shapeR R .b (R .top)) (deep : R .top < R .bottom)
@@ -44,7 +47,7 @@ module _ (s0 : State) (R : Run) (Q : Ready s0 R) (wide : shapeR R .a (R .top) < 
     ))
   ]
 
-  module _ (i : ℕ) (li : i < R .n) (few : R .n < 2112) (room : R .next < 2111) (roomy : Roomy T (pairsR R) (leftCut T)) where
+  module _ (i : ℕ) (li : i < R .n) (few : R .n < pairLimit) (room : R .next < lastPair) (roomy : Roomy T (pairsR R) (leftCut T)) where
     -- the other end is below the top line
     below : (q : Vertex) → Has (turnI o (rowR R i)) (NUL T) q → R .top < q .line
     below q h = let k = take-item (R .n) (λ j. turnI o (rowR R j)) i li (NUL T) q h in

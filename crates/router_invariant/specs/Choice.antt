@@ -27,7 +27,8 @@ use Rattle.router_notes.specs.State.{State}
 use Rattle.router_table.specs.Scans.{seenD, swapD}
 use Rattle.router_invariant.specs.Run.{Run, shapeR, rowR, lineR, ulR}
 use Rattle.router_invariant.specs.Place.{vtx-same, turn-at, last-is, ul-is}
-use Rattle.router_invariant.specs.Ready.{Ready, shaped, top-low}
+use Rattle.router_invariant.specs.Ready.{Ready}
+use Rattle.router_invariant.specs.ReadyLaws.{shaped, top-low}
 use Rattle.router_invariant.specs.TwoEnds.{Chosen}
 use Rattle.router_invariant.specs.Ends.{ends-differ}
 

@@ -15,6 +15,7 @@ use Rattle.board.specs.declared.Vertex.{Vertex}
 use Rattle.net.specs.Terminals.{same}
 use Rattle.cut.specs.Cut.{side}
 use Rattle.net.specs.Same.{same-true}
+use Rattle.router_notes.specs.Limits.{vertexLimit}
 use Rattle.router_notes.specs.Notes.{stay}
 use Rattle.router_notes.specs.Arrays.{hopAt, hopD, hopOf}
 
@@ -55,7 +56,8 @@ hop-none s v k n m o = rw (ne-eqb s (k + 1) n, ne-eqb v (2 * k + 2) m, ne-eqb v 
 same-word : (u v : Vertex) → u .column < 32 → v .column < 32 → u .line * 32 + u .column ≡ v .line * 32 + v .column → same u v ≡ true
 same-word u v a b e = and-yes _ _ (eq-eqb (u .line) (v .line) (omega arith)) (eq-eqb (u .column) (v .column) (omega arith))
 
-module _ (side vert : List ℕ) (u : Vertex) (line : u .line < 32) (column : u .column < 32) (ls : length side ≡ 1024) (lv : length vert ≡ 1024)
+module _ (side vert : List ℕ) (u : Vertex) (line : u .line < 32) (column : u .column < 32) (ls : length side ≡ vertexLimit)
+    (lv : length vert ≡ vertexLimit)
     (s v : ℕ) where
   abbrev word : ℕ
   word = u .line * 32 + u .column

@@ -26,7 +26,8 @@ use Rattle.router_notes.specs.State.{State}
 use Rattle.router_table.specs.Scans.{crossD, leaveD, seenD}
 use Rattle.router_invariant.specs.Run.{Run, shapeR, rowR, pairsR, lineR}
 use Rattle.router_invariant.specs.Place.{turn-at, last-is}
-use Rattle.router_invariant.specs.Ready.{Ready, shaped, top-low}
+use Rattle.router_invariant.specs.Ready.{Ready}
+use Rattle.router_invariant.specs.ReadyLaws.{shaped, top-low}
 
 module _ (s0 : State) (R : Run) (Q : Ready s0 R) (wide : shapeR R .a (R .top) < shapeR R .b (R .top)) (deep : R .top < R .bottom) where
   abbrev o : Bool

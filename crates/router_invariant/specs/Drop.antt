@@ -16,6 +16,7 @@ use Rattle.corner.specs.Taking.{all-take}
 use Rattle.corner.specs.Shape.{Here, size, last}
 use Rattle.corner.specs.Presence.{present-yes}
 use Rattle.corner.specs.Trails.{lo, hi}
+use Rattle.router_notes.specs.Limits.{pairLimit}
 use Rattle.router_notes.specs.Inv.{turn, turnI}
 use Rattle.router_notes.specs.Arrays.{vtx, leftOf}
 use Rattle.router_notes.specs.Table.{take-item}
@@ -44,7 +45,7 @@ dropRun R i m = record {
   up = R .up;
 }
 
-module _ (s0 : State) (R : Run) (H : Holds s0 R) (Z : Sized R) (i m : ℕ) (size : R .n ≡ suc m) (low : i ≤ m) (few : R .n ≤ 2112) where
+module _ (s0 : State) (R : Run) (H : Holds s0 R) (Z : Sized R) (i m : ℕ) (size : R .n ≡ suc m) (low : i ≤ m) (few : R .n ≤ pairLimit) where
   others : (j : ℕ) → j < m → (j ≡ i → ⊥) → rowR (dropRun R i m) j ≡ rowR R j
   others j l n = rw (
     getD-set-other (R .la) i j (getD (R .la) m 0) 0 n,

@@ -31,7 +31,8 @@ use Rattle.router_notes.specs.State.{State}
 use Rattle.router_table.specs.Scans.{Clear, First}
 use Rattle.router_invariant.specs.Run.{Run, shapeR, rowR, pairsR, ulR}
 use Rattle.router_invariant.specs.Place.{vtx-same, ul-is}
-use Rattle.router_invariant.specs.Ready.{Ready, shaped, top-low}
+use Rattle.router_invariant.specs.Ready.{Ready}
+use Rattle.router_invariant.specs.ReadyLaws.{shaped, top-low}
 
 sum-only : (n i : ℕ) (f : ℕ → ℕ) → i < n → ((k : ℕ) → k < n → (k ≡ i → ⊥) → f k ≡ 0) → sum n f ≡ f i
 unfolding sum

@@ -10,6 +10,7 @@ use lib.Seq.{getD-set-same, getD-set-other}
 use borrow.Author.Tests.{eq-eqb, ne-eqb, lt-ltb}
 use Rattle.count.specs.Bits.{eq-case}
 use Rattle.cut.specs.Cut.{side}
+use Rattle.router_notes.specs.Limits.{lastPair}
 use Rattle.router_notes.specs.Notes.{finish, item, parted}
 use Rattle.router_notes.specs.Arrays.{vtx, moveD, partD}
 use Rattle.router_invariant.specs.Run.{Halves, Directed}
@@ -59,14 +60,14 @@ module _ (side vert half s1 s2 d1 d2 : List ℕ) (k0 next a1 b1 a2 b2 x y : ℕ)
     )
   ]
 
-  pub part-here : k0 < length half → k0 < length d1 → k0 < length d2 → next + 1 < length s1 → next + 1 < length s2 → 0 < next → next < 2111
+  pub part-here : k0 < length half → k0 < length d1 → k0 < length d2 → next + 1 < length s1 → next + 1 < length s2 → 0 < next → next < lastPair
       → partD side vert half' s1' s2' d1' d2' k0 ≡ parted (item next (vtx a1) (vtx b1)) (moveD x (vtx b1)) (moveD y (finish (moveD x (vtx b1))))
       (item (next + 1) (vtx a2) (vtx b2))
   unfolding partD
   part-here lh l1 l2 ls1 ls2 pos few = rw (
     getD-set-same half k0 next 0 lh,
     ne-eqb next 0 (λ e. omega arith),
-    lt-ltb next 2111 few,
+    lt-ltb next lastPair few,
     getD-set-same d1 k0 x 0 l1,
     getD-set-same d2 k0 y 0 l2,
     first s1 a1 a2 (omega arith),

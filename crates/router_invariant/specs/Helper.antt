@@ -16,6 +16,7 @@ use Rattle.corner.specs.Pairs.{standing}
 use Rattle.corner.specs.Shape.{Shape, last, UL, NUL, BUL, narrow, Roomy, topCut, leftCut}
 use Rattle.corner.specs.Delete.{narrow-less}
 use Rattle.corner.specs.Trails.{lo, hi}
+use Rattle.router_notes.specs.Limits.{pairLimit}
 use Rattle.router_notes.specs.Notes.{Item, item}
 use Rattle.router_notes.specs.Goods.{helper-table}
 use Rattle.router_notes.specs.Corner.{turn-twice, turn-low}
@@ -27,7 +28,8 @@ use Rattle.router_notes.specs.Steps.{helper-inv}
 use Rattle.router_invariant.specs.Run.{Run, shapeR, rowR, stateR, pairsR, Holds, lineR, colR, nulR, bulR}
 use Rattle.router_invariant.specs.Place.{nul-is, bul-is}
 use Rattle.router_invariant.specs.Shapes.{shuts-of, inv-narrow}
-use Rattle.router_invariant.specs.Ready.{Ready, shaped, top-low, nul-low, bul-low}
+use Rattle.router_invariant.specs.Ready.{Ready}
+use Rattle.router_invariant.specs.ReadyLaws.{shaped, top-low, nul-low, bul-low}
 
 abbrev pub helperRun : Run → Run
 helperRun R = record {
@@ -50,7 +52,7 @@ helperRun R = record {
   up = R .up;
 }
 
-module _ (s0 : State) (R : Run) (Q : Ready s0 R) (few : R .n < 2112) where
+module _ (s0 : State) (R : Run) (Q : Ready s0 R) (few : R .n < pairLimit) where
   abbrev o : Bool
   o = R .up
 

@@ -4,11 +4,13 @@ pub mod CornerNotes
 pub mod Shapes
 pub mod Rows
 pub mod Ready
+pub mod ReadyLaws
 pub mod OneEdge
 pub mod TwoEnds
 pub mod Helper
 pub mod Halving
 pub mod Divide
+pub mod DivideLaws
 pub mod Drop
 pub mod Ends
 pub mod Choice

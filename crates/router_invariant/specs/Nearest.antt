@@ -17,6 +17,7 @@ use Rattle.net.specs.Terminals.{same}
 use Rattle.corner.specs.Pairs.{standing, apart, hits, across, NoHigher}
 use Rattle.corner.specs.Shape.{Shape, last, UL, NUL, BUL, Full, leftCut}
 use Rattle.corner.specs.Across.{no-higher}
+use Rattle.router_notes.specs.Limits.{pairLimit, lastPair}
 use Rattle.router_notes.specs.Notes.{Item, item}
 use Rattle.router_notes.specs.Goods.{least-table}
 use Rattle.router_notes.specs.Corner.{turn-twice}
@@ -27,8 +28,10 @@ use Rattle.router_notes.specs.State.{State, room}
 use Rattle.router_table.specs.Scans.{crossD, seenD, depthD, depthAt, Least}
 use Rattle.router_invariant.specs.Run.{Run, shapeR, rowR, pairsR, Holds, nulR, bulR}
 use Rattle.router_invariant.specs.Place.{seen-turn, turn-at, last-is, nul-is, bul-is}
-use Rattle.router_invariant.specs.Ready.{Ready, shaped, nul-low, bul-low}
-use Rattle.router_invariant.specs.Divide.{divideRun, halved, half-one, half-two, rest-kept, divide-holds}
+use Rattle.router_invariant.specs.Ready.{Ready}
+use Rattle.router_invariant.specs.ReadyLaws.{shaped, nul-low, bul-low}
+use Rattle.router_invariant.specs.Divide.{divideRun}
+use Rattle.router_invariant.specs.DivideLaws.{halved, half-one, half-two, rest-kept, divide-holds}
 
 depth-cross : (a b x : ℕ) (o : Bool) → depthD a b x o < 32
     → ((a % 32 ≤ x) × (x < b % 32) × (depthD a b x o ≡ seenD o (b / 32))) ⊎ ((x < a % 32) × (b % 32 ≤ x) × (depthD a b x o ≡ seenD o (a / 32)))
@@ -121,7 +124,7 @@ module _ (s0 : State) (R : Run) (Q : Ready s0 R) (wide : shapeR R .a (R .top) < 
           ]
         ]
 
-    module _ (li : i < R .n) (few : R .n < 2112) (room : R .next < 2111) where
+    module _ (li : i < R .n) (few : R .n < pairLimit) (room : R .next < lastPair) where
       higher : (m : ℕ) → m ≡ depthAt (R .la) (R .lb) x o i → (r : ℕ) → r < m → hits (across x r) (pairsR R) ≡ 0
       higher m e = no-higher x m (pairsR R) (none-higher (R .la) (R .lb) (R .ids) o x m (R .n) (λ k l. omega (arith, L .lowest li k l)))
 

@@ -13,6 +13,7 @@ use Rattle.cut.specs.Cut.{side}
 use Rattle.corner.specs.Shape.{Shape, Good, Less, last, UL, NUL, BUL, narrow, lower}
 use Rattle.corner.specs.Delete.{narrow-less, lower-less}
 use Rattle.corner.specs.Trails.{lo, hi}
+use Rattle.router_notes.specs.Limits.{pairLimit}
 use Rattle.router_notes.specs.Notes.{Move, start, finish, Item, on}
 use Rattle.router_notes.specs.Goods.{right-table, down-table}
 use Rattle.router_notes.specs.Corner.{turn-low, across-start, across-finish, down-start, down-finish, moved-has}
@@ -27,20 +28,8 @@ use Rattle.router_invariant.specs.Place.{ul-is, nul-is, bul-is}
 use Rattle.router_invariant.specs.CornerNotes.{hop-right, hop-none}
 use Rattle.router_invariant.specs.Shapes.{shuts-of, inv-narrow, inv-lower}
 use Rattle.router_invariant.specs.Rows.{row-moved, row-kept, frame-moved}
-use Rattle.router_invariant.specs.Ready.{
-  Ready,
-  hop-across,
-  upN,
-  hop-along,
-  shaped,
-  top-low,
-  noted,
-  at-corner-go,
-  nul-low,
-  nul-left,
-  bul-low,
-  bul-left,
-}
+use Rattle.router_invariant.specs.Ready.{Ready, upN}
+use Rattle.router_invariant.specs.ReadyLaws.{hop-across, hop-along, shaped, top-low, noted, at-corner-go, nul-low, nul-left, bul-low, bul-left}
 
 abbrev pub rightRun : Run → ℕ → Run
 rightRun R i = record {
@@ -84,7 +73,7 @@ downRun R i = record {
   up = R .up;
 }
 
-module _ (s0 : State) (R : Run) (Q : Ready s0 R) (i : ℕ) (li : i < R .n) (few : R .n ≤ 2112)
+module _ (s0 : State) (R : Run) (Q : Ready s0 R) (i : ℕ) (li : i < R .n) (few : R .n ≤ pairLimit)
     (ends : (getD (R .la) i 0 ≡ ulR R) ⊎ (getD (R .lb) i 0 ≡ ulR R)) where
   abbrev o : Bool
   o = R .up

@@ -10,6 +10,7 @@ use Rattle.board.specs.Board.{at}
 use Rattle.board.specs.declared.Vertex.{Vertex}
 use Rattle.corner.specs.Shape.{Shape, Shaped, last, UL, NUL, BUL}
 use Rattle.corner.specs.Presence.{last-suc}
+use Rattle.router_notes.specs.Limits.{vertexLimit}
 use Rattle.router_notes.specs.Inv.{turn}
 use Rattle.router_notes.specs.Alike.{turnL}
 use Rattle.router_notes.specs.Arrays.{vtx}
@@ -62,7 +63,7 @@ module _ (R : Run) (G : Shaped (shapeR R)) where
   pub ul-is : vtx (ulR R) ≡ turn (R .up) (UL (shapeR R))
   ul-is = vtx-at (lineR R) (colR R) low-col ∙ ap₂ at (seen-turn (R .up) (R .top)) col-is ∙ sym (turn-at (R .up) (R .top) _)
 
-  pub low-ul : ulR R < 1024
+  pub low-ul : ulR R < vertexLimit
   low-ul = omega (arith, low-line, low-col)
 
   pub nul-is : S .a (S .top) < S .b (S .top) → vtx (nulR R) ≡ turn (R .up) (NUL (shapeR R))

@@ -12,6 +12,7 @@ use Rattle.net.specs.declared.Pair.{Pair}
 use Rattle.cut.specs.Cut.{side}
 use Rattle.corner.specs.Shape.{Shape}
 use Rattle.corner.specs.Trails.{lo, hi}
+use Rattle.router_notes.specs.Limits.{pairLimit, vertexLimit}
 use Rattle.router_notes.specs.Notes.{Item, Notes}
 use Rattle.router_notes.specs.Inv.{turnI, Inv}
 use Rattle.router_notes.specs.Alike.{shapeOf}
@@ -56,16 +57,16 @@ abbrev pub pairsR : Run → List Pair
 pairsR R = pairsOf (R .n) (λ k. turnI (R .up) (rowR R k))
 
 pub record Sized (R : Run) : Type 0 where
-  pub la : length (R .la) ≡ 2112
-  pub lb : length (R .lb) ≡ 2112
-  pub ids : length (R .ids) ≡ 2112
-  pub side : length (R .side) ≡ 1024
-  pub vert : length (R .vert) ≡ 1024
-  pub half : length (R .half) ≡ 2112
-  pub s1 : length (R .s1) ≡ 2112
-  pub s2 : length (R .s2) ≡ 2112
-  pub d1 : length (R .d1) ≡ 2112
-  pub d2 : length (R .d2) ≡ 2112
+  pub la : length (R .la) ≡ pairLimit
+  pub lb : length (R .lb) ≡ pairLimit
+  pub ids : length (R .ids) ≡ pairLimit
+  pub side : length (R .side) ≡ vertexLimit
+  pub vert : length (R .vert) ≡ vertexLimit
+  pub half : length (R .half) ≡ pairLimit
+  pub s1 : length (R .s1) ≡ pairLimit
+  pub s2 : length (R .s2) ≡ pairLimit
+  pub d1 : length (R .d1) ≡ pairLimit
+  pub d2 : length (R .d2) ≡ pairLimit
   pub lo : length (R .lo) ≡ 32
   pub hi : length (R .hi) ≡ 32
 

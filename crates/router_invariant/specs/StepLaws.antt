@@ -9,11 +9,13 @@ use lib.ListN.{getD}
 use Rattle.net.specs.Terminals.{same}
 use Rattle.corner.specs.Pairs.{standing}
 use Rattle.corner.specs.Shape.{Shape, Shaped, UL, Full, Roomy, topCut, leftCut}
+use Rattle.router_notes.specs.Limits.{pairLimit, lastPair}
 use Rattle.router_notes.specs.State.{State, room}
 use Rattle.router_table.specs.Scans.{crossD, Least, swapD}
 use Rattle.router_invariant.specs.Run.{Run, shapeR, pairsR, Sized, Holds, lineR, colR, ulR}
 use Rattle.router_invariant.specs.Place.{seen-turn, col-is, ul-is}
-use Rattle.router_invariant.specs.Ready.{Ready, shaped, top-low}
+use Rattle.router_invariant.specs.Ready.{Ready}
+use Rattle.router_invariant.specs.ReadyLaws.{shaped, top-low}
 use Rattle.router_invariant.specs.OneEdge.{rightRun, downRun, right-holds, down-holds}
 use Rattle.router_invariant.specs.TwoEnds.{splitRun, split-holds}
 use Rattle.router_invariant.specs.Helper.{helperRun, helper-holds}
@@ -47,7 +49,7 @@ use Rattle.router_invariant.specs.Step.{
 use Rattle.router_invariant.specs.Sizes.{sized-right, sized-down, sized-split, sized-helper, sized-divide}
 use Rattle.router_invariant.specs.Nearest.{least-found, least-first, least-second}
 
-module _ (s0 : State) (R : Run) (Q : Ready s0 R) (few : R .n < 2112) (room : R .next < 2111) where
+module _ (s0 : State) (R : Run) (Q : Ready s0 R) (few : R .n < pairLimit) (room : R .next < lastPair) where
   abbrev T : Shape
   T = shapeR R
 

@@ -16,6 +16,7 @@ use Rattle.cut.specs.Cut.{side}
 use Rattle.corner.specs.Pairs.{standing}
 use Rattle.corner.specs.Shape.{Shape, UL, narrow}
 use Rattle.corner.specs.Trails.{lo, hi}
+use Rattle.router_notes.specs.Limits.{pairLimit}
 use Rattle.router_notes.specs.Notes.{Moved}
 use Rattle.router_notes.specs.Split.{split-inv}
 use Rattle.router_notes.specs.Corner.{across-start, across-finish, down-start, down-finish}
@@ -29,7 +30,8 @@ use Rattle.router_invariant.specs.Place.{ul-is, nul-is, bul-is}
 use Rattle.router_invariant.specs.CornerNotes.{hop-right, hop-none}
 use Rattle.router_invariant.specs.Shapes.{shuts-of, inv-narrow}
 use Rattle.router_invariant.specs.Rows.{row-moved, row-kept, length-moved, moved-other}
-use Rattle.router_invariant.specs.Ready.{Ready, hop-across, upN, hop-along, shaped, noted, at-corner-go, bul-low}
+use Rattle.router_invariant.specs.Ready.{Ready, upN}
+use Rattle.router_invariant.specs.ReadyLaws.{hop-across, hop-along, shaped, noted, at-corner-go, bul-low}
 
 abbrev pub splitRun : Run → ℕ → ℕ → Run
 splitRun R i j = record {
@@ -56,7 +58,7 @@ splitRun R i j = record {
 abbrev pub Chosen : Shape → Vertex → Vertex → Type 0
 Chosen S f g = (g .line ≤ S .top → f .line ≤ S .top) × (f .column ≤ S .a (S .top) → g .column ≤ S .a (S .top))
 
-module _ (s0 : State) (R : Run) (Q : Ready s0 R) (i j : ℕ) (li : i < R .n) (lj : j < R .n) (ne : i ≡ j → ⊥) (few : R .n ≤ 2112)
+module _ (s0 : State) (R : Run) (Q : Ready s0 R) (i j : ℕ) (li : i < R .n) (lj : j < R .n) (ne : i ≡ j → ⊥) (few : R .n ≤ pairLimit)
     (at-i : (getD (R .la) i 0 ≡ ulR R) ⊎ (getD (R .lb) i 0 ≡ ulR R)) (at-j : (getD (R .la) j 0 ≡ ulR R) ⊎ (getD (R .lb) j 0 ≡ ulR R)) where
   abbrev o : Bool
   o = R .up

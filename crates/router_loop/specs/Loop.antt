@@ -9,11 +9,13 @@ use native.Mathlib.Omega.{arith}
 use lib.ListN.{length, getD}
 use Rattle.count.specs.Truth.{clash}
 use Rattle.corner.specs.Shape.{vertices, Top}
+use Rattle.router_notes.specs.Limits.{pairLimit, lastPair, vertexLimit}
 use Rattle.router_notes.specs.State.{State}
 use Rattle.router_table.specs.Scans.{seenD}
 use Rattle.router_invariant.specs.Run.{Run, Holds, Sized, shapeR, colR}
 use Rattle.router_invariant.specs.Place.{seen-turn, low-col}
-use Rattle.router_invariant.specs.Ready.{Ready, shaped}
+use Rattle.router_invariant.specs.Ready.{Ready}
+use Rattle.router_invariant.specs.ReadyLaws.{shaped}
 use Rattle.router_invariant.specs.Turned.{turnRun, turn-holds, top-stays, top-turns}
 use Rattle.router_invariant.specs.Step.{Step, Stuck}
 use Rattle.router_invariant.specs.StepLaws.{step-holds, never-stuck}
@@ -65,7 +67,7 @@ module _ (lo hi : List ℕ) (w : Work) (t b p q u v : ℕ) (et : t ≡ seenD (w 
   )
 
 -- ── one pass: R was tidied to R1, turned to R2 and stepped to R3 ──
-pub ended : (R0 R R3 : Run) (t : ℕ) → After R0 R t → 1024 ≤ t → (s0 : State) → Holds s0 R0 → Sized R0 → ⊥
+pub ended : (R0 R R3 : Run) (t : ℕ) → After R0 R t → vertexLimit ≤ t → (s0 : State) → Holds s0 R0 → Sized R0 → ⊥
 ended R0 R R3 t A l s0 H Z = let k = A s0 H Z in omega (arith, k .2, vertices-some (shapeR R) (k .0 .inv .good .shaped))
 
 sized-work : (la lb ids side vert half s1 s2 d1 d2 lo hi : List ℕ) (w v : Work) → Sized (run la lb ids side vert half s1 s2 d1 d2 lo hi w)
@@ -100,12 +102,12 @@ module _ (R0 : Run) (la lb ids side vert half s1 s2 d1 d2 lo hi : List ℕ) (w :
       → (_≡_ {A = Bool} true true) × (v : Work) × (v .n ≡ 0) × Holds s0 (run la1 lb1 ids1 side vert half s1 s2 d1 d2 lo hi v)
   all-done z s0 H Z = (refl, fresh, z, tidied s0 H Z .0)
 
-  module _ (v : Work) (U : Turned lo hi fresh v) (en : v .n ≡ n) (some : 0 < n) (few : v .n < 2112) (room : v .next < 2111) (R3 : Run) (b : Bool)
-      (S : colR (run la1 lb1 ids1 side vert half s1 s2 d1 d2 lo hi v) < 32 → Went (run la1 lb1 ids1 side vert half s1 s2 d1 d2 lo hi v) R3 b) where
+  module _ (v : Work) (U : Turned lo hi fresh v) (en : v .n ≡ n) (some : 0 < n) (few : v .n < pairLimit) (room : v .next < lastPair) (R3 : Run)
+      (b : Bool) (S : colR (run la1 lb1 ids1 side vert half s1 s2 d1 d2 lo hi v) < 32 → Went (run la1 lb1 ids1 side vert half s1 s2 d1 d2 lo hi v) R3 b) where
     abbrev R2 : Run
     R2 = run la1 lb1 ids1 side vert half s1 s2 d1 d2 lo hi v
 
-    pub pass : (s0 : State) → Holds s0 R0 → Sized R0 → (b ≡ false) × Holds s0 R3 × Sized R3 × (vertices (shapeR R3) + (t + 1) ≤ 1024)
+    pub pass : (s0 : State) → Holds s0 R0 → Sized R0 → (b ≡ false) × Holds s0 R3 × Sized R3 × (vertices (shapeR R3) + (t + 1) ≤ vertexLimit)
     pass s0 H Z =
         let g = tidied s0 H Z in
         let u = U la1 lb1 ids1 side vert half s1 s2 d1 d2 s0 (g .0) in

@@ -5,6 +5,7 @@ use mathlib.Core.Bool.{Bool, true}
 use mathlib.Core.List.{List}
 use Prim.Native.Nat.{ℕ, _+_, _*_, _≤_, _<_}
 use Rattle.corner.specs.Shape.{vertices, Top}
+use Rattle.router_notes.specs.Limits.{vertexLimit}
 use Rattle.router_notes.specs.State.{State}
 use Rattle.router_invariant.specs.Run.{Run, Holds, Sized, shapeR}
 use Rattle.router_ends.specs.declared.Work.{Work}
@@ -28,4 +29,4 @@ CutAll la lb ids side vert half s1 s2 d1 d2 lo hi w la' lb' ids' side' vert' hal
 
 -- what the loop knows after t steps
 abbrev pub After : (R0 R : Run) (t : ℕ) → Type 0
-After R0 R t = (s0 : State) → Holds s0 R0 → Sized R0 → Holds s0 R × Sized R × (vertices (shapeR R) + t ≤ 1024)
+After R0 R t = (s0 : State) → Holds s0 R0 → Sized R0 → Holds s0 R × Sized R × (vertices (shapeR R) + t ≤ vertexLimit)

@@ -7,6 +7,8 @@ ghost use Rattle.router_ends.specs.View.{Low};
 ghost use Rattle.router_loop.specs.Promise.{Turned, CutAll, Kept};
 use numbers::wide;
 use router_ends::Work;
+use router_notes::PAIRS;
+use router_notes::VERTICES;
 
 // The shape read upside down, if the bottom line is narrower than the top line.
 fn turned(lo: &[u8; 32], hi: &[u8; 32], w: Work) -> Work
@@ -31,16 +33,16 @@ fn turned(lo: &[u8; 32], hi: &[u8; 32], w: Work) -> Work
 
 // Corner after corner until no pair is live.
 pub fn cut_all(
-    la: &mut [u16; 2112],
-    lb: &mut [u16; 2112],
-    ids: &mut [u16; 2112],
-    side: &mut [u16; 1024],
-    vert: &mut [u16; 1024],
-    half: &mut [u16; 2112],
-    s1: &mut [u16; 2112],
-    s2: &mut [u16; 2112],
-    d1: &mut [u8; 2112],
-    d2: &mut [u8; 2112],
+    la: &mut [u16; PAIRS],
+    lb: &mut [u16; PAIRS],
+    ids: &mut [u16; PAIRS],
+    side: &mut [u16; VERTICES],
+    vert: &mut [u16; VERTICES],
+    half: &mut [u16; PAIRS],
+    s1: &mut [u16; PAIRS],
+    s2: &mut [u16; PAIRS],
+    d1: &mut [u8; PAIRS],
+    d2: &mut [u8; PAIRS],
     lo: &mut [u8; 32],
     hi: &[u8; 32],
     start: Work,
@@ -53,7 +55,7 @@ pub fn cut_all(
 {
     let mut w = start;
     let mut t: usize = 0;
-    while t < 1024 {
+    while t < VERTICES {
         let n = router_tidy::tidy(la, lb, ids, w.n);
         if n == 0 {
             return true;

@@ -12,6 +12,7 @@ use Rattle.board.specs.Board.{at}
 use Rattle.board.specs.declared.Vertex.{Vertex}
 use Rattle.corner.specs.Shape.{Shape, present, last}
 use Rattle.corner.specs.Trails.{hor, ver}
+use Rattle.router_notes.specs.Limits.{lastPair}
 use Rattle.router_notes.specs.Notes.{Move, finish, Item, item, Hop, Part, Notes, fwd, bwd, stay, on, whole, parted}
 use Rattle.router_notes.specs.State.{State}
 use Rattle.router_notes.specs.Inv.{turn}
@@ -44,7 +45,7 @@ module _ (side vert half s1 s2 d1 d2 : List ℕ) where
 
   -- (a first half above 2110 would leave no place for the second, and is none)
   unfoldable pub partD : ℕ → Part
-  partD k = cond (eqb (getD half k 0) 0) whole (cond (ltb (getD half k 0) 2111)
+  partD k = cond (eqb (getD half k 0) 0) whole (cond (ltb (getD half k 0) lastPair)
       (parted (born (getD half k 0)) (moveD (getD d1 k 0) (born (getD half k 0) .b))
       (moveD (getD d2 k 0) (finish (moveD (getD d1 k 0) (born (getD half k 0) .b)))) (born (getD half k 0 + 1)))
       whole)

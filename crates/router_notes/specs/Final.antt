@@ -12,6 +12,7 @@ use Rattle.count.specs.Sums.{sum-get}
 use Rattle.board.specs.declared.Vertex.{Vertex}
 use Rattle.corner.specs.Shape.{Shape}
 use Rattle.corner.specs.Trails.{Routed as Routing, Link, lo, hi, sameLink, joined, Walk, used, Trails, total}
+use Rattle.router_notes.specs.Limits.{pathLimit}
 use Rattle.router_notes.specs.Notes.{Move, edge, Goes, uses, Item, Notes, Routed, fwd, bwd}
 use Rattle.router_notes.specs.Table.{pairsOf}
 use Rattle.router_notes.specs.Frame.{InFrame, all-le, all-ones, length-all}
@@ -43,7 +44,7 @@ routing-of N B n it S R h = let t = trails-of n it (R .ms) (R .goes) in record {
 
 -- ── length ──
 pub short : (N : Notes) (B : Link → ℕ) (n : ℕ) (it : ℕ → Item) (R : Routed N B n it) → ((e : Link) → B e ≤ 1) → ((e : Link) → 1 ≤ B e → InFrame e)
-    → (i : ℕ) → i < n → length (R .ms i) ≤ 2048
+    → (i : ℕ) → i < n → length (R .ms i) ≤ pathLimit
 short N B n it R b f i l =
     let u : (e : Link) → uses e (R .ms i) ≤ B e = λ e. omega (arith, R .bound e, sum-get n i (λ j. uses e (R .ms j)) l) in
     omega (

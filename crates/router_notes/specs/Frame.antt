@@ -11,6 +11,7 @@ use Rattle.count.specs.Sums.{sum-le, sum-add, sum-get, sum-const}
 use Rattle.corner.specs.Shape.{size}
 use Rattle.corner.specs.Trails.{Link, hor, ver, sameLink}
 use Rattle.corner.specs.TrailLaws.{link-self}
+use Rattle.router_notes.specs.Limits.{pathLimit}
 use Rattle.router_notes.specs.Notes.{Move, edge, uses}
 use Rattle.router_notes.specs.Moves.{uses-cons}
 
@@ -46,7 +47,7 @@ all-get f (ver l c) i =
     let b = sum-get size l (λ l. sum size (λ c. f (hor l c) + f (ver l c))) (i .0) in
     omega arith
 
-pub all-ones : all (λ e. 1) ≡ 2048
+pub all-ones : all (λ e. 1) ≡ pathLimit
 unfolding all both size
 all-ones = sum-eq 32 _ (λ l. 64) (λ l h. sum-const 32 2) ∙ sum-const 32 64
 

@@ -19,7 +19,7 @@ use Rattle.corner.specs.TrailLaws.{link-true}
 use Rattle.router_notes.specs.Notes.{Move, edge, start, finish, opp, Goes, uses, Item, Notes, Path, Routed, Moved, fwd, bwd, on, parted}
 use Rattle.router_notes.specs.Update.{upd, upd-same, upd-other}
 use Rattle.router_notes.specs.Moves.{start-opp, finish-opp, edge-opp}
-use Rattle.router_notes.specs.Lift.{weaken, lift-moved, lift-forget, lift-joint, lift-drop}
+use Rattle.router_notes.specs.Lift.{weaken, lift-moved, lift-fewer, lift-joint, lift-drop}
 use Rattle.router_notes.specs.State.{State, room, Live, Later, Routes, Leads, Fine, Closes}
 
 pub leads-refl : (s : State) → Leads s s
@@ -221,7 +221,7 @@ module _ (s s' : State) (u : Vertex) (K : Closes s s' u) where
   pub helper-leads : s' .n ≡ suc (s .n) → ((k : ℕ) → k < s .n → s' .it k ≡ s .it k) → Leads s s'
   helper-leads size others N l = (
     later-back N l,
-    λ r. let q = lift-forget N (room (s' .left)) (s .n) (s' .it) (subst (λ z. Routed N (room (s' .left)) z (s' .it)) size r) in record {
+    λ r. let q = lift-fewer N (room (s' .left)) (s .n) (s' .n) (s' .it) (omega arith) r in record {
       ms = q .ms;
       goes = λ k b. subst (λ x. Goes (x .a) (q .ms k) (x .b)) (others k b) (q .goes k b);
       reads = λ k b. subst (λ x. Path N x (q .ms k)) (others k b) (q .reads k b);

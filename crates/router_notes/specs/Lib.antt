@@ -1,3 +1,4 @@
+pub mod Limits
 pub mod Notes
 pub mod Moves
 pub mod Update

@@ -1,14 +1,14 @@
 -- A routing of the pairs after a step gives one of the pairs before it, read off the same notes: one end moved, a pair divided,
--- a pair added, a trivial pair dropped. Assumes what the notes say of the pair that changed.
+-- pairs added, a trivial pair dropped. Assumes what the notes say of the pair that changed.
 use mathlib.Core.Path.{_≡_, refl, ap, _∙_, sym, subst}
 use mathlib.Core.List.{List, [], _∷_, _++_, append-nil}
 use mathlib.Core.Logic.{inl, inr}
-use Prim.Native.Nat.{ℕ, suc, _+_, _-_, _≤_, _<_}
+use Prim.Native.Nat.{ℕ, zero, suc, _+_, _-_, _≤_, _<_}
 use native.Mathlib.Omega.{arith}
 use lib.Dec.{eqb}
-use Rattle.count.specs.Truth.{one}
+use Rattle.count.specs.Truth.{one, eq-or-ne}
 use Rattle.count.specs.Bits.{eq-case}
-use Rattle.count.specs.Sum.{sum-eq, sum-suc}
+use Rattle.count.specs.Sum.{sum, sum-eq, sum-suc}
 use Rattle.corner.specs.Trails.{Link, sameLink}
 use Rattle.router_notes.specs.Notes.{
   Move,
@@ -76,13 +76,20 @@ lift-moved N B n it it' i m low others (inr h) g R =
     (path-second N (it i .id) (it i .b) (it i .a) m (R .ms i) (rw (h .0) g) (subst (λ x. Path N x (R .ms i)) (h .1) (R .reads i low)))
     (λ e. omega (arith, uses-end e m (R .ms i)))
 
--- the last item is not asked for
-pub lift-forget : (N : Notes) (B : Link → ℕ) (n : ℕ) (it : ℕ → Item) → Routed N B (suc n) it → Routed N B n it
-lift-forget N B n it R = record {
+-- the last items are not asked for
+sum-fewer : (m n : ℕ) (f : ℕ → ℕ) → m ≤ n → sum m f ≤ sum n f
+sum-fewer m zero f h = let e : m ≡ 0 = omega arith in rw e (omega arith)
+sum-fewer m (suc n) f h = elim (eq-or-ne m (suc n)) [
+  | inl e ↦ rw e (omega arith)
+  | inr e ↦ omega (arith, sum-fewer m n f (omega (arith, e)), sum-suc n f)
+]
+
+pub lift-fewer : (N : Notes) (B : Link → ℕ) (m n : ℕ) (it : ℕ → Item) → m ≤ n → Routed N B n it → Routed N B m it
+lift-fewer N B m n it h R = record {
   ms = R .ms;
   goes = λ i l. R .goes i (omega arith);
   reads = λ i l. R .reads i (omega arith);
-  bound = λ e. omega (arith, R .bound e, sum-suc n (λ i. uses e (R .ms i)));
+  bound = λ e. omega (arith, R .bound e, sum-fewer m n (λ i. uses e (R .ms i)) h);
 }
 
 -- an item was divided: its first half stands in its place, the second is the last

@@ -5,7 +5,7 @@ ghost use lib.ListN.{length};
 ghost use Rattle.board.specs.View.{boardOf};
 ghost use Rattle.net.specs.View.{pairsOf};
 ghost use Rattle.router_start.specs.Lines.{Lined};
-ghost use Rattle.router_start.specs.Table.{wordOf, Clear, Row, Table, TakesIn};
+ghost use Rattle.router_start.specs.Table.{wordOf, Clear, Fills, Row, TakesIn};
 use board::Board;
 use board::Vertex;
 use net::Held;
@@ -14,6 +14,7 @@ use net::Place;
 use numbers::before_index;
 use numbers::least;
 use numbers::wide;
+use router_notes::PAIRS;
 
 fn smaller(a: u8, b: u8) -> u8
     ensures { λ r. ⌜ r ≡ min a b ⌝ }
@@ -31,7 +32,7 @@ fn larger(a: u8, b: u8) -> u8
 pub fn fill_lines(b: Board, lo: &mut [u8; 32], hi: &mut [u8; 32])
     requires { ⌜ (1 ≤ b .count) × (b .count ≤ 31) ⌝ }
     requires { ⌜ (length (now lo) ≡ 32) × (length (now hi) ≡ 32) ⌝ }
-    ensures { λ _. ⌜ Lined (boardOf b) (now (lo .exit)) (now (hi .exit)) (b .count + 1) ⌝ }
+    ensures { λ _. ⌜ Lined (boardOf b) (b .count + 1) (now (lo .entry)) (now (hi .entry)) (now (lo .exit)) (now (hi .exit)) ⌝ }
 {
     let rows = b.rows;
     let n = wide(b.count);
@@ -62,11 +63,11 @@ pub fn number_of(k: usize) -> u16
 fn fill_row(
     p: Pair,
     k: usize,
-    la: &mut [u16; 2112],
-    lb: &mut [u16; 2112],
-    ids: &mut [u16; 2112],
-    s1: &mut [u16; 2112],
-    s2: &mut [u16; 2112],
+    la: &mut [u16; PAIRS],
+    lb: &mut [u16; PAIRS],
+    ids: &mut [u16; PAIRS],
+    s1: &mut [u16; PAIRS],
+    s2: &mut [u16; PAIRS],
 )
     requires { ⌜ k < 64 ⌝ }
     ensures { λ _. ⌜ Row p k (now (la .entry)) (now (lb .entry)) (now (ids .entry)) (now (s1 .entry)) (now (s2 .entry)) (now (la .exit))
@@ -85,11 +86,11 @@ fn fill_row(
 fn fill_place(
     place: Place,
     k: usize,
-    la: &mut [u16; 2112],
-    lb: &mut [u16; 2112],
-    ids: &mut [u16; 2112],
-    s1: &mut [u16; 2112],
-    s2: &mut [u16; 2112],
+    la: &mut [u16; PAIRS],
+    lb: &mut [u16; PAIRS],
+    ids: &mut [u16; PAIRS],
+    s1: &mut [u16; PAIRS],
+    s2: &mut [u16; PAIRS],
 ) -> usize
     requires { ⌜ k < 64 ⌝ }
     ensures { λ r. ⌜ TakesIn (place .held) k (now (la .entry)) (now (lb .entry)) (now (ids .entry)) (now (s1 .entry)) (now (s2 .entry)) r
@@ -108,14 +109,15 @@ fn fill_place(
 // The table of the nets' pairs, in rising number; answers with their count.
 pub fn fill_table(
     nets: [Place; 64],
-    la: &mut [u16; 2112],
-    lb: &mut [u16; 2112],
-    ids: &mut [u16; 2112],
-    s1: &mut [u16; 2112],
-    s2: &mut [u16; 2112],
+    la: &mut [u16; PAIRS],
+    lb: &mut [u16; PAIRS],
+    ids: &mut [u16; PAIRS],
+    s1: &mut [u16; PAIRS],
+    s2: &mut [u16; PAIRS],
 ) -> usize
     requires { ⌜ Clear (now la) (now lb) (now ids) (now s1) (now s2) ⌝ }
-    ensures { λ r. ⌜ Table (pairsOf nets) r (now (la .exit)) (now (lb .exit)) (now (ids .exit)) (now (s1 .exit)) (now (s2 .exit)) ⌝ }
+    ensures { λ r. ⌜ Fills (pairsOf nets) r (now (la .entry)) (now (lb .entry)) (now (ids .entry)) (now (s1 .entry)) (now (s2 .entry))
+        (now (la .exit)) (now (lb .exit)) (now (ids .exit)) (now (s1 .exit)) (now (s2 .exit)) ⌝ }
     ensures { λ r. ⌜ r ≤ 64 ⌝ }
 {
     let mut k: usize = 0;

@@ -2,10 +2,13 @@
 ghost use mathlib.Core.Path.{_≡_};
 ghost use Prim.Native.Nat.{_%_, _≤_, _<_};
 ghost use lib.ListN.{getD};
+ghost use Rattle.router_notes.specs.Limits.{pairLimit, lastPair};
 ghost use Rattle.router_ends.specs.View.{Low, Near};
 ghost use Rattle.router_step.specs.Stepped.{Stepped};
 use numbers::wide;
 use router_ends::Work;
+use router_notes::PAIRS;
+use router_notes::VERTICES;
 
 // The column where a line starts; one of the frame in any case.
 fn start_of(lo: &[u8; 32], line: usize) -> usize
@@ -25,21 +28,21 @@ fn end_of(hi: &[u8; 32], line: usize) -> usize
 
 // The corner is cut off.
 pub fn step(
-    la: &mut [u16; 2112],
-    lb: &mut [u16; 2112],
-    ids: &mut [u16; 2112],
-    side: &mut [u16; 1024],
-    vert: &mut [u16; 1024],
-    half: &mut [u16; 2112],
-    s1: &mut [u16; 2112],
-    s2: &mut [u16; 2112],
-    d1: &mut [u8; 2112],
-    d2: &mut [u8; 2112],
+    la: &mut [u16; PAIRS],
+    lb: &mut [u16; PAIRS],
+    ids: &mut [u16; PAIRS],
+    side: &mut [u16; VERTICES],
+    vert: &mut [u16; VERTICES],
+    half: &mut [u16; PAIRS],
+    s1: &mut [u16; PAIRS],
+    s2: &mut [u16; PAIRS],
+    d1: &mut [u8; PAIRS],
+    d2: &mut [u8; PAIRS],
     lo: &mut [u8; 32],
     hi: &[u8; 32],
     w: Work,
 ) -> Work
-    requires { ⌜ (w .n < 2112) × (w .next < 2111) × Low (now ids) × (w .top ≤ 31) × (w .bottom ≤ 31) ⌝ }
+    requires { ⌜ (w .n < pairLimit) × (w .next < lastPair) × Low (now ids) × (w .top ≤ 31) × (w .bottom ≤ 31) ⌝ }
     ensures { λ r. ⌜ Stepped (now (la .entry)) (now (lb .entry)) (now (ids .entry)) (now (side .entry)) (now (vert .entry)) (now (half .entry))
         (now (s1 .entry)) (now (s2 .entry)) (now (d1 .entry)) (now (d2 .entry)) (now (lo .entry)) (now (hi .entry)) w
         (now (la .exit)) (now (lb .exit)) (now (ids .exit)) (now (side .exit)) (now (vert .exit)) (now (half .exit)) (now (s1 .exit)) (now (s2 .exit))

@@ -6,13 +6,16 @@ ghost use Prim.Native.Nat.{_+_, _-_, _*_, _%_, _≤_, _<_};
 ghost use lib.ListN.{getD, set};
 ghost use lib.Dec.{eqb};
 ghost use Rattle.corner.specs.Pairs.{apart};
+ghost use Rattle.router_notes.specs.Limits.{pairLimit, lastPair, vertexLimit};
 ghost use Rattle.router_table.specs.Scans.{First, crossD, leaveD, seenD, depthD, Least, swapD};
 ghost use Rattle.router_table.specs.Writes.{Moved, Split, Divided, Added, Dropped};
 use numbers::long;
+use router_notes::PAIRS;
+use router_notes::VERTICES;
 
 // The first row from `from` on that has an end at v, or n.
-pub fn first_at(la: &[u16; 2112], lb: &[u16; 2112], v: u16, from: usize, n: usize) -> usize
-    requires { ⌜ (from ≤ n) × (n ≤ 2112) ⌝ }
+pub fn first_at(la: &[u16; PAIRS], lb: &[u16; PAIRS], v: u16, from: usize, n: usize) -> usize
+    requires { ⌜ (from ≤ n) × (n ≤ pairLimit) ⌝ }
     ensures { λ r. ⌜ First (now (la .entry)) (now (lb .entry)) v from n r ⌝ }
 {
     let mut i = from;
@@ -40,8 +43,8 @@ fn parts(a: bool, b: bool) -> usize
 }
 
 // How many pairs cross the column cut x.
-pub fn crossing(la: &[u16; 2112], lb: &[u16; 2112], n: usize, x: usize) -> usize
-    requires { ⌜ n ≤ 2112 ⌝ }
+pub fn crossing(la: &[u16; PAIRS], lb: &[u16; PAIRS], n: usize, x: usize) -> usize
+    requires { ⌜ n ≤ pairLimit ⌝ }
     ensures { λ r. ⌜ r ≡ crossD (now (la .entry)) (now (lb .entry)) x n ⌝ }
 {
     let mut count: usize = 0;
@@ -52,8 +55,8 @@ pub fn crossing(la: &[u16; 2112], lb: &[u16; 2112], n: usize, x: usize) -> usize
 }
 
 // How many pairs have just one end on line l.
-pub fn leaving(la: &[u16; 2112], lb: &[u16; 2112], n: usize, l: usize) -> usize
-    requires { ⌜ n ≤ 2112 ⌝ }
+pub fn leaving(la: &[u16; PAIRS], lb: &[u16; PAIRS], n: usize, l: usize) -> usize
+    requires { ⌜ n ≤ pairLimit ⌝ }
     ensures { λ r. ⌜ r ≡ leaveD (now (la .entry)) (now (lb .entry)) l n ⌝ }
 {
     let mut count: usize = 0;
@@ -86,8 +89,8 @@ fn depth(a: usize, b: usize, x: usize, up: bool) -> usize
 }
 
 // Of the rows that cross the column cut x, one whose right end has the least line; n if there is none.
-pub fn least(la: &[u16; 2112], lb: &[u16; 2112], n: usize, x: usize, up: bool) -> usize
-    requires { ⌜ n ≤ 2112 ⌝ }
+pub fn least(la: &[u16; PAIRS], lb: &[u16; PAIRS], n: usize, x: usize, up: bool) -> usize
+    requires { ⌜ n ≤ pairLimit ⌝ }
     ensures { λ r. ⌜ Least (now (la .entry)) (now (lb .entry)) n x up r ⌝ }
 {
     let mut best = n;
@@ -103,8 +106,8 @@ pub fn least(la: &[u16; 2112], lb: &[u16; 2112], n: usize, x: usize, up: bool) -
 }
 
 // The other end of row i, one of whose ends stands at `from`.
-pub fn far(la: &[u16; 2112], lb: &[u16; 2112], i: usize, from: u16) -> u16
-    requires { ⌜ i < 2112 ⌝ }
+pub fn far(la: &[u16; PAIRS], lb: &[u16; PAIRS], i: usize, from: u16) -> u16
+    requires { ⌜ i < pairLimit ⌝ }
     ensures { λ r. ⌜ r ≡ cond (eqb (getD (now (la .entry)) i 0) from) (getD (now (lb .entry)) i 0) (getD (now (la .entry)) i 0) ⌝ }
 {
     if la[i] == from { lb[i] } else { la[i] }
@@ -122,8 +125,8 @@ pub fn swaps(s: usize, t: usize, line: usize, x: usize) -> bool
 }
 
 // The end of row i that stands at `from` moves to `to`.
-pub fn move_end(la: &mut [u16; 2112], lb: &mut [u16; 2112], i: usize, from: u16, to: u16)
-    requires { ⌜ i < 2112 ⌝ }
+pub fn move_end(la: &mut [u16; PAIRS], lb: &mut [u16; PAIRS], i: usize, from: u16, to: u16)
+    requires { ⌜ i < pairLimit ⌝ }
     ensures { λ _. ⌜ Moved (now (la .entry)) (now (lb .entry)) i from to (now (la .exit)) (now (lb .exit)) ⌝ }
 {
     if la[i] == from {
@@ -135,11 +138,11 @@ pub fn move_end(la: &mut [u16; 2112], lb: &mut [u16; 2112], i: usize, from: u16,
 
 // Two ends stand at the corner: row i's goes sideways, row j's goes down, or up where `up` is 1.
 pub fn split(
-    la: &mut [u16; 2112],
-    lb: &mut [u16; 2112],
-    ids: &[u16; 2112],
-    side: &mut [u16; 1024],
-    vert: &mut [u16; 1024],
+    la: &mut [u16; PAIRS],
+    lb: &mut [u16; PAIRS],
+    ids: &[u16; PAIRS],
+    side: &mut [u16; VERTICES],
+    vert: &mut [u16; VERTICES],
     i: usize,
     j: usize,
     ul: usize,
@@ -148,7 +151,7 @@ pub fn split(
     bul: u16,
     up: u16,
 )
-    requires { ⌜ (i < 2112) × (j < 2112) × (ul < 1024) × (up ≤ 1) × (getD (now ids) i 0 < 4096) × (getD (now ids) j 0 < 4096) ⌝ }
+    requires { ⌜ (i < pairLimit) × (j < pairLimit) × (ul < vertexLimit) × (up ≤ 1) × (getD (now ids) i 0 < 4096) × (getD (now ids) j 0 < 4096) ⌝ }
     ensures { λ _. ⌜ Split (now (la .entry)) (now (lb .entry)) (now (ids .entry)) (now (side .entry)) (now (vert .entry)) i j ul from nul bul up
         (now (la .exit)) (now (lb .exit)) (now (side .exit)) (now (vert .exit)) ⌝ }
 {
@@ -160,11 +163,11 @@ pub fn split(
 
 // The numbers of row i, which is divided, and of its halves: where the halves start and end, and the two directions at the corner.
 pub fn part(
-    half: &mut [u16; 2112],
-    s1: &mut [u16; 2112],
-    s2: &mut [u16; 2112],
-    d1: &mut [u8; 2112],
-    d2: &mut [u8; 2112],
+    half: &mut [u16; PAIRS],
+    s1: &mut [u16; PAIRS],
+    s2: &mut [u16; PAIRS],
+    d1: &mut [u8; PAIRS],
+    d2: &mut [u8; PAIRS],
     k: usize,
     next: u16,
     a: u16,
@@ -174,7 +177,7 @@ pub fn part(
     dx: u8,
     dy: u8,
 )
-    requires { ⌜ (k < 2112) × (next < 2111) ⌝ }
+    requires { ⌜ (k < pairLimit) × (next < lastPair) ⌝ }
     ensures { λ _. ⌜ (now (half .exit) ≡ set (now (half .entry)) k next)
         × (now (s1 .exit) ≡ set (set (now (s1 .entry)) next a) (next + 1) y) × (now (s2 .exit) ≡ set (set (now (s2 .entry)) next x) (next + 1) b)
         × (now (d1 .exit) ≡ set (now (d1 .entry)) k dx) × (now (d2 .exit) ≡ set (now (d2 .entry)) k dy) ⌝ }
@@ -191,16 +194,16 @@ pub fn part(
 
 // Row i ends at x now and has the number `next`; a row n from y to its old end is added, with the number after that.
 pub fn divide(
-    la: &mut [u16; 2112],
-    lb: &mut [u16; 2112],
-    ids: &mut [u16; 2112],
+    la: &mut [u16; PAIRS],
+    lb: &mut [u16; PAIRS],
+    ids: &mut [u16; PAIRS],
     i: usize,
     n: usize,
     next: u16,
     x: u16,
     y: u16,
 )
-    requires { ⌜ (i < 2112) × (n < 2112) × (next < 2111) ⌝ }
+    requires { ⌜ (i < pairLimit) × (n < pairLimit) × (next < lastPair) ⌝ }
     ensures { λ _. ⌜ Divided (now (la .entry)) (now (lb .entry)) (now (ids .entry)) i n next x y (now (la .exit)) (now (lb .exit))
         (now (ids .exit)) ⌝ }
 {
@@ -214,15 +217,15 @@ pub fn divide(
 
 // A row n from x to y is added.
 pub fn add(
-    la: &mut [u16; 2112],
-    lb: &mut [u16; 2112],
-    ids: &mut [u16; 2112],
+    la: &mut [u16; PAIRS],
+    lb: &mut [u16; PAIRS],
+    ids: &mut [u16; PAIRS],
     n: usize,
     next: u16,
     x: u16,
     y: u16,
 )
-    requires { ⌜ n < 2112 ⌝ }
+    requires { ⌜ n < pairLimit ⌝ }
     ensures { λ _. ⌜ Added (now (la .entry)) (now (lb .entry)) (now (ids .entry)) n next x y (now (la .exit)) (now (lb .exit)) (now (ids .exit)) ⌝ }
 {
     la[n] = x;
@@ -232,13 +235,13 @@ pub fn add(
 
 // Row m takes the place of row i.
 pub fn drop_row(
-    la: &mut [u16; 2112],
-    lb: &mut [u16; 2112],
-    ids: &mut [u16; 2112],
+    la: &mut [u16; PAIRS],
+    lb: &mut [u16; PAIRS],
+    ids: &mut [u16; PAIRS],
     i: usize,
     m: usize,
 )
-    requires { ⌜ (i < 2112) × (m < 2112) ⌝ }
+    requires { ⌜ (i < pairLimit) × (m < pairLimit) ⌝ }
     ensures { λ _. ⌜ Dropped (now (la .entry)) (now (lb .entry)) (now (ids .entry)) i m (now (la .exit)) (now (lb .exit)) (now (ids .exit)) ⌝ }
 {
     la[i] = la[m];

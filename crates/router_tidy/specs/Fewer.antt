@@ -15,12 +15,14 @@ use Rattle.corner.specs.Shape.{size, last, Shape, present, vertices, Shaped, na
 use Rattle.corner.specs.Presence.{last-suc, present-one}
 use Rattle.corner.specs.Delete.{narrow-less, lower-less, fewer}
 use Rattle.corner.specs.Flip.{flip, flip-vertices}
+use Rattle.router_notes.specs.Limits.{vertexLimit}
 use Rattle.router_notes.specs.State.{State}
 use Rattle.router_notes.specs.Alike.{Alike, present-alike, shapeOf, turnL, narrow-alike}
 use Rattle.router_table.specs.Scans.{seenD}
 use Rattle.router_invariant.specs.Run.{Run, Holds, shapeR, lineR, colR}
 use Rattle.router_invariant.specs.Place.{seen-turn, last-is, col-is}
-use Rattle.router_invariant.specs.Ready.{Ready, shaped}
+use Rattle.router_invariant.specs.Ready.{Ready}
+use Rattle.router_invariant.specs.ReadyLaws.{shaped}
 use Rattle.router_invariant.specs.OneEdge.{rightRun, downRun}
 use Rattle.router_invariant.specs.TwoEnds.{splitRun}
 use Rattle.router_invariant.specs.Helper.{helperRun}
@@ -41,7 +43,7 @@ vertices-some S G = omega (
   sum-get size (S .top) (λ l. sum size (λ c. one (present S l c))) (omega (arith, G .order, G .low)),
 )
 
-pub vertices-few : (S : Shape) → vertices S ≤ 1024
+pub vertices-few : (S : Shape) → vertices S ≤ vertexLimit
 unfolding vertices size
 vertices-few S = omega (
   arith,

@@ -4,6 +4,7 @@ use mathlib.Core.Bool.{Bool}
 use mathlib.Core.List.{List}
 use Prim.Native.Nat.{ℕ, _≤_, _<_}
 use lib.ListN.{getD}
+use Rattle.router_notes.specs.Limits.{pairLimit}
 use Rattle.router_notes.specs.State.{State}
 use Rattle.router_invariant.specs.Run.{Run, Holds, Sized}
 
@@ -33,5 +34,5 @@ tableR R la lb ids n = record {
 pub record Tidied (la lb ids : List ℕ) (n : ℕ) (la' lb' ids' : List ℕ) (m i : ℕ) : Type 0 where
   pub keeps : (s0 : State) (R : Run) → Holds s0 (tableR R la lb ids n) × Sized (tableR R la lb ids n)
       → Holds s0 (tableR R la' lb' ids' m) × Sized (tableR R la' lb' ids' m)
-  pub low : ((k : ℕ) → getD ids k 0 < 2112) → (k : ℕ) → getD ids' k 0 < 2112
+  pub low : ((k : ℕ) → getD ids k 0 < pairLimit) → (k : ℕ) → getD ids' k 0 < pairLimit
   pub proper : (k : ℕ) → k < i → getD la' k 0 ≡ getD lb' k 0 → ⊥

@@ -8,6 +8,7 @@ use native.Mathlib.Omega.{arith}
 use lib.ListN.{length, getD, set}
 use lib.Seq.{getD-set-same, getD-set-other}
 use Rattle.count.specs.Truth.{eq-or-ne, le-or-lt}
+use Rattle.router_notes.specs.Limits.{pairLimit}
 use Rattle.router_notes.specs.State.{State}
 use Rattle.router_table.specs.Writes.{Dropped}
 use Rattle.router_invariant.specs.Run.{Run, Holds, Sized}
@@ -28,7 +29,7 @@ tidy-next la lb ids n la' lb' ids' m i T h = record {
 }
 
 pub tidy-drop : (la lb ids : List ℕ) (n : ℕ) (la' lb' ids' : List ℕ) (m i : ℕ) (la'' lb'' ids'' : List ℕ) → Tidied la lb ids n la' lb' ids' m i
-    → m ≤ 2112 → i < m → getD la' i 0 ≡ getD lb' i 0
+    → m ≤ pairLimit → i < m → getD la' i 0 ≡ getD lb' i 0
     → Dropped la' lb' ids' i (m - 1) la'' lb'' ids'' → Tidied la lb ids n la'' lb'' ids'' (m - 1) i
 tidy-drop la lb ids n la' lb' ids' m i la'' lb'' ids'' T few l e D = record {
   keeps = λ s0 R h. let g = T .keeps s0 R h in rw (D .a-is, D .b-is, D .ids-is) (

@@ -13,6 +13,7 @@ use borrow.Author.Tests.{eq-eqb, ne-eqb, lt-ltb, le-ltb, eqb-true, eqb-false, lt
 use Rattle.count.specs.Truth.{bool}
 use Rattle.board.specs.declared.Vertex.{Vertex}
 use Rattle.corner.specs.Trails.{hor, ver}
+use Rattle.router_notes.specs.Limits.{pairLimit, lastPair, pathLimit}
 use Rattle.router_notes.specs.Notes.{Move, fwd, bwd, finish, opp, revm, Item, whole, parted, stay, on, Notes, Follows, stop, step, Path, plain, joint}
 use Rattle.router_notes.specs.Arrays.{vtx, moveD, hopAt, hopD, hopOf, born, partD, notesOf}
 use Rattle.router_trace.specs.Hops.{lineD, columnD, oppD}
@@ -126,33 +127,33 @@ module _ (side vert half s1 s2 d1 d2 : List ℕ) where
   length-rev [] = refl
   length-rev (m ∷ ms) = rw (length-append, length-rev ms) (omega arith)
 
-  part-whole : (k : ℕ) → partD side vert half s1 s2 d1 d2 k ≡ whole → (getD half k 0 ≡ 0) ⊎ ((getD half k 0 ≡ 0 → ⊥) × (2111 ≤ getD half k 0))
+  part-whole : (k : ℕ) → partD side vert half s1 s2 d1 d2 k ≡ whole → (getD half k 0 ≡ 0) ⊎ ((getD half k 0 ≡ 0 → ⊥) × (lastPair ≤ getD half k 0))
   unfolding partD
   part-whole k h = elim (bool (eqb (getD half k 0) 0)) [
     | inl e ↦ inl (eqb-true _ 0 e)
-    | inr e ↦ elim (bool (ltb (getD half k 0) 2111)) [
+    | inr e ↦ elim (bool (ltb (getD half k 0) lastPair)) [
       | inl f ↦ absurd (let g = rw (e, f) at h in let z : _≡_ {A = ℕ} 0 1 = cc in omega arith)
-      | inr f ↦ inr (eqb-false _ 0 e, ltb-false _ 2111 f)
+      | inr f ↦ inr (eqb-false _ 0 e, ltb-false _ lastPair f)
     ]
   ]
 
   part-parted : (k : ℕ) (h j : Item) (m n : Move) → partD side vert half s1 s2 d1 d2 k ≡ parted h m n j
-      → (getD half k 0 ≡ 0 → ⊥) × (getD half k 0 < 2111) × (born side vert half s1 s2 d1 d2 (getD half k 0) ≡ h)
+      → (getD half k 0 ≡ 0 → ⊥) × (getD half k 0 < lastPair) × (born side vert half s1 s2 d1 d2 (getD half k 0) ≡ h)
       × (born side vert half s1 s2 d1 d2 (getD half k 0 + 1) ≡ j)
       × (moveD (getD d1 k 0) (born side vert half s1 s2 d1 d2 (getD half k 0) .b) ≡ m)
       × (moveD (getD d2 k 0) (finish (moveD (getD d1 k 0) (born side vert half s1 s2 d1 d2 (getD half k 0) .b))) ≡ n)
   unfolding partD
   part-parted k h j m n p = elim (bool (eqb (getD half k 0) 0)) [
     | inl e ↦ absurd (let g = rw e at p in let z : _≡_ {A = ℕ} 0 1 = cc in omega arith)
-    | inr e ↦ elim (bool (ltb (getD half k 0) 2111)) [
-      | inl f ↦ let g = rw (e, f) at p in (eqb-false _ 0 e, ltb-true _ 2111 f, cc, cc, cc, cc)
+    | inr e ↦ elim (bool (ltb (getD half k 0) lastPair)) [
+      | inl f ↦ let g = rw (e, f) at p in (eqb-false _ 0 e, ltb-true _ lastPair f, cc, cc, cc, cc)
       | inr f ↦ absurd (let g = rw (e, f) at p in let z : _≡_ {A = ℕ} 0 1 = cc in omega arith)
     ]
   ]
 
   -- what the code writes is the path
-  pub path-is : Ordered half d1 d2 → (f k : ℕ) (i : Item) (ms : List Move) → i ≡ born side vert half s1 s2 d1 d2 k → Path N i ms → k < 2112
-      → 2112 ≤ f + k → length ms ≤ 2048
+  pub path-is : Ordered half d1 d2 → (f k : ℕ) (i : Item) (ms : List Move) → i ≡ born side vert half s1 s2 d1 d2 k → Path N i ms → k < pairLimit
+      → pairLimit ≤ f + k → length ms ≤ pathLimit
       → pathD side vert half s1 s2 d1 d2 f k ≡ dirs ms
   unfolding pathD
   path-is O zero k i ms q p a b c = absurd (omega arith)
@@ -161,10 +162,15 @@ module _ (side vert half s1 s2 d1 d2 : List ℕ) where
       let x' = subst (λ w. Follows N (w .id) (w .a) xs) q x in
       let y' = subst (λ w. Follows N (w .id) (w .b) ys) q y in
       let w : partD side vert half s1 s2 d1 d2 k ≡ whole = subst (λ w. partD side vert half s1 s2 d1 d2 (w .id) ≡ whole) q p in
-      rw (fore-is 2048 k (vtx (getD s1 k 0)) xs x' (omega arith), back-is 2048 k (vtx (getD s2 k 0)) ys y' (omega arith), e, dirs-join xs (revm ys))
+      rw (
+        fore-is pathLimit k (vtx (getD s1 k 0)) xs x' (omega arith),
+        back-is pathLimit k (vtx (getD s2 k 0)) ys y' (omega arith),
+        e,
+        dirs-join xs (revm ys),
+      )
       (elim (part-whole k w) [
         | inl g ↦ rw (eq-eqb (getD half k 0) 0 g)
-        | inr g ↦ rw (ne-eqb (getD half k 0) 0 (g .0), le-ltb (getD half k 0) 2111 (g .1))
+        | inr g ↦ rw (ne-eqb (getD half k 0) 0 (g .0), le-ltb (getD half k 0) lastPair (g .1))
       ])
   path-is O (suc f) k i ms q (joint {h = h} {j = j} {m = m} {n = n} {xs = xs} {ys = ys} {ps = ps} {qs = qs} p x y u v e) a b c =
       let z : length ms ≡ length xs + ((length ps + suc (suc (length qs))) + length ys) =
@@ -179,10 +185,10 @@ module _ (side vert half s1 s2 d1 d2 : List ℕ) where
       let t1 : dirOf m ≡ getD d1 k 0 = sym (ap dirOf (g .4)) ∙ dir-move _ _ (O .first k) in
       let t2 : dirOf n ≡ getD d2 k 0 = sym (ap dirOf (g .5)) ∙ dir-move _ _ (O .second k) in
       rw (
-        fore-is 2048 k (vtx (getD s1 k 0)) xs x' (omega arith),
-        back-is 2048 k (vtx (getD s2 k 0)) ys y' (omega arith),
+        fore-is pathLimit k (vtx (getD s1 k 0)) xs x' (omega arith),
+        back-is pathLimit k (vtx (getD s2 k 0)) ys y' (omega arith),
         ne-eqb (getD half k 0) 0 (g .0),
-        lt-ltb (getD half k 0) 2111 (g .1),
+        lt-ltb (getD half k 0) lastPair (g .1),
         e,
         dirs-join xs ((ps ++ (m ∷ n ∷ qs)) ++ revm ys),
         dirs-join (ps ++ (m ∷ n ∷ qs)) (revm ys),

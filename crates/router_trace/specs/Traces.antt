@@ -5,6 +5,7 @@ use mathlib.Core.List.{List, [], _∷_, _++_}
 use Prim.Native.Nat.{ℕ, zero, suc, _+_, _/_, _%_}
 use lib.Dec.{ltb, eqb}
 use lib.ListN.{getD}
+use Rattle.router_notes.specs.Limits.{lastPair, pathLimit}
 use Rattle.router_notes.specs.Arrays.{hopD}
 use Rattle.router_trace.specs.Hops.{lineD, columnD, oppD}
 
@@ -27,10 +28,10 @@ backD side vert k (suc f) l c =
 unfoldable pub pathD : (side vert half s1 s2 d1 d2 : List ℕ) (later k : ℕ) → List ℕ
 pathD side vert half s1 s2 d1 d2 zero k = []
 pathD side vert half s1 s2 d1 d2 (suc f) k =
-    foreD side vert k 2048 (getD s1 k 0 / 32) (getD s1 k 0 % 32)
+    foreD side vert k pathLimit (getD s1 k 0 / 32) (getD s1 k 0 % 32)
     ++ (cond (eqb (getD half k 0) 0) []
-    (cond (ltb (getD half k 0) 2111)
+    (cond (ltb (getD half k 0) lastPair)
     (pathD side vert half s1 s2 d1 d2 f (getD half k 0)
     ++ (getD d1 k 0 ∷ getD d2 k 0 ∷ pathD side vert half s1 s2 d1 d2 f (getD half k 0 + 1)))
     [])
-    ++ backD side vert k 2048 (getD s2 k 0 / 32) (getD s2 k 0 % 32))
+    ++ backD side vert k pathLimit (getD s2 k 0 / 32) (getD s2 k 0 % 32))

@@ -7,6 +7,7 @@ use mathlib.Core.Logic.{_⊎_, inl, inr}
 use native.Mathlib.Omega.{arith}
 use lib.ListN.{getD}
 use borrow.Author.Tests.{eq-eqb, ne-eqb, lt-ltb, le-ltb}
+use Rattle.router_notes.specs.Limits.{lastPair, pathLimit}
 use Rattle.router_notes.specs.Arrays.{hopD}
 use Rattle.router_trace.specs.Hops.{lineD, columnD, oppD}
 use Rattle.router_trace.specs.Traces.{foreD, backD, pathD}
@@ -56,24 +57,24 @@ module _ (side vert half s1 s2 d1 d2 : List ℕ) (k at a b h : ℕ) (out : List 
   unfolding pathD
   path-none f e = rw e (writes-none at out)
 
-  pub path-whole : {p r : ℕ} {o1 o2 : List ℕ} (f : ℕ) → (f ≡ 0 → ⊥) → (h ≡ 0) ⊎ (2111 ≤ h)
-      → Writes (foreD side vert k 2048 (a / 32) (a % 32)) at out p o1
-      → Writes (backD side vert k 2048 (b / 32) (b % 32)) p o1 r o2 → Writes (pathD side vert half s1 s2 d1 d2 f k) at out r o2
+  pub path-whole : {p r : ℕ} {o1 o2 : List ℕ} (f : ℕ) → (f ≡ 0 → ⊥) → (h ≡ 0) ⊎ (lastPair ≤ h)
+      → Writes (foreD side vert k pathLimit (a / 32) (a % 32)) at out p o1
+      → Writes (backD side vert k pathLimit (b / 32) (b % 32)) p o1 r o2 → Writes (pathD side vert half s1 s2 d1 d2 f k) at out r o2
   unfolding pathD
   path-whole zero z q x y = absurd (z refl)
   path-whole (suc f) z (inl q) x y = rw (← ea, ← eb, ← eh, eq-eqb h 0 q) (writes-join x y)
-  path-whole (suc f) z (inr q) x y = rw (← ea, ← eb, ← eh, ne-eqb h 0 (λ e. omega arith), le-ltb h 2111 q) (writes-join x y)
+  path-whole (suc f) z (inr q) x y = rw (← ea, ← eb, ← eh, ne-eqb h 0 (λ e. omega arith), le-ltb h lastPair q) (writes-join x y)
 
-  pub path-parted : {p q r s t u : ℕ} {o1 o2 o3 o4 o5 o6 : List ℕ} (f x y : ℕ) → (f ≡ 0 → ⊥) → (h ≡ 0 → ⊥) → h < 2111 → x ≡ getD d1 k 0
+  pub path-parted : {p q r s t u : ℕ} {o1 o2 o3 o4 o5 o6 : List ℕ} (f x y : ℕ) → (f ≡ 0 → ⊥) → (h ≡ 0 → ⊥) → h < lastPair → x ≡ getD d1 k 0
       → y ≡ getD d2 k 0
-      → Writes (foreD side vert k 2048 (a / 32) (a % 32)) at out p o1
+      → Writes (foreD side vert k pathLimit (a / 32) (a % 32)) at out p o1
       → Writes (pathD side vert half s1 s2 d1 d2 (f - 1) h) p o1 q o2 → Writes (x ∷ []) q o2 r o3 → Writes (y ∷ []) r o3 s o4
       → Writes (pathD side vert half s1 s2 d1 d2 (f - 1) (h + 1)) s o4 t o5
-      → Writes (backD side vert k 2048 (b / 32) (b % 32)) t o5 u o6 → Writes (pathD side vert half s1 s2 d1 d2 f k) at out u o6
+      → Writes (backD side vert k pathLimit (b / 32) (b % 32)) t o5 u o6 → Writes (pathD side vert half s1 s2 d1 d2 f k) at out u o6
   unfolding pathD
   path-parted zero x y z n l ex ey w1 w2 w3 w4 w5 w6 = absurd (z refl)
   path-parted {p} {q} {r} {s} {t} {u} {o1} {o2} {o3} {o4} {o5} {o6} (suc f) x y z n l ex ey w1 w2 w3 w4 w5 w6 =
       let g : suc f - 1 ≡ f = omega arith in
-      rw (← ea, ← eb, ← eh, ne-eqb h 0 n, lt-ltb h 2111 l, ← ex, ← ey)
+      rw (← ea, ← eb, ← eh, ne-eqb h 0 n, lt-ltb h lastPair l, ← ex, ← ey)
       (writes-join w1 (writes-join (writes-join (subst (λ i. Writes (pathD side vert half s1 s2 d1 d2 i h) p o1 q o2) g w2)
       (writes-join w3 (writes-join w4 (subst (λ i. Writes (pathD side vert half s1 s2 d1 d2 i (h + 1)) s o4 t o5) g w5)))) w6))

@@ -7,6 +7,7 @@ use native.Mathlib.Omega.{arith}
 use native.Mathlib.Numerals.{add-one}
 use lib.ListN.{set, take, drop, length, length-append, length-set, take-append-drop}
 use lib.Seq.{take-suc-set, drop-set-lt, length-take-le, take-at, drop-at, drop-drop}
+use Rattle.router_notes.specs.Limits.{pathLimit}
 use Rattle.router_trace.specs.Writes.{wrote, Room, Writes}
 
 pub wrote-none : (out : List ℕ) (at : ℕ) → wrote out at [] ≡ out
@@ -43,10 +44,10 @@ set-wrote out at x h = sym (wrote-none (set out at x) (at + 1)) ∙ wrote-front 
 pub writes-none : (at : ℕ) (out : List ℕ) → Writes [] at out at out
 writes-none at out = record { kept = refl; end = λ h. omega arith; text = λ h. sym (wrote-none out at) }
 
-pub writes-set : (at x : ℕ) (out : List ℕ) → at < 2048 → Writes (x ∷ []) at out (at + 1) (set out at x)
+pub writes-set : (at x : ℕ) (out : List ℕ) → at < pathLimit → Writes (x ∷ []) at out (at + 1) (set out at x)
 writes-set at x out h = record { kept = length-set out at x; end = λ k. omega arith; text = λ k. set-wrote out at x (omega arith) }
 
-pub writes-full : (at x : ℕ) (out : List ℕ) → 2048 ≤ at → Writes (x ∷ []) at out at out
+pub writes-full : (at x : ℕ) (out : List ℕ) → pathLimit ≤ at → Writes (x ∷ []) at out at out
 writes-full at x out h = record { kept = refl; end = λ k. absurd (omega arith); text = λ k. absurd (omega arith) }
 
 -- one text after the other

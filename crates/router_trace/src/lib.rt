@@ -6,15 +6,20 @@
 ghost use mathlib.Core.Path.{_≡_};
 ghost use mathlib.Core.List.{[], _∷_};
 ghost use Prim.Native.Nat.{_≤_, _<_};
+ghost use Rattle.router_notes.specs.Limits.{pairLimit};
 ghost use Rattle.router_notes.specs.Arrays.{hopAt, hopD};
 ghost use Rattle.router_trace.specs.Hops.{lineD, columnD, oppD, Hops};
 ghost use Rattle.router_trace.specs.Traces.{foreD, backD, pathD};
 ghost use Rattle.router_trace.specs.Writes.{Writes};
 use numbers::long;
+use router_notes::LAST_PAIR;
+use router_notes::PAIRS;
+use router_notes::STEPS;
+use router_notes::VERTICES;
 
 // The move of pair k from a vertex with these two notes, or 4 for none.
 fn hop_at(s: usize, v: usize, k: usize) -> u8
-    requires { ⌜ k < 2112 ⌝ }
+    requires { ⌜ k < pairLimit ⌝ }
     ensures { λ r. ⌜ (r ≡ hopAt s v k) × (r ≤ 4) ⌝ }
 {
     if s == k + 1 {
@@ -29,8 +34,8 @@ fn hop_at(s: usize, v: usize, k: usize) -> u8
 }
 
 // The move of pair k from line l and column c.
-fn hop(side: &[u16; 1024], vert: &[u16; 1024], k: usize, l: usize, c: usize) -> u8
-    requires { ⌜ k < 2112 ⌝ }
+fn hop(side: &[u16; VERTICES], vert: &[u16; VERTICES], k: usize, l: usize, c: usize) -> u8
+    requires { ⌜ k < pairLimit ⌝ }
     ensures { λ r. ⌜ (r ≡ hopD (now (side .entry)) (now (vert .entry)) k l c) × Hops l c r ⌝ }
 {
     if l < 32 {
@@ -73,10 +78,10 @@ fn opposite(d: u8) -> u8
 }
 
 // Writes one direction.
-fn put(out: &mut [u8; 2048], at: usize, d: u8) -> usize
+fn put(out: &mut [u8; STEPS], at: usize, d: u8) -> usize
     ensures { λ r. ⌜ Writes (d ∷ []) at (now (out .entry)) r (now (out .exit)) ⌝ }
 {
-    if at < 2048 {
+    if at < STEPS {
         out[at] = d;
         return at + 1;
     }
@@ -85,16 +90,16 @@ fn put(out: &mut [u8; 2048], at: usize, d: u8) -> usize
 
 // Writes the moves of pair k's end that stands at line l and column c, from `at` on.
 fn fore(
-    side: &[u16; 1024],
-    vert: &[u16; 1024],
+    side: &[u16; VERTICES],
+    vert: &[u16; VERTICES],
     k: usize,
     fuel: usize,
     l: usize,
     c: usize,
-    out: &mut [u8; 2048],
+    out: &mut [u8; STEPS],
     at: usize,
 ) -> usize
-    requires { ⌜ k < 2112 ⌝ }
+    requires { ⌜ k < pairLimit ⌝ }
     ensures { λ r. ⌜ Writes (foreD (now (side .entry)) (now (vert .entry)) k fuel l c) at (now (out .entry)) r (now (out .exit)) ⌝ }
 {
     if fuel == 0 {
@@ -119,16 +124,16 @@ fn fore(
 
 // Writes them backwards: those from the next vertex on first.
 fn back(
-    side: &[u16; 1024],
-    vert: &[u16; 1024],
+    side: &[u16; VERTICES],
+    vert: &[u16; VERTICES],
     k: usize,
     fuel: usize,
     l: usize,
     c: usize,
-    out: &mut [u8; 2048],
+    out: &mut [u8; STEPS],
     at: usize,
 ) -> usize
-    requires { ⌜ k < 2112 ⌝ }
+    requires { ⌜ k < pairLimit ⌝ }
     ensures { λ r. ⌜ Writes (backD (now (side .entry)) (now (vert .entry)) k fuel l c) at (now (out .entry)) r (now (out .exit)) ⌝ }
 {
     if fuel == 0 {
@@ -154,19 +159,19 @@ fn back(
 // Writes the path of pair k: its first end's moves, its halves with the two moves between them, its second end's moves backwards.
 // A half has fewer later divisions than the pair.
 pub fn assemble(
-    side: &[u16; 1024],
-    vert: &[u16; 1024],
-    half: &[u16; 2112],
-    s1: &[u16; 2112],
-    s2: &[u16; 2112],
-    d1: &[u8; 2112],
-    d2: &[u8; 2112],
+    side: &[u16; VERTICES],
+    vert: &[u16; VERTICES],
+    half: &[u16; PAIRS],
+    s1: &[u16; PAIRS],
+    s2: &[u16; PAIRS],
+    d1: &[u8; PAIRS],
+    d2: &[u8; PAIRS],
     k: usize,
     later: usize,
-    out: &mut [u8; 2048],
+    out: &mut [u8; STEPS],
     at: usize,
 ) -> usize
-    requires { ⌜ k < 2112 ⌝ }
+    requires { ⌜ k < pairLimit ⌝ }
     ensures { λ r. ⌜ Writes (pathD (now (side .entry)) (now (vert .entry)) (now (half .entry)) (now (s1 .entry)) (now (s2 .entry)) (now (d1 .entry))
         (now (d2 .entry)) later k) at (now (out .entry)) r (now (out .exit)) ⌝ }
 {
@@ -176,17 +181,17 @@ pub fn assemble(
     let a = long(s1[k]);
     let b = long(s2[k]);
     let h = long(half[k]);
-    let p = fore(side, vert, k, 2048, a / 32, a % 32, out, at);
+    let p = fore(side, vert, k, STEPS, a / 32, a % 32, out, at);
     if h == 0 {
-        return back(side, vert, k, 2048, b / 32, b % 32, out, p);
+        return back(side, vert, k, STEPS, b / 32, b % 32, out, p);
     }
-    if h < 2111 {
+    if h < LAST_PAIR {
         let j = h + 1;
         let q = assemble(side, vert, half, s1, s2, d1, d2, h, later - 1, out, p);
         let r = put(out, q, d1[k]);
         let s = put(out, r, d2[k]);
         let t = assemble(side, vert, half, s1, s2, d1, d2, j, later - 1, out, s);
-        return back(side, vert, k, 2048, b / 32, b % 32, out, t);
+        return back(side, vert, k, STEPS, b / 32, b % 32, out, t);
     }
-    back(side, vert, k, 2048, b / 32, b % 32, out, p)
+    back(side, vert, k, STEPS, b / 32, b % 32, out, p)
 }

@@ -14,10 +14,12 @@ use Rattle.count.specs.Sums.{sum-get}
 use Rattle.board.specs.Board.{Board, Within}
 use Rattle.net.specs.declared.Net.{Net}
 use Rattle.words.specs.RoutingWord.{pathsWords, routingWords}
+use Rattle.call_rules.specs.Shape.{routingLimit}
 use Rattle.corner.specs.Shape.{size}
 use Rattle.corner.specs.Trails.{Link, hor, ver}
 use Rattle.corner.specs.Links.{onBoard}
 use Rattle.corner.specs.Exact.{level, upright, right-exact, down-exact}
+use Rattle.router_notes.specs.Limits.{pairLimit}
 use Rattle.router_notes.specs.Notes.{Move, uses, Item, Routed}
 use Rattle.router_notes.specs.Arrays.{born, notesOf}
 use Rattle.router_notes.specs.Frame.{InFrame, both, all, all-add, all-le, length-all}
@@ -83,10 +85,10 @@ words-from P k (n ∷ ns) =
     rw (length-append, ← q) (omega (arith, words-from P (suc k) ns, sum-suc k (λ i. length (P i)), few-words n (P k)))
 
 module _ (side vert half s1 s2 d1 d2 : List ℕ) (O : Ordered half d1 d2) (b : Board) (W : Within b) (B : Link → ℕ)
-    (edges : (e : Link) → B e ≤ one (onBoard b e)) (n : ℕ) (few : n ≤ 2112) (it : ℕ → Item)
+    (edges : (e : Link) → B e ≤ one (onBoard b e)) (n : ℕ) (few : n ≤ pairLimit) (it : ℕ → Item)
     (R : Routed (notesOf side vert half s1 s2 d1 d2) B n it) (made : (i : ℕ) → i < n → it i ≡ born side vert half s1 s2 d1 d2 i) where
   abbrev P : ℕ → List ℕ
-  P = pathD side vert half s1 s2 d1 d2 2112
+  P = pathD side vert half s1 s2 d1 d2 pairLimit
 
   moves-few : sum n (λ i. length (R .ms i)) ≤ 1984
   moves-few =
@@ -104,7 +106,7 @@ module _ (side vert half s1 s2 d1 d2 : List ℕ) (O : Ordered half d1 d2) (b : B
       sum-eq n (λ i. length (P i)) (λ i. length (R .ms i))
       (λ i l. ap length (path-moves side vert half s1 s2 d1 d2 O b W B edges n few it R made i l) ∙ length-dirs (R .ms i))
 
-  pub words-fit : (ns : List Net) → length ns ≡ n → n ≤ 64 → length (routingWords ns (pathsFrom P 0 n)) ≤ 2049
+  pub words-fit : (ns : List Net) → length ns ≡ n → n ≤ 64 → length (routingWords ns (pathsFrom P 0 n)) ≤ routingLimit
   unfolding routingWords
   words-fit ns e h =
       let w : sum 0 (λ i. length (P i)) + length (pathsWords ns (pathsFrom P 0 n)) ≤ n + sum (0 + n) (λ i. length (P i)) =

@@ -1,5 +1,5 @@
--- What `write_paths` leaves of a finished router's notes is what the call `route` hands back: its words are those of a routing.
--- Assumes what the router's run leaves, as in Routes, for the nets of a session, and a buffer of 2,049 words or more.
+-- What `write_paths` leaves of a finished router's notes is what the call `route` hands back: its words fit, and are those of a routing.
+-- Assumes what the router's run leaves, as in Routes, for the nets of a session, and a buffer of as many words as routing asks for.
 use mathlib.Core.Path.{_≡_, refl, sym, subst}
 use mathlib.Core.List.{List}
 use Prim.Native.Nat.{ℕ, _≤_, _<_}
@@ -11,16 +11,16 @@ use Rattle.board.specs.declared.Direction.{Direction}
 use Rattle.net.specs.declared.Pair.{Pair}
 use Rattle.routing_rules.specs.Routing.{Routing}
 use Rattle.session_rules.specs.Session.{Session, pairs}
-use Rattle.words.specs.RoutingWord.{routingWords}
-use Rattle.call_rules.specs.Route.{HandsBack}
+use Rattle.call_rules.specs.Route.{routeRoom, HandsBack}
+use Rattle.call_rules.specs.Writing.{writtenInto}
 use Rattle.corner.specs.Trails.{Link}
 use Rattle.corner.specs.Links.{onBoard}
+use Rattle.router_notes.specs.Limits.{pairLimit}
 use Rattle.router_notes.specs.Notes.{Item, Routed}
 use Rattle.router_notes.specs.Arrays.{born, notesOf}
 use Rattle.router_trace.specs.Traces.{pathD}
 use Rattle.router_trace.specs.Directions.{Ordered}
-use Rattle.router_writer.specs.Written.{Written}
-use Rattle.router_writer.specs.Paths.{pathsFrom, Short}
+use Rattle.router_writer.specs.Paths.{pathsFrom, wordsOf, Fits}
 use Rattle.router_writer.specs.Routes.{pairsFrom, paths-short, paths-routing}
 use Rattle.router_writer.specs.Fits.{words-fit}
 
@@ -30,23 +30,29 @@ module _ (side vert half s1 s2 d1 d2 : List ℕ) (O : Ordered half d1 d2) (s : S
     (made : (i : ℕ) → i < length (s .nets) → it i ≡ born side vert half s1 s2 d1 d2 i)
     (ends : pairs (s .nets) ≡ pairsFrom it 0 (length (s .nets))) (most : length (s .nets) ≤ 64) where
   abbrev P : ℕ → List ℕ
-  P = pathD side vert half s1 s2 d1 d2 2112
+  P = pathD side vert half s1 s2 d1 d2 pairLimit
 
   abbrev paths : List (List Direction)
   paths = pathsFrom P 0 (length (s .nets))
 
-  few : length (s .nets) ≤ 2112
+  few : length (s .nets) ≤ pairLimit
   few = omega arith
 
-  pub handed : {before after : List ℕ} {count : ℕ} → 2049 ≤ length before
-      → (Short P (length (s .nets)) → Written (routingWords (s .nets) paths) before count after) → HandsBack s before after count
-  handed {before} room wrote =
-      let w = wrote (paths-short side vert half s1 s2 d1 d2 O (s .block .board) W B edges (length (s .nets)) few it R made) in
-      let fits = words-fit side vert half s1 s2 d1 d2 O (s .block .board) W B edges (length (s .nets)) few it R made (s .nets) refl most in
-      record {
-        paths = paths;
-        routing = subst (λ (ps : List Pair). Routing (s .block .board) ps paths) (sym ends)
-            (paths-routing side vert half s1 s2 d1 d2 O (s .block .board) W B edges (length (s .nets)) few it R made);
-        words = w .text (omega arith);
-        counted = w .counted;
-      }
+  pub fits : {before : List ℕ} → routeRoom s ≤ length before → Fits P (s .nets) before
+  fits room = record {
+    short = paths-short side vert half s1 s2 d1 d2 O (s .block .board) W B edges (length (s .nets)) few it R made;
+    room = omega (
+      arith,
+      words-fit side vert half s1 s2 d1 d2 O (s .block .board) W B edges (length (s .nets)) few it R made (s .nets) refl most,
+    );
+  }
+
+  pub handed : {before after : List ℕ} {count : ℕ} → count ≡ length (wordsOf P (s .nets)) → after ≡ writtenInto before (wordsOf P (s .nets))
+      → HandsBack s before after count
+  handed counted words = record {
+    paths = paths;
+    routing = subst (λ (ps : List Pair). Routing (s .block .board) ps paths) (sym ends)
+        (paths-routing side vert half s1 s2 d1 d2 O (s .block .board) W B edges (length (s .nets)) few it R made);
+    words = words;
+    counted = counted;
+  }

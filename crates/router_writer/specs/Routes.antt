@@ -20,6 +20,7 @@ use Rattle.corner.specs.Trails.{Link, hor, ver, hi, lo, Walk, Trails, total}
 use Rattle.corner.specs.Links.{onBoard, dirsOf, pathsOf}
 use Rattle.corner.specs.LinkLaws.{on-frame}
 use Rattle.corner.specs.Paths.{routed-routing}
+use Rattle.router_notes.specs.Limits.{pairLimit, pathLimit}
 use Rattle.router_notes.specs.Notes.{Move, fwd, bwd, Goes, uses, Item, Routed}
 use Rattle.router_notes.specs.Arrays.{born, notesOf}
 use Rattle.router_notes.specs.Frame.{InFrame}
@@ -92,10 +93,10 @@ link-frame b W (hor l c) h = on-frame b W (hor l c) h
 link-frame b W (ver l c) h = on-frame b W (ver l c) h
 
 module _ (side vert half s1 s2 d1 d2 : List ℕ) (O : Ordered half d1 d2) (b : Board) (W : Within b) (B : Link → ℕ)
-    (edges : (e : Link) → B e ≤ one (onBoard b e)) (n : ℕ) (few : n ≤ 2112) (it : ℕ → Item)
+    (edges : (e : Link) → B e ≤ one (onBoard b e)) (n : ℕ) (few : n ≤ pairLimit) (it : ℕ → Item)
     (R : Routed (notesOf side vert half s1 s2 d1 d2) B n it) (made : (i : ℕ) → i < n → it i ≡ born side vert half s1 s2 d1 d2 i) where
   abbrev P : ℕ → List ℕ
-  P = pathD side vert half s1 s2 d1 d2 2112
+  P = pathD side vert half s1 s2 d1 d2 pairLimit
 
   one-at-most : (e : Link) → B e ≤ 1
   one-at-most e = elim (bool (onBoard b e)) [
@@ -109,11 +110,11 @@ module _ (side vert half s1 s2 d1 d2 : List ℕ) (O : Ordered half d1 d2) (b : B
     | inr h ↦ absurd (omega (arith, edges e, ap one h))
   ]
 
-  moves-short : (i : ℕ) → i < n → length (R .ms i) ≤ 2048
+  moves-short : (i : ℕ) → i < n → length (R .ms i) ≤ pathLimit
   moves-short = short (notesOf side vert half s1 s2 d1 d2) B n it R one-at-most in-frame
 
   pub path-moves : (i : ℕ) → i < n → P i ≡ dirs (R .ms i)
-  path-moves i l = path-is side vert half s1 s2 d1 d2 O 2112 i (it i) (R .ms i) (made i l) (R .reads i l) (omega arith) (omega arith)
+  path-moves i l = path-is side vert half s1 s2 d1 d2 O pairLimit i (it i) (R .ms i) (made i l) (R .reads i l) (omega arith) (omega arith)
       (moves-short i l)
 
   pub paths-short : Short P n

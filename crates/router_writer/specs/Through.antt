@@ -14,6 +14,7 @@ use Rattle.net.specs.declared.Held.the-variants.{Nothing, Ends}
 use Rattle.net.specs.declared.Place.{Place}
 use Rattle.net_places.specs.Places.{heldNet, netsFrom, netsOf}
 use Rattle.words.specs.RoutingWord.{pathsWords, routingWords, routingEndWord}
+use Rattle.router_notes.specs.Limits.{pathLimit}
 use Rattle.router_writer.specs.Written.{Written}
 use Rattle.router_writer.specs.Blocks.{take-more, drop-more, block-inside, put-next, part-back}
 use Rattle.router_writer.specs.Paths.{heldOne, pathsFrom, Short, heldWords, HeldShort}
@@ -54,7 +55,7 @@ module _ (P : ℕ → List ℕ) (nets : List Place) where
 
   pub record Through (before : List ℕ) (at k i : ℕ) (out : List ℕ) : Type 0 where
     pub few : k ≤ i
-    pub low : at ≤ 2049 * i
+    pub low : at ≤ (pathLimit + 1) * i
     pub same : length out ≡ length before
     pub ids : k + length (Rest i) ≡ length (netsOf nets)
     pub done : Short P (length (netsOf nets)) → Done before at k i out
@@ -75,7 +76,7 @@ module _ (P : ℕ → List ℕ) (nets : List Place) where
 
   -- the next place: the part of the buffer from `start` on was lent, and `last` came back
   module _ (before out last : List ℕ) (at k i start r : ℕ) (there : i < length nets) (t : Through before at k i out) (low : start ≤ length out)
-      (met : at ≤ length out → start ≡ at) (most : r ≤ 2049) (kept : length last ≡ length (take (length out - start) (drop start out)))
+      (met : at ≤ length out → start ≡ at) (most : r ≤ pathLimit + 1) (kept : length last ≡ length (take (length out - start) (drop start out)))
       (wrote : HeldShort (getD nets i nothing .held) (P k)
       → Written (heldWords (i + 1) (getD nets i nothing .held) (P k)) (take (length out - start) (drop start out)) r last) where
     abbrev h : Held

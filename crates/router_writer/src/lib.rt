@@ -1,18 +1,23 @@
-// The words of a routing, written from the router's notes. What finds no room is not written; the count of words is right all the same.
+// The words of a routing, written from the router's notes.
 ghost use mathlib.Core.Path.{_≡_};
 ghost use Prim.Native.Nat.{_+_, _≤_, _<_};
 ghost use lib.ListN.{length, set};
 ghost use Rattle.board.specs.Path.{number};
-ghost use Rattle.words.specs.RoutingWord.{direction, pathWords, routingWords};
+ghost use Rattle.words.specs.RoutingWord.{direction, pathWords};
+ghost use Rattle.call_rules.specs.Writing.{writtenInto};
 ghost use Rattle.net_places.specs.Places.{netsOf};
+ghost use Rattle.router_notes.specs.Limits.{pairLimit, pathLimit};
 ghost use Rattle.router_trace.specs.Traces.{pathD};
 ghost use Rattle.router_writer.specs.Written.{directions, RunAt, Written};
-ghost use Rattle.router_writer.specs.Paths.{heldOne, pathsFrom, Short, heldWords, HeldShort};
+ghost use Rattle.router_writer.specs.Paths.{heldOne, wordsOf, Fits, heldWords, HeldShort};
 use net::Held;
 use net::Net;
 use net::Place;
 use numbers::as_word;
 use numbers::least;
+use router_notes::PAIRS;
+use router_notes::STEPS;
+use router_notes::VERTICES;
 use words::Path;
 
 // The number of the direction that a byte stands for: past 3 it is left.
@@ -48,8 +53,8 @@ fn run_length(dirs: &[u8], from: usize) -> usize
 }
 
 // Writes a net's path word and the run words of its directions at the start of a buffer, and answers how many words that is.
-pub fn write_path(out: &mut [u32], net: Net, dirs: &[u8]) -> usize
-    requires { ⌜ length (now dirs) ≤ 2048 ⌝ }
+fn write_path(out: &mut [u32], net: Net, dirs: &[u8]) -> usize
+    requires { ⌜ length (now dirs) ≤ pathLimit ⌝ }
     ensures { λ r. ⌜ Written (pathWords net (directions (now (dirs .entry)))) (now (out .entry)) r (now (out .exit)) ⌝ }
 {
     let mut runs: usize = 0;
@@ -79,50 +84,50 @@ fn number_at(i: usize) -> u8
 
 // Writes the words of a net, whose path is that of pair k.
 fn write_net(
-    side: &[u16; 1024],
-    vert: &[u16; 1024],
-    half: &[u16; 2112],
-    s1: &[u16; 2112],
-    s2: &[u16; 2112],
-    d1: &[u8; 2112],
-    d2: &[u8; 2112],
+    side: &[u16; VERTICES],
+    vert: &[u16; VERTICES],
+    half: &[u16; PAIRS],
+    s1: &[u16; PAIRS],
+    s2: &[u16; PAIRS],
+    d1: &[u8; PAIRS],
+    d2: &[u8; PAIRS],
     k: usize,
     net: Net,
     out: &mut [u32],
 ) -> usize
-    requires { ⌜ k < 2112 ⌝ }
-    ensures { λ r. ⌜ r ≤ 2049 ⌝ }
+    requires { ⌜ k < pairLimit ⌝ }
+    ensures { λ r. ⌜ r ≤ pathLimit + 1 ⌝ }
     ensures { λ r. ⌜ (length (pathD (now (side .entry)) (now (vert .entry)) (now (half .entry)) (now (s1 .entry)) (now (s2 .entry)) (now (d1 .entry))
-        (now (d2 .entry)) 2112 k) ≤ 2048 → Written (pathWords net
+        (now (d2 .entry)) pairLimit k) ≤ pathLimit → Written (pathWords net
         (directions (pathD (now (side .entry)) (now (vert .entry)) (now (half .entry)) (now (s1 .entry)) (now (s2 .entry)) (now (d1 .entry))
-        (now (d2 .entry)) 2112 k))) (now (out .entry)) r (now (out .exit))) ⌝ }
+        (now (d2 .entry)) pairLimit k))) (now (out .entry)) r (now (out .exit))) ⌝ }
 {
-    let mut dirs = [0u8; 2048];
-    let end = router_trace::assemble(side, vert, half, s1, s2, d1, d2, k, 2112, &mut dirs, 0);
-    let n = least(end, 2048);
+    let mut dirs = [0u8; STEPS];
+    let end = router_trace::assemble(side, vert, half, s1, s2, d1, d2, k, PAIRS, &mut dirs, 0);
+    let n = least(end, STEPS);
     write_path(out, net, &dirs[..n])
 }
 
 // Writes the words of what a place holds: a net whose path is that of pair k, or nothing.
 fn write_place(
-    side: &[u16; 1024],
-    vert: &[u16; 1024],
-    half: &[u16; 2112],
-    s1: &[u16; 2112],
-    s2: &[u16; 2112],
-    d1: &[u8; 2112],
-    d2: &[u8; 2112],
+    side: &[u16; VERTICES],
+    vert: &[u16; VERTICES],
+    half: &[u16; PAIRS],
+    s1: &[u16; PAIRS],
+    s2: &[u16; PAIRS],
+    d1: &[u8; PAIRS],
+    d2: &[u8; PAIRS],
     k: usize,
     number: u8,
     place: Place,
     out: &mut [u32],
 ) -> usize
-    requires { ⌜ k < 2112 ⌝ }
-    ensures { λ r. ⌜ r ≤ 2049 ⌝ }
+    requires { ⌜ k < pairLimit ⌝ }
+    ensures { λ r. ⌜ r ≤ pathLimit + 1 ⌝ }
     ensures { λ r. ⌜ (HeldShort (place .held) (pathD (now (side .entry)) (now (vert .entry)) (now (half .entry)) (now (s1 .entry)) (now (s2 .entry))
-        (now (d1 .entry)) (now (d2 .entry)) 2112 k) → Written
+        (now (d1 .entry)) (now (d2 .entry)) pairLimit k) → Written
         (heldWords number (place .held) (pathD (now (side .entry)) (now (vert .entry)) (now (half .entry)) (now (s1 .entry)) (now (s2 .entry))
-        (now (d1 .entry)) (now (d2 .entry)) 2112 k)) (now (out .entry)) r (now (out .exit))) ⌝ }
+        (now (d1 .entry)) (now (d2 .entry)) pairLimit k)) (now (out .entry)) r (now (out .exit))) ⌝ }
 {
     let held = place.held;
     match held {
@@ -148,20 +153,21 @@ fn held_count(place: Place) -> usize
 // Writes the words of the routing that the notes give to the nets: the paths in rising number, each into the part of the buffer after the
 // path before it, then the end word. Answers how many words that is.
 pub fn write_paths(
-    side: &[u16; 1024],
-    vert: &[u16; 1024],
-    half: &[u16; 2112],
-    s1: &[u16; 2112],
-    s2: &[u16; 2112],
-    d1: &[u8; 2112],
-    d2: &[u8; 2112],
+    side: &[u16; VERTICES],
+    vert: &[u16; VERTICES],
+    half: &[u16; PAIRS],
+    s1: &[u16; PAIRS],
+    s2: &[u16; PAIRS],
+    d1: &[u8; PAIRS],
+    d2: &[u8; PAIRS],
     nets: [Place; 64],
     out: &mut [u32],
 ) -> usize
-    ensures { λ r. ⌜ (Short (pathD (now (side .entry)) (now (vert .entry)) (now (half .entry)) (now (s1 .entry)) (now (s2 .entry)) (now (d1 .entry))
-        (now (d2 .entry)) 2112) (length (netsOf nets)) → Written
-        (routingWords (netsOf nets) (pathsFrom (pathD (now (side .entry)) (now (vert .entry)) (now (half .entry)) (now (s1 .entry)) (now (s2 .entry))
-        (now (d1 .entry)) (now (d2 .entry)) 2112) 0 (length (netsOf nets)))) (now (out .entry)) r (now (out .exit))) ⌝ }
+    requires { ⌜ Fits (pathD (now side) (now vert) (now half) (now s1) (now s2) (now d1) (now d2) pairLimit) (netsOf nets) (now out) ⌝ }
+    ensures { λ r. ⌜ r ≡ length (wordsOf (pathD (now (side .entry)) (now (vert .entry)) (now (half .entry)) (now (s1 .entry)) (now (s2 .entry))
+        (now (d1 .entry)) (now (d2 .entry)) pairLimit) (netsOf nets)) ⌝ }
+    ensures { λ r. ⌜ now (out .exit) ≡ writtenInto (now (out .entry)) (wordsOf (pathD (now (side .entry)) (now (vert .entry)) (now (half .entry))
+        (now (s1 .entry)) (now (s2 .entry)) (now (d1 .entry)) (now (d2 .entry)) pairLimit) (netsOf nets)) ⌝ }
 {
     let mut at: usize = 0;
     let mut k: usize = 0;

@@ -4,7 +4,7 @@ use mathlib.Core.Path.{sym, _∙_}
 use borrow.Author.Tests.{not-true, not-false}
 use Rattle.net_places.specs.Nets.{pairs-of}
 use Rattle.session.specs.View.{sessionOf}
-use Rattle.route_call.specs.Answers.{odd-at, none-odd, route-unsound, route-short, route-odd}
+use Rattle.route_call.specs.AnswerLaws.{odd-at, none-odd, route-unsound, route-short, route-odd}
 use borrow.Author.Needs.{needs}
 use Rattle.route_call.proofs.route.Statement.{statement}
 use Rattle.route_call.proofs.route.Tie as tie

@@ -3,7 +3,7 @@ use native.Mathlib.Omega.{arith}
 use mathlib.Core.Path.{sym, _∙_}
 use Rattle.net_places.specs.Nets.{pairs-of}
 use Rattle.session.specs.View.{sessionOf}
-use Rattle.route_call.specs.Answers.{overfull-at, none-overfull, route-overfull, route-given}
+use Rattle.route_call.specs.AnswerLaws.{overfull-at, none-overfull, route-overfull, route-given}
 use borrow.Author.Needs.{needs}
 use Rattle.route_call.proofs.route_even.Statement.{statement}
 use Rattle.route_call.proofs.route_even.Tie as tie

@@ -1,6 +1,7 @@
 -- No second end, or the two pairs part, by the laws of Went.
 use native.Mathlib.Omega.{arith}
 use mathlib.Core.Path.{_∙_}
+use Rattle.router_notes.specs.Limits.{pairLimit}
 use Rattle.router_ends.specs.Went.{two-stuck, two-part, picked-row}
 use Rattle.router_ends.specs.Near.{near-halted, near-counted}
 use borrow.Author.Needs.{needs}
@@ -113,9 +114,10 @@ split-requires c κs =
     let at-first-at = at-if1 .before in
     let at-word = at-first-at .before .before .before in
     let start = at-word .before in (
-      picked-row (at-swaps .swaps .result) (at-pick .pick .result) (at-first-at .first-at .result) (start .args .i) 2112 (at-pick .pick .ensures)
+      picked-row (at-swaps .swaps .result) (at-pick .pick .result) (at-first-at .first-at .result) (start .args .i) pairLimit (at-pick .pick .ensures)
           (omega (arith, at-first-at .first-at .ensures .most, at-if1 .if1 .left)) (omega arith),
-      picked-row (at-swaps .swaps .result) (at-pick2 .pick2 .result) (start .args .i) (at-first-at .first-at .result) 2112 (at-pick2 .pick2 .ensures)
+      picked-row (at-swaps .swaps .result) (at-pick2 .pick2 .result) (start .args .i) (at-first-at .first-at .result) pairLimit
+          (at-pick2 .pick2 .ensures)
           (omega arith) (omega (arith, at-first-at .first-at .ensures .most, at-if1 .if1 .left)),
       omega (arith, at-word .word .ensures),
       search needs,

@@ -4,6 +4,7 @@ use native.Mathlib.Omega.{arith}
 use mathlib.Core.Path.{refl}
 use Prim.Native.Nat.{_+_, _*_, _-_, _≤_}
 use Rattle.count.specs.Truth.{clash}
+use Rattle.router_notes.specs.Limits.{vertexLimit}
 use Rattle.router_ends.specs.View.{run, Low}
 use Rattle.router_loop.specs.Promise.{After}
 use Rattle.router_loop.specs.Loop.{after-none, all-done, pass, ended}
@@ -17,11 +18,11 @@ use Rattle.router_step.proofs.step.Reads as step-reads
 
 abbrev Inv-loop : tie.InvT-loop
 Inv-loop la₀ lb₀ ids₀ side₀ vert₀ half₀ s1₀ s2₀ d1₀ d2₀ lo₀ hi w₀ t₀ la lb ids side vert half s1 s2 d1 d2 lo w t =
-    (t ≤ 1024) × (w .top ≤ 31) × (w .bottom ≤ 31) × (w .n ≤ 64 + t) × (w .next ≤ 64 + 2 * t)
+    (t ≤ vertexLimit) × (w .top ≤ 31) × (w .bottom ≤ 31) × (w .n ≤ 64 + t) × (w .next ≤ 64 + 2 * t)
     × Low ids × After (run la₀ lb₀ ids₀ side₀ vert₀ half₀ s1₀ s2₀ d1₀ d2₀ lo₀ hi w₀) (run la lb ids side vert half s1 s2 d1 d2 lo hi w) t
 
 abbrev μ-loop : tie.MeasureT-loop
-μ-loop la₀ lb₀ ids₀ side₀ vert₀ half₀ s1₀ s2₀ d1₀ d2₀ lo₀ hi w₀ t₀ la lb ids side vert half s1 s2 d1 d2 lo w t = 1024 - t
+μ-loop la₀ lb₀ ids₀ side₀ vert₀ half₀ s1₀ s2₀ d1₀ d2₀ lo₀ hi w₀ t₀ la lb ids side vert half s1 s2 d1 d2 lo w t = vertexLimit - t
 
 -- src/lib.rt:38:5
 loop-holds : tie.Need-loop-holds Inv-loop μ-loop

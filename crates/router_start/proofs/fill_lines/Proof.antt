@@ -3,8 +3,10 @@ use borrow.Author.Needs.{needs}
 use native.Mathlib.Omega.{arith}
 use mathlib.Core.Path.{_≡_}
 use Prim.Native.Nat.{_+_, _-_, _≤_}
+use lib.ListN.{length}
 use Rattle.board.specs.View.{boardOf}
-use Rattle.router_start.specs.Lines.{boardIs, Lined, lined-none, lined-more}
+use Rattle.router_start.specs.Lines.{Lined}
+use Rattle.router_start.specs.LineLaws.{boardIs, lined-none, lined-more}
 use Rattle.router_start.proofs.fill_lines.Statement.{statement}
 use Rattle.router_start.proofs.fill_lines.Tie as tie
 use Rattle.router_start.proofs.fill_lines.Reads as reads
@@ -16,7 +18,7 @@ use Rattle.router_start.proofs.smaller.Reads as smaller-reads
 use Rattle.numbers.proofs.wide.Reads as wide-reads
 
 abbrev Inv-loop : tie.InvT-loop
-Inv-loop lo₀ hi₀ rows n l₀ l-end lo hi l = (l ≤ n + 1) × Lined (boardOf (boardIs rows n)) lo hi l
+Inv-loop lo₀ hi₀ rows n l₀ l-end lo hi l = (l ≤ n + 1) × (length lo₀ ≡ 32) × (length hi₀ ≡ 32) × Lined (boardOf (boardIs rows n)) l lo₀ hi₀ lo hi
 
 abbrev μ-loop : tie.MeasureT-loop
 μ-loop lo₀ hi₀ rows n l₀ l-end lo hi l = n + 1 - l
@@ -31,7 +33,7 @@ add-l-end c = search needs
 
 -- src/lib.rt:54:5
 loop-holds : tie.Need-loop-holds Inv-loop μ-loop
-loop-holds c = (omega arith, lined-none _ _ _ (c .before .before .pre .1 .0) (c .before .before .pre .1 .1))
+loop-holds c = (omega arith, c .before .before .pre .1 .0, c .before .before .pre .1 .1, lined-none _ _ _)
 
 -- src/lib.rt:55:26
 before-index-requires : tie.Need-before-index-requires Inv-loop μ-loop
@@ -95,7 +97,9 @@ loop-again c =
     let at-wide = at-loop .before in let wide = at-wide .wide in
     let at-args = at-wide .before .before in let args = at-args .args in (
       omega arith,
-      lined-more (boardIs (args .b .rows) (wide .result)) (omega arith) _ _ _ _ _ (loop .inv .1) (omega arith) (omega arith)
+      loop .inv .1,
+      loop .inv .2,
+      lined-more (boardIs (args .b .rows) (wide .result)) (omega arith) _ _ _ (loop .inv .3) (omega arith) (omega arith) (omega arith)
           (rw (← before-index .ensures, ← least .ensures) (smaller .ensures)) (rw (← before-index .ensures, ← least .ensures) (c .larger .ensures)),
     )
 
@@ -107,7 +111,7 @@ returns c =
     let at-args = at-wide .before .before in let args = at-args .args in
     let e : loop .l ≡ wide .result + 1 = omega arith in
     let f : wide .result ≡ args .b .count = wide .ensures .0 in
-    rw (e, f) at (loop .inv .1)
+    rw (e, f) at (loop .inv .3)
 
 pub fill-lines-spec : {M : Type 1} → statement M
 fill-lines-spec =

@@ -1,6 +1,6 @@
 -- `fill_place` takes in what a place holds.
 use native.Mathlib.Omega.{arith}
-use Rattle.router_start.specs.Table.{takes-none, takes-pair}
+use mathlib.Core.Path.{refl}
 use borrow.Author.Needs.{needs}
 use Rattle.router_start.proofs.fill_place.Statement.{statement}
 use Rattle.router_start.proofs.fill_place.Tie as tie
@@ -26,13 +26,13 @@ add-result c = search needs
 
 -- src/lib.rt:99:1
 returns : tie.Need-returns
-returns c = rw (c .enum-told .given .1) (takes-none _ _ _ _ _ _)
+returns c = rw (c .enum-told .given .1) (refl, refl, refl, refl, refl, refl)
 
 -- src/lib.rt:99:1
 returns-2 : tie.Need-returns-2
 returns-2 c =
     let at-held = c .before .before .before .before .before .before .before in let held = at-held .held in
-    rw (held .given .1) (takes-pair _ _ _ _ _ _ _ _ _ _ _ _ (c .fill-row .ensures))
+    rw (held .given .1) (refl, c .fill-row .ensures)
 
 pub fill-place-spec : {M : Type 1} → statement M
 fill-place-spec =

@@ -4,6 +4,7 @@ use Prim.Native.Nat.{ℕ, _≤_}
 use mathlib.Core.Path.{_≡_, sym}
 use lib.ListN.{length-take, length-replicate}
 use lib.Seq.{length-take-le}
+use Rattle.router_notes.specs.Limits.{pathLimit}
 use Rattle.router_writer.specs.Nets.{net-few, net-written}
 use borrow.Author.Needs.{needs}
 use Rattle.router_writer.proofs.write_net.Statement.{statement}
@@ -21,13 +22,13 @@ least-requires : tie.Need-least-requires
 least-requires c κs = search needs
 
 array-share-prefix-dirs : tie.Need-array-share-prefix-dirs
-array-share-prefix-dirs c = omega (arith, c .before .before .assemble .ensures .kept, length-replicate {A = ℕ} 2048 0, c .before .least .ensures)
+array-share-prefix-dirs c = omega (arith, c .before .before .assemble .ensures .kept, length-replicate {A = ℕ} pathLimit 0, c .before .least .ensures)
 
 slice-aggregate-write-path : tie.Need-slice-aggregate-write-path
 slice-aggregate-write-path c =
     let at-least = c .before .before in let least = at-least .least in
     let at-assemble = at-least .before in let assemble = at-assemble .assemble in
-    sym (length-take-le _ _ (omega (arith, assemble .ensures .kept, length-replicate {A = ℕ} 2048 0, least .ensures)))
+    sym (length-take-le _ _ (omega (arith, assemble .ensures .kept, length-replicate {A = ℕ} pathLimit 0, least .ensures)))
 
 write-path-requires : tie.Need-write-path-requires
 write-path-requires c κs =
@@ -45,10 +46,10 @@ returns c =
     let at-assemble = at-least .before in let assemble = at-assemble .assemble in
     let at-args = at-assemble .before .before .before in let args = at-args .args in
     let a = args in
-    let low : least .result ≤ 2048 = omega (arith, least .ensures) in
-    let met : assemble .result ≤ 2048 → least .result ≡ assemble .result = λ h. omega (arith, least .ensures) in (
-      net-few (a .net) (assemble .ensures) (length-replicate {A = ℕ} 2048 0) low met (write-path .ensures),
-      net-written (a .net) (assemble .ensures) (length-replicate {A = ℕ} 2048 0) low met (write-path .ensures),
+    let low : least .result ≤ pathLimit = omega (arith, least .ensures) in
+    let met : assemble .result ≤ pathLimit → least .result ≡ assemble .result = λ h. omega (arith, least .ensures) in (
+      net-few (a .net) (assemble .ensures) (length-replicate {A = ℕ} pathLimit 0) low met (write-path .ensures),
+      net-written (a .net) (assemble .ensures) (length-replicate {A = ℕ} pathLimit 0) low met (write-path .ensures),
     )
 
 pub write-net-spec : {M : Type 1} → statement M

@@ -1,9 +1,10 @@
 -- `write_paths` goes through the 64 places: `Through` holds at each turn of the loop.
 use borrow.Author.Needs.{needs}
 use native.Mathlib.Omega.{arith}
-use mathlib.Core.Path.{_≡_}
+use mathlib.Core.Path.{_≡_, _∙_}
 use Prim.Native.Nat.{_-_, _<_, _≤_}
 use lib.ListN.{length}
+use Rattle.router_notes.specs.Limits.{pairLimit}
 use Rattle.router_trace.specs.Traces.{pathD}
 use Rattle.router_writer.specs.Through.{Through, through-none, through-next, through-all}
 use Rattle.router_writer.proofs.write_paths.Statement.{statement}
@@ -19,7 +20,7 @@ use Rattle.router_writer.proofs.write_place.Reads as write-place-reads
 
 abbrev Inv-loop : tie.InvT-loop
 Inv-loop side vert half s1 s2 d1 d2 out₀ nets at₀ k₀ i₀ out at k i = (i ≤ 64) × (length nets ≡ 64)
-    × Through (pathD side vert half s1 s2 d1 d2 2112) nets out₀ at k i out
+    × Through (pathD side vert half s1 s2 d1 d2 pairLimit) nets out₀ at k i out
 
 abbrev μ-loop : tie.MeasureT-loop
 μ-loop side vert half s1 s2 d1 d2 out₀ nets at₀ k₀ i₀ out at k i = 64 - i
@@ -30,7 +31,7 @@ loop-holds c =
       omega arith,
       search needs,
       through-none (pathD (a .side .now) (a .vert .now) (a .half .now) (a .s1 .now) (a .s2 .now) (a .d1 .now)
-          (a .d2 .now) 2112) (a .t8) (a .out .now),
+          (a .d2 .now) pairLimit) (a .t8) (a .out .now),
     )
 
 mul-place : tie.Need-mul-place Inv-loop μ-loop
@@ -90,7 +91,7 @@ loop-again c =
       search needs,
       at .inv .1,
       rw (c .held-count .ensures .0)
-          (through-next (pathD (a .side .now) (a .vert .now) (a .half .now) (a .s1 .now) (a .s2 .now) (a .d1 .now) (a .d2 .now) 2112) (a .t8)
+          (through-next (pathD (a .side .now) (a .vert .now) (a .half .now) (a .s1 .now) (a .s2 .now) (a .d1 .now) (a .d2 .now) pairLimit) (a .t8)
           (a .out .now) (at .out) (w .last .1 .1 .1 .1 .1 .1 .1 .1 .1 .1 .0) (at .at) (at .k) (at .i) (least .result) (w .result) there (at .inv .2)
           (omega (arith, least .ensures)) (λ h. omega (arith, least .ensures)) (w .ensures .0) (w .kept .1 .1 .1 .1 .1 .1 .1 .1 .1 .1 .0)
           (rw (number-at .ensures) at (w .ensures .1))),
@@ -120,8 +121,9 @@ returns c =
     let a = args in
     let at = loop in
     let all : length (a .t8) ≤ at .i = search needs in
-    λ s. rw (put .ensures) (through-all (pathD (a .side .now) (a .vert .now) (a .half .now) (a .s1 .now) (a .s2 .now) (a .d1 .now) (a .d2 .now) 2112)
-    (a .t8) (at .inv .2) all (pack-routing-end .ensures) s)
+    let w = through-all (pathD (a .side .now) (a .vert .now) (a .half .now) (a .s1 .now) (a .s2 .now) (a .d1 .now) (a .d2 .now) pairLimit)
+    (a .t8) (at .inv .2) all (pack-routing-end .ensures) (at-args .pre .short) in
+    (w .counted, put .ensures ∙ w .text (at-args .pre .room))
 
 pub write-paths-spec : {M : Type 1} → statement M
 write-paths-spec =
