@@ -7,7 +7,7 @@ use Prim.Native.Nat.{ℕ, suc, _+_, _-_}
 use native.Mathlib.Omega.{arith}
 use lib.Dec.{leb, ltb}
 use borrow.Author.Tests.{leb-true, le-leb, ltb-true, lt-ltb}
-use Rattle.count.specs.Truth.{and-true, and-yes, or-true, or-left, or-right}
+use Rattle.count.specs.TruthLaws.{and-true, and-yes, or-true, or-left, or-right}
 use Rattle.board.specs.Board.{
   Board,
   height,

@@ -4,7 +4,7 @@ use mathlib.Core.Path.{_≡_}
 use mathlib.Core.Logic.{inl, inr}
 use Prim.Native.Nat.{ℕ, _≤_, _<_, min, max}
 use native.Mathlib.Omega.{arith}
-use Rattle.count.specs.Truth.{le-or-lt}
+use Rattle.count.specs.TruthLaws.{le-or-lt}
 use Rattle.board.specs.Board.{Board, Within, height}
 use Rattle.board_convex.specs.Form.{Contains, Nested, width, NeverRegrow}
 

@@ -4,7 +4,7 @@ use mathlib.Core.Path.{_≡_, refl}
 use mathlib.Core.Bool.{true, false}
 use mathlib.Core.Logic.{_↔_}
 use Prim.Native.Nat.{_-_}
-use Rattle.count.specs.Truth.{and-true, and-yes}
+use Rattle.count.specs.TruthLaws.{and-true, and-yes}
 use Rattle.board.specs.Board.{Board, Within, height}
 use Rattle.board.specs.Path.{Convex}
 use Rattle.board_convex.specs.Test.{peels, innermost, inLimits, isConvex}

@@ -7,7 +7,7 @@ use mathlib.Core.List.{[], _∷_}
 use mathlib.Core.Logic.{_⊎_, inl, inr}
 use Prim.Native.Nat.{ℕ, zero, suc, _<_}
 use native.Mathlib.Omega.{arith}
-use Rattle.count.specs.Truth.{clash}
+use Rattle.count.specs.TruthLaws.{clash}
 use Rattle.board.specs.Board.{Board, height, Within, Cell, at, top-right, IsVertex, top-side, right-side}
 use Rattle.board.specs.Path.{Path, turn, turns, Convex}
 use Rattle.board.specs.Degree.{belowRight, belowLeft, aboveRight, aboveLeft, vertex?, edge?, degree, pins}

@@ -8,7 +8,7 @@ use Prim.Native.Nat.{ℕ, zero, suc, _≤_, _<_}
 use native.Mathlib.Omega.{arith}
 use lib.Dec.{leb, ltb}
 use borrow.Author.Tests.{leb-true, le-leb, ltb-true, lt-ltb}
-use Rattle.count.specs.Truth.{and-true, and-yes, le-or-lt}
+use Rattle.count.specs.TruthLaws.{and-true, and-yes, le-or-lt}
 use Rattle.board.specs.Board.{Board, Within, height}
 use Rattle.board.specs.declared.Row.{Row}
 use Rattle.board_convex.specs.Test.{row, rowsFit, inLimits}

@@ -7,7 +7,7 @@ use Prim.Native.Nat.{ℕ, zero, suc, _-_, _≤_, _<_}
 use native.Mathlib.Omega.{arith}
 use lib.Dec.{ltb}
 use borrow.Author.Tests.{ltb-true, ltb-false}
-use Rattle.count.specs.Truth.{bool, le-or-lt}
+use Rattle.count.specs.TruthLaws.{bool, le-or-lt}
 use Rattle.board.specs.Board.{Board, Within, height, left, right, at, edge, IsVertex, IsEdge}
 use Rattle.board.specs.Path.{next, along, Convex}
 use Rattle.board.specs.declared.Vertex.{Vertex}

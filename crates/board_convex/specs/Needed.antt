@@ -4,7 +4,7 @@ use mathlib.Core.Path.{_≡_}
 use mathlib.Core.Logic.{_⊎_, inl, inr}
 use Prim.Native.Nat.{ℕ, suc, _≤_, _<_}
 use native.Mathlib.Omega.{arith}
-use Rattle.count.specs.Truth.{le-or-lt}
+use Rattle.count.specs.TruthLaws.{le-or-lt}
 use Rattle.board.specs.Board.{Board, Within, height, left, right, at, IsVertex}
 use Rattle.board.specs.Path.{Convex}
 use Rattle.board.specs.declared.Vertex.{Vertex}

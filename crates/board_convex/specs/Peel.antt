@@ -8,7 +8,7 @@ use Prim.Native.Nat.{ℕ, zero, suc, _+_, _-_, _≤_, _<_}
 use native.Mathlib.Omega.{arith}
 use lib.Dec.{leb}
 use borrow.Author.Tests.{leb-true, le-leb}
-use Rattle.count.specs.Truth.{bool, clash, and-true, and-yes, le-or-lt}
+use Rattle.count.specs.TruthLaws.{bool, clash, and-true, and-yes, le-or-lt}
 use Rattle.board.specs.Board.{Board, Within, height, left, right}
 use Rattle.board.specs.declared.Row.{Row}
 use Rattle.board_convex.specs.Form.{Contains, Nested, NeverRegrow}

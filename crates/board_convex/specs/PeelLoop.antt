@@ -6,7 +6,7 @@ use mathlib.Core.List.{List}
 use Prim.Native.Nat.{ℕ, suc, _+_, _-_, _≤_, _<_}
 use native.Mathlib.Omega.{arith}
 use native.Mathlib.Numerals.{add-one}
-use Rattle.count.specs.Truth.{and-assoc}
+use Rattle.count.specs.TruthLaws.{and-assoc}
 use Rattle.board.specs.declared.Row.{Row}
 use Rattle.board_convex.specs.Test.{row, contains?, peels}
 

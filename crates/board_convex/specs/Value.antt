@@ -7,7 +7,8 @@ use native.Mathlib.Omega.{arith}
 use lib.Dec.{leb}
 use Rattle.board.specs.Board.{Within}
 use Rattle.board.specs.declared.Board as code
-use Rattle.board.specs.View.{boardOf, height-of, row-of}
+use Rattle.board.specs.View.{boardOf}
+use Rattle.board.specs.ViewLaws.{height-of, row-of}
 use Rattle.board_convex.specs.Test.{rowsFit, peels, innermost, inLimits, isConvex}
 use Rattle.board_convex.specs.Limits.{in-limits, rows-fit-same}
 use Rattle.board_convex.specs.Peel.{peels-same}

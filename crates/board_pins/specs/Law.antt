@@ -8,7 +8,8 @@ use Prim.Native.Nat.{ℕ, zero, suc, _+_, _-_, _*_, _≤_, _<_, max}
 use native.Mathlib.Omega.{arith}
 use lib.Dec.{ltb}
 use borrow.Author.Tests.{lt-ltb, le-ltb}
-use Rattle.count.specs.Truth.{one, one-le, le-or-lt}
+use Rattle.count.specs.Truth.{one}
+use Rattle.count.specs.TruthLaws.{one-le, le-or-lt}
 use Rattle.count.specs.Sum.{sum, sum-suc, sum-zero}
 use Rattle.count.specs.Sums.{sum-tail}
 use Rattle.board.specs.Board.{Board, Within, height}

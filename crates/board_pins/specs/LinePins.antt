@@ -6,7 +6,8 @@ use mathlib.Core.Bool.{false}
 use mathlib.Core.Logic.{_↔_}
 use Prim.Native.Nat.{ℕ, zero, suc, _+_, _-_, _*_, _≤_, _<_}
 use native.Mathlib.Omega.{arith}
-use Rattle.count.specs.Truth.{one, not-true}
+use Rattle.count.specs.Truth.{one}
+use Rattle.count.specs.TruthLaws.{not-true}
 use Rattle.count.specs.Sum.{sum, sum-eq, count, count-interval}
 use Rattle.count.specs.Sums.{sum-add, sum-none}
 use Rattle.board.specs.Board.{Board, Within, height, left, right, at, edge, IsEdge}

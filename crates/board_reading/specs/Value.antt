@@ -21,7 +21,8 @@ use Rattle.net.specs.declared.Held.the-variants.{Nothing, Ends}
 use Rattle.net.specs.declared.Place.{Place}
 use Rattle.session_rules.specs.Session.{Session, netOf}
 use Rattle.net_places.specs.Places.{holding, netsOf}
-use Rattle.net_places.specs.Nets.{heldAs, net-of}
+use Rattle.net_places.specs.Nets.{heldAs}
+use Rattle.net_places.specs.NetsLaws.{net-of}
 use Rattle.session.specs.Value.{withPlaces, freshOf, blankBoard}
 use Rattle.session.specs.declared.Session as code
 use Rattle.call_rules.specs.Result.{Result, no, yes}

@@ -8,7 +8,7 @@ use native.Mathlib.Omega.{arith}
 use lib.Dec.{eqb}
 use lib.ListN.{length}
 use borrow.Author.Tests.{leb-false, eqb-true, not-false}
-use Rattle.count.specs.Truth.{clash, and-true, or-false}
+use Rattle.count.specs.TruthLaws.{clash, and-true, or-false}
 use Rattle.board.specs.declared.Row.{Row}
 use Rattle.net.specs.declared.Net.{Net}
 use Rattle.session_rules.specs.Refusal.{line, firstRefusal}

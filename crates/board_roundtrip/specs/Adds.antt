@@ -7,7 +7,7 @@ use mathlib.Core.Option.{Option, none, some}
 use Prim.Native.Nat.{ℕ, suc, _≤_, _<_}
 use native.Mathlib.Omega.{arith}
 use borrow.Author.Tests.{le-ltb}
-use Rattle.count.specs.Truth.{clash, and-true, and-yes}
+use Rattle.count.specs.TruthLaws.{clash, and-true, and-yes}
 use Rattle.count.specs.Each.{each-append}
 use Rattle.board_block.specs.Block.{Block}
 use Rattle.net.specs.declared.Net.{Net}

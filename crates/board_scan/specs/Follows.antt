@@ -12,7 +12,7 @@ use lib.Dec.{leb, ltb, eqb}
 use lib.ListN.{length, set, replicate, length-append}
 use lib.Seq.{set-append-seam}
 use borrow.Author.Tests.{lt-ltb, leb-false}
-use Rattle.count.specs.Truth.{bool, clash}
+use Rattle.count.specs.TruthLaws.{bool, clash}
 use Rattle.board.specs.Board.{noRow}
 use Rattle.board.specs.declared.Row.{Row}
 use Rattle.session_rules.specs.Refusal.{Refusal, refusal, firstRefusal}

@@ -11,7 +11,7 @@ use lib.Dec.{ltb, eqb}
 use lib.ListN.{length, drop, getD}
 use lib.Seq.{drop-cons, drop-length}
 use borrow.Author.Tests.{ne-eqb, ltb-false}
-use Rattle.count.specs.Truth.{bool, clash, or-right}
+use Rattle.count.specs.TruthLaws.{bool, clash, or-right}
 use Rattle.session_rules.specs.Refusal.{refusal, line, firstRefusal}
 use Rattle.words.specs.BoardWord.{boardWord}
 use Rattle.words.specs.declared.BoardWord.{BoardWord}

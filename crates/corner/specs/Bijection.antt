@@ -6,7 +6,7 @@ use mathlib.Core.List.{List}
 use mathlib.Core.Logic.{inl, inr}
 use Prim.Native.Nat.{ℕ, suc}
 use native.Mathlib.Omega.{arith}
-use Rattle.count.specs.Truth.{not-true}
+use Rattle.count.specs.TruthLaws.{not-true}
 use Rattle.board.specs.Board.{Board, at, Edge, edge, IsEdge}
 use Rattle.board.specs.declared.Vertex.{Vertex}
 use Rattle.board.specs.declared.Direction.{Direction}

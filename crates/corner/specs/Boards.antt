@@ -4,7 +4,8 @@ use mathlib.Core.Path.{_≡_, ap}
 use mathlib.Core.List.{List, []}
 use Prim.Native.Nat.{_+_, _≤_}
 use native.Mathlib.Omega.{arith}
-use Rattle.count.specs.Truth.{one, one-le}
+use Rattle.count.specs.Truth.{one}
+use Rattle.count.specs.TruthLaws.{one-le}
 use Rattle.board.specs.Board.{Board, at, IsVertex}
 use Rattle.board.specs.Degree.{edge?, degree}
 use Rattle.board.specs.declared.Vertex.{Vertex}

@@ -4,7 +4,8 @@ use mathlib.Core.Path.{_≡_, ap}
 use mathlib.Core.Bool.{_&&_}
 use Prim.Native.Nat.{ℕ, suc, _+_, _≤_, _<_, min, max}
 use native.Mathlib.Omega.{arith}
-use Rattle.count.specs.Truth.{not-true, and-true, one}
+use Rattle.count.specs.Truth.{one}
+use Rattle.count.specs.TruthLaws.{not-true, and-true}
 use Rattle.cut.specs.declared.Cut.the-variants.{Row}
 use Rattle.count.specs.Bits.{and-bit}
 use Rattle.count.specs.Sums.{sum-interval}

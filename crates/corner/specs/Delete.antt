@@ -7,7 +7,8 @@ use Prim.Native.Nat.{ℕ, zero, suc, _+_, _*_, _<_}
 use native.Mathlib.Omega.{arith}
 use lib.Dec.{leb, eqb}
 use borrow.Author.Tests.{ne-eqb}
-use Rattle.count.specs.Truth.{clash, one}
+use Rattle.count.specs.Truth.{one}
+use Rattle.count.specs.TruthLaws.{clash}
 use Rattle.count.specs.Sum.{sum, sum-eq}
 use Rattle.board.specs.Board.{at}
 use Rattle.net.specs.Terminals.{same}

@@ -6,7 +6,7 @@ use mathlib.Core.List.{List, [], map}
 use mathlib.Core.Logic.{inl, inr}
 use Prim.Native.Nat.{_+_, _≤_}
 use native.Mathlib.Omega.{arith}
-use Rattle.count.specs.Truth.{bool, clash}
+use Rattle.count.specs.TruthLaws.{bool, clash}
 use Rattle.count.specs.Lists.{upTo}
 use Rattle.board.specs.Board.{Board, Within, at, IsVertex}
 use Rattle.board.specs.Degree.{vertex?, degree}

@@ -8,7 +8,8 @@ use Prim.Native.Nat.{ℕ, zero, suc, _+_, _-_, _*_, _≤_, _<_, min, max}
 use native.Mathlib.Omega.{arith}
 use lib.Dec.{leb, eqb}
 use borrow.Author.Tests.{eqb-true, le-leb, lt-leb, eq-eqb}
-use Rattle.count.specs.Truth.{clash, not-true, bool-eq, and-true, and-yes, one, le-or-lt}
+use Rattle.count.specs.Truth.{one}
+use Rattle.count.specs.TruthLaws.{clash, not-true, bool-eq, and-true, and-yes, le-or-lt}
 use Rattle.count.specs.Sum.{sum-eq}
 use Rattle.board.specs.Board.{at}
 use Rattle.board.specs.declared.Vertex.{Vertex}

@@ -6,7 +6,8 @@ use mathlib.Core.List.{List}
 use mathlib.Core.Logic.{_⊎_, inl, inr}
 use Prim.Native.Nat.{ℕ, _+_, _-_, _*_, _≤_}
 use native.Mathlib.Omega.{arith}
-use Rattle.count.specs.Truth.{one, le-or-lt}
+use Rattle.count.specs.Truth.{one}
+use Rattle.count.specs.TruthLaws.{le-or-lt}
 use Rattle.board.specs.Board.{at}
 use Rattle.net.specs.declared.Pair.{Pair}
 use Rattle.net.specs.Terminals.{same}

@@ -8,7 +8,8 @@ use Prim.Native.Nat.{ℕ, suc, _+_, _-_, _*_, _≤_, _<_}
 use native.Mathlib.Omega.{arith}
 use lib.Dec.{leb, eqb}
 use borrow.Author.Tests.{leb-true, eqb-true, le-leb, lt-leb, eq-eqb}
-use Rattle.count.specs.Truth.{and-true, and-yes, one}
+use Rattle.count.specs.Truth.{one}
+use Rattle.count.specs.TruthLaws.{and-true, and-yes}
 use Rattle.count.specs.Sum.{sum, sum-suc}
 use Rattle.board.specs.Board.{at}
 use Rattle.board.specs.declared.Vertex.{Vertex}

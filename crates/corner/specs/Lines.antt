@@ -7,7 +7,8 @@ use Prim.Native.Nat.{ℕ, suc, pred, _≤_, _<_, min}
 use native.Mathlib.Omega.{arith}
 use lib.Dec.{leb}
 use borrow.Author.Tests.{leb-true, le-leb}
-use Rattle.count.specs.Truth.{not-true, bool-eq, and-true, and-yes, one, le-or-lt, eq-or-ne}
+use Rattle.count.specs.Truth.{one}
+use Rattle.count.specs.TruthLaws.{not-true, bool-eq, and-true, and-yes, le-or-lt, eq-or-ne}
 use Rattle.board.specs.Board.{Board, height, left, right, Within, Cell, at, IsVertex}
 use Rattle.board.specs.Degree.{edge?, degree}
 use Rattle.board.specs.declared.Vertex.{Vertex}

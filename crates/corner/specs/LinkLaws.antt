@@ -5,7 +5,8 @@ use mathlib.Core.Bool.{true, false}
 use mathlib.Core.Logic.{_⊎_, inl, inr, _↔_}
 use Prim.Native.Nat.{ℕ, zero, suc, _-_}
 use native.Mathlib.Omega.{arith}
-use Rattle.count.specs.Truth.{bool, clash, not-true, bool-eq, and-true, and-yes, one}
+use Rattle.count.specs.Truth.{one}
+use Rattle.count.specs.TruthLaws.{bool, clash, not-true, bool-eq, and-true, and-yes}
 use Rattle.count.specs.Sum.{count}
 use Rattle.board.specs.Board.{Board, Within, at, Edge, edge, IsVertex, IsEdge}
 use Rattle.board.specs.Path.{next, along}

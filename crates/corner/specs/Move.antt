@@ -7,7 +7,8 @@ use mathlib.Core.Logic.{_⊎_, inl, inr}
 use Prim.Native.Nat.{ℕ, suc, _+_, _*_, _≤_, _<_}
 use native.Mathlib.Omega.{arith}
 use borrow.Author.Tests.{le-leb, lt-leb}
-use Rattle.count.specs.Truth.{bool, clash, not-true, bool-eq, one, le-or-lt}
+use Rattle.count.specs.Truth.{one}
+use Rattle.count.specs.TruthLaws.{bool, clash, not-true, bool-eq, le-or-lt}
 use Rattle.board.specs.Board.{at}
 use Rattle.board.specs.declared.Vertex.{Vertex}
 use Rattle.net.specs.declared.Pair.{Pair}

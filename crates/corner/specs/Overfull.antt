@@ -10,7 +10,7 @@ use lib.Dec.{T, ltb}
 use lib.IntN.{pos, negsuc, _-ℤ_}
 use lib.Signed.{ltZ}
 use borrow.Author.Tests.{le-leb, ltb-true, ltb-false, lt-ltb, le-ltb}
-use Rattle.count.specs.Truth.{le-or-lt}
+use Rattle.count.specs.TruthLaws.{le-or-lt}
 use Rattle.count.specs.Lists.{upTo}
 use Rattle.board.specs.Board.{Board, height, Within, IsVertex}
 use Rattle.board.specs.declared.Vertex.{Vertex}

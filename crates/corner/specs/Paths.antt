@@ -6,7 +6,8 @@ use mathlib.Core.List.{List, [], _∷_, _++_, map, flatten}
 use mathlib.Core.Logic.{inl, inr}
 use Prim.Native.Nat.{_+_, _≤_}
 use native.Mathlib.Omega.{arith}
-use Rattle.count.specs.Truth.{bool, clash, not-true, one, one-le}
+use Rattle.count.specs.Truth.{one}
+use Rattle.count.specs.TruthLaws.{bool, clash, not-true, one-le}
 use Rattle.board.specs.Board.{Board, Edge, IsEdge}
 use Rattle.board.specs.Path.{next, along, Path}
 use Rattle.board.specs.declared.Vertex.{Vertex}

@@ -8,7 +8,7 @@ use Prim.Native.Nat.{ℕ, suc, pred, _-_, _≤_, _<_, min, max}
 use native.Mathlib.Omega.{arith}
 use lib.Dec.{leb}
 use borrow.Author.Tests.{leb-true, le-leb}
-use Rattle.count.specs.Truth.{bool-eq, and-true, and-yes}
+use Rattle.count.specs.TruthLaws.{bool-eq, and-true, and-yes}
 use Rattle.count.specs.Bits.{eq-case}
 use Rattle.corner.specs.Shape.{last, Shape, present, Shaped}
 use Rattle.corner.specs.Presence.{last-suc, present-yes, present-true}

@@ -6,7 +6,8 @@ use mathlib.Core.List.{List, [], _∷_}
 use mathlib.Core.Logic.{inl, inr}
 use Prim.Native.Nat.{_≤_, min}
 use native.Mathlib.Omega.{arith}
-use Rattle.count.specs.Truth.{bool, one, le-or-lt}
+use Rattle.count.specs.Truth.{one}
+use Rattle.count.specs.TruthLaws.{bool, le-or-lt}
 use Rattle.board.specs.declared.Vertex.{Vertex}
 use Rattle.net.specs.declared.Pair.{Pair}
 use Rattle.corner.specs.Trails.{Link, lo, hi, sameLink, Walk, used, Trails, total, sharers, Routed, Disjoint}

@@ -8,7 +8,8 @@ use Prim.Native.Nat.{ℕ, zero, suc, _+_, _-_, _≤_, _<_}
 use native.Mathlib.Omega.{arith}
 use lib.Dec.{leb, eqb}
 use borrow.Author.Tests.{leb-true, eqb-true, le-leb, lt-leb, eq-eqb}
-use Rattle.count.specs.Truth.{not-true, bool-eq, and-true, and-yes, one, le-or-lt}
+use Rattle.count.specs.Truth.{one}
+use Rattle.count.specs.TruthLaws.{not-true, bool-eq, and-true, and-yes, le-or-lt}
 use Rattle.board.specs.Board.{at}
 use Rattle.board.specs.declared.Vertex.{Vertex}
 use Rattle.net.specs.declared.Pair.{Pair}

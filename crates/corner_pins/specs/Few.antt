@@ -7,7 +7,8 @@ use mathlib.Core.Logic.{inl, inr}
 use Prim.Native.Nat.{_+_, _*_, _≤_}
 use native.Mathlib.Omega.{arith}
 use lib.ListN.{length}
-use Rattle.count.specs.Truth.{bool, one, clash, not-true}
+use Rattle.count.specs.Truth.{one}
+use Rattle.count.specs.TruthLaws.{bool, clash, not-true}
 use Rattle.count.specs.Parity.{odd-case}
 use Rattle.board.specs.Board.{Board, Within, IsVertex}
 use Rattle.board.specs.Degree.{vertex?, degree, pins}

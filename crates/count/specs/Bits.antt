@@ -7,7 +7,8 @@ use Prim.Native.Nat.{ℕ, suc, _+_, _≤_, _<_, _*_}
 use native.Mathlib.Omega.{arith}
 use lib.Dec.{leb, eqb}
 use borrow.Author.Tests.{leb-true, leb-false, eqb-true, eqb-false, le-leb, lt-leb, eq-eqb}
-use Rattle.count.specs.Truth.{bool, bool-eq, one}
+use Rattle.count.specs.Truth.{one}
+use Rattle.count.specs.TruthLaws.{bool, bool-eq}
 
 -- a test that passes, and what it tells; a test that fails
 abbrev pub Yes : Bool → Type 0 → Type 0

@@ -7,7 +7,7 @@ use mathlib.Core.Logic.{inl, inr}
 use Prim.Native.Nat.{ℕ, zero, suc, _+_, _≤_, _<_}
 use native.Mathlib.Omega.{arith}
 use lib.ListN.{length}
-use Rattle.count.specs.Truth.{bool, eq-or-ne}
+use Rattle.count.specs.TruthLaws.{bool, eq-or-ne}
 use Rattle.count.specs.Lists.{rising, upTo, select}
 
 -- DEFINITION: every element obeys P

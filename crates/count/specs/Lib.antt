@@ -1,4 +1,5 @@
 pub mod Truth
+pub mod TruthLaws
 pub mod Sum
 pub mod Lists
 pub mod Bits

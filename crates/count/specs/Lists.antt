@@ -8,7 +8,7 @@ use mathlib.Core.Option.{Option, none, some}
 use Prim.Native.Nat.{ℕ, zero, suc, _+_, _-_, _≤_, _<_}
 use native.Mathlib.Omega.{arith}
 use lib.ListN.{length, getD}
-use Rattle.count.specs.Truth.{bool, le-or-lt}
+use Rattle.count.specs.TruthLaws.{bool, le-or-lt}
 
 -- DEFINITION: i, i + 1, .., n of them
 abbrev pub rising : ℕ → ℕ → List ℕ

@@ -5,7 +5,8 @@ use mathlib.Core.Bool.{Bool, true, false}
 use mathlib.Core.Logic.{inl, inr, _↔_}
 use Prim.Native.Nat.{ℕ, zero, suc, _+_, _≤_, _<_, min}
 use native.Mathlib.Omega.{arith}
-use Rattle.count.specs.Truth.{bool, clash, one, one-le, le-or-lt}
+use Rattle.count.specs.Truth.{one}
+use Rattle.count.specs.TruthLaws.{bool, clash, one-le, le-or-lt}
 
 unfoldable pub sum : ℕ → (ℕ → ℕ) → ℕ
 sum zero f = 0

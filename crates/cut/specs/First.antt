@@ -9,7 +9,7 @@ use Prim.Native.Nat.{ℕ, _+_, _%_, _≤_, _<_}
 use native.Mathlib.Omega.{arith}
 use lib.Dec.{eqb}
 use borrow.Author.Tests.{eqb-true, eq-eqb}
-use Rattle.count.specs.Truth.{clash, not-true, and-true, and-yes, le-or-lt, eq-or-ne}
+use Rattle.count.specs.TruthLaws.{clash, not-true, and-true, and-yes, le-or-lt, eq-or-ne}
 use Rattle.count.specs.Lists.{upTo, none-append, first-append, none-map, first-map, none-flat, first-flat, Ordered, first-only, head-is}
 use Rattle.board.specs.Board.{Board, Within, height, at, IsVertex}
 use Rattle.board.specs.Degree.{vertex?, degree}

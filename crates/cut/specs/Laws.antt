@@ -10,7 +10,8 @@ use lib.Dec.{T, ltb}
 use borrow.Author.Tests.{lt-ltb, le-ltb}
 use lib.IntN.{ℤ, pos, negsuc, _-ℤ_}
 use lib.Signed.{ltZ, _<ℤ_}
-use Rattle.count.specs.Truth.{clash, le-or-lt, one, one-le}
+use Rattle.count.specs.Truth.{one}
+use Rattle.count.specs.TruthLaws.{clash, le-or-lt, one-le}
 use Rattle.count.specs.Sum.{count}
 use Rattle.count.specs.Lists.{tally}
 use Rattle.board.specs.Board.{Board}

@@ -8,7 +8,7 @@ use native.Mathlib.Omega.{arith}
 use lib.Dec.{ltb}
 use lib.ListN.{List·getD-eq-default}
 use borrow.Author.Tests.{ltb-false}
-use Rattle.count.specs.Truth.{bool, not-true}
+use Rattle.count.specs.TruthLaws.{bool, not-true}
 use Rattle.count.specs.Sum.{count, count-shorter}
 use Rattle.board.specs.Board.{Board, height, right, noRow, at, IsVertex}
 use Rattle.board.specs.Degree.{vertex?, edge?}

@@ -7,7 +7,7 @@ use Prim.Native.Nat.{ℕ, suc, _+_, _≤_, _<_}
 use native.Mathlib.Omega.{arith}
 use lib.Dec.{leb, ltb}
 use borrow.Author.Tests.{leb-true, le-leb, ltb-true, lt-ltb}
-use Rattle.count.specs.Truth.{and-true, and-yes, not-true, bool-eq}
+use Rattle.count.specs.TruthLaws.{and-true, and-yes, not-true, bool-eq}
 use Rattle.count.specs.Sum.{count, count-eq, count-shorter, count-interval}
 use Rattle.board.specs.Board.{Board, Within, height, left, right, at}
 use Rattle.board.specs.Path.{Convex}

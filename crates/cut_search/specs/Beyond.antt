@@ -7,7 +7,7 @@ use mathlib.Core.Option.{none}
 use Prim.Native.Nat.{ℕ, _-_, _≤_, min}
 use native.Mathlib.Omega.{arith}
 use borrow.Author.Tests.{le-leb}
-use Rattle.count.specs.Truth.{not-true}
+use Rattle.count.specs.TruthLaws.{not-true}
 use Rattle.count.specs.Lists.{rising, upTo, select, select-append, first, none-map, none-flat}
 use Rattle.board.specs.Board.{Board, at}
 use Rattle.board.specs.Degree.{vertex?}

@@ -10,7 +10,7 @@ use lib.Dec.{eqb}
 use lib.ListN.{length, take, drop, getD, drop-of-length-le}
 use lib.Seq.{drop-cons}
 use borrow.Author.Tests.{ne-eqb}
-use Rattle.count.specs.Truth.{and-assoc}
+use Rattle.count.specs.TruthLaws.{and-assoc}
 use Rattle.board.specs.declared.Direction.{Direction}
 use Rattle.net.specs.View.{nothing}
 use Rattle.net.specs.declared.Net.{Net}

@@ -8,7 +8,7 @@ use native.Mathlib.Omega.{arith}
 use lib.Dec.{eqb, ltb}
 use lib.ListN.{length, take}
 use borrow.Author.Tests.{eq-eqb, ne-eqb, lt-ltb}
-use Rattle.count.specs.Truth.{or-right}
+use Rattle.count.specs.TruthLaws.{or-right}
 use Rattle.session_rules.specs.Refusal.{refusal}
 use Rattle.session_rules.specs.Session.{Session}
 use Rattle.session_rules.specs.Sound.{sound?}

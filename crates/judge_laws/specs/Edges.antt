@@ -9,7 +9,8 @@ use native.Mathlib.Omega.{arith}
 use lib.Dec.{eqb}
 use lib.ListN.{length}
 use borrow.Author.Tests.{eq-eqb, ne-eqb}
-use Rattle.count.specs.Truth.{bool, clash, one, one-le, eq-or-ne}
+use Rattle.count.specs.Truth.{one}
+use Rattle.count.specs.TruthLaws.{bool, clash, one-le, eq-or-ne}
 use Rattle.count.specs.Sum.{sum}
 use Rattle.count.specs.Sums.{sum-add}
 use Rattle.count.specs.Bits.{digits-apart}

@@ -9,7 +9,7 @@ use native.Mathlib.Omega.{arith}
 use lib.ListN.{length, length-append, length-map}
 use lib.Seq.{drop-at}
 use borrow.Author.Tests.{ne-eqb, le-ltb}
-use Rattle.count.specs.Truth.{bool}
+use Rattle.count.specs.TruthLaws.{bool}
 use Rattle.board.specs.Board.{Board, Within, Edge}
 use Rattle.board.specs.declared.Direction.{Direction}
 use Rattle.net.specs.declared.Net.{Net}

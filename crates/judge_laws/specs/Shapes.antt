@@ -11,7 +11,7 @@ use lib.Dec.{eqb}
 use lib.ListN.{length, length-map}
 use lib.Seq.{take-at, drop-at}
 use borrow.Author.Tests.{eqb-true, eqb-false}
-use Rattle.count.specs.Truth.{bool, or-left, or-right}
+use Rattle.count.specs.TruthLaws.{bool, or-left, or-right}
 use Rattle.board.specs.declared.Direction.{Direction}
 use Rattle.net.specs.declared.Net.{Net}
 use Rattle.words.specs.RoutingWord.{routingWord, pathWord, runWord, routingEndWord, pathIn, pathWords, pathsWords}

@@ -11,7 +11,7 @@ use native.Mathlib.Omega.{arith}
 use lib.Dec.{eqb}
 use lib.ListN.{length}
 use borrow.Author.Tests.{eqb-true}
-use Rattle.count.specs.Truth.{bool}
+use Rattle.count.specs.TruthLaws.{bool}
 use Rattle.board.specs.Board.{Board, Within, Edge, IsEdge, at, Side, top-side, bottom-side, left-side, right-side}
 use Rattle.board.specs.Path.{next, along, number, Path}
 use Rattle.board.specs.declared.Vertex.{Vertex}

@@ -9,7 +9,8 @@ use native.Mathlib.Omega.{arith}
 use lib.Dec.{ltb}
 use lib.ListN.{replicate}
 use borrow.Author.Tests.{ltb-false, le-ltb}
-use Rattle.count.specs.Truth.{bool, one}
+use Rattle.count.specs.Truth.{one}
+use Rattle.count.specs.TruthLaws.{bool}
 use Rattle.board.specs.Board.{Board, Edge, IsEdge}
 use Rattle.board.specs.Path.{next, along, Path}
 use Rattle.board.specs.Degree.{edge?}

@@ -11,7 +11,8 @@ use lib.Dec.{ltb, eqb}
 use lib.ListN.{length, drop, getD, set, replicate, length-set, drop-of-length-le}
 use lib.Seq.{drop-cons, getD-set-same, getD-set-other}
 use borrow.Author.Tests.{lt-ltb, ltb-true}
-use Rattle.count.specs.Truth.{bool, clash, one}
+use Rattle.count.specs.Truth.{one}
+use Rattle.count.specs.TruthLaws.{bool, clash}
 use Rattle.count.specs.Bits.{digits-apart}
 use Rattle.board.specs.Board.{at}
 use Rattle.board.specs.Path.{number, turns}
@@ -23,7 +24,7 @@ use Rattle.words.specs.declared.Run.{Run}
 use Rattle.call_rules.specs.Report.{turnsAt}
 use Rattle.judge_shape.specs.declared.Last.{Last}
 use Rattle.judge_shape.specs.declared.Last.the-variants.{Nothing, Was}
-use Rattle.net.specs.Grid.{length-changed, changed-same, changed-other}
+use Rattle.net.specs.GridLaws.{length-changed, changed-same, changed-other}
 use Rattle.judge_report.specs.Traces.{turnBy, traceRun, begin, marked, markAt, markRun}
 use Rattle.judge_report.specs.Directions.{dirsOf, edges-run, turnsAfter, turns-run, turnsFrom, from-run}
 use Rattle.judge_report.specs.Codes.{Coding, before, code-turn, code-done, Says}

@@ -12,7 +12,7 @@ use lib.Dec.{ltb, eqb}
 use lib.ListN.{length, drop, getD, drop-of-length-le}
 use lib.Seq.{drop-cons, drop-length}
 use borrow.Author.Tests.{lt-ltb, ltb-true, ne-eqb}
-use Rattle.count.specs.Truth.{bool}
+use Rattle.count.specs.TruthLaws.{bool}
 use Rattle.net.specs.View.{nothing}
 use Rattle.net.specs.declared.Net.{Net}
 use Rattle.net.specs.declared.Held.{Held}

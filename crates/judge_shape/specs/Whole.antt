@@ -10,7 +10,7 @@ use native.Mathlib.Omega.{arith}
 use lib.Dec.{eqb, ltb}
 use lib.ListN.{length}
 use borrow.Author.Tests.{ltb-false}
-use Rattle.count.specs.Truth.{bool, clash, or-right}
+use Rattle.count.specs.TruthLaws.{bool, clash, or-right}
 use Rattle.net.specs.declared.Net.{Net}
 use Rattle.session_rules.specs.Refusal as machine
 use Rattle.session_rules.specs.Refusal.{refusal}

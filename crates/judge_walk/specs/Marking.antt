@@ -10,7 +10,8 @@ use lib.Dec.{eqb}
 use lib.ListN.{set, replicate, length-set, length-replicate, getD-replicate}
 use lib.Seq.{getD-set-same, getD-set-other}
 use borrow.Author.Tests.{lt-ltb, eq-eqb, ne-eqb}
-use Rattle.count.specs.Truth.{bool, clash, one}
+use Rattle.count.specs.Truth.{one}
+use Rattle.count.specs.TruthLaws.{bool, clash}
 use Rattle.board.specs.Board.{Board, Within, Edge, IsEdge, at, Side, top-side, bottom-side, left-side, right-side}
 use Rattle.board.specs.Path.{along}
 use Rattle.board.specs.EdgesAt.{edge-eq}

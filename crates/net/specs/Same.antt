@@ -5,7 +5,7 @@ use mathlib.Core.Bool.{true}
 use mathlib.Core.Logic.{_↔_}
 use lib.Dec.{eqb}
 use borrow.Author.Tests.{eqb-true, eq-eqb}
-use Rattle.count.specs.Truth.{and-true}
+use Rattle.count.specs.TruthLaws.{and-true}
 use Rattle.count.specs.Bits.{eqb-sym}
 use Rattle.board.specs.declared.Vertex.{Vertex}
 use Rattle.net.specs.Terminals.{same}

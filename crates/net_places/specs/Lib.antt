@@ -1,3 +1,5 @@
 pub mod Numbered
+pub mod NumberedLaws
 pub mod Places
 pub mod Nets
+pub mod NetsLaws

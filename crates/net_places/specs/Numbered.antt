@@ -1,11 +1,8 @@
--- DEFINITIONS: the entry of a number n from 1 on, at index n - 1 of a list, read and replaced. Number 0 has none; nor has one past the end.
--- Assumes nothing.
-use mathlib.Core.Path.{_≡_, refl, sym}
+-- Definitions only: the entry of a number n from 1 on, at index n - 1 of a list, read and replaced. Number 0 has none; nor has one past the end.
+-- Nothing is proved here: NumberedLaws has the laws.
 use mathlib.Core.List.{List}
-use Prim.Native.Nat.{ℕ, zero, suc, _-_, _<_, _≤_}
-use native.Mathlib.Omega.{arith}
-use lib.ListN.{length, getD, set, length-set, List·getD-eq-default}
-use lib.Seq.{set-out}
+use Prim.Native.Nat.{ℕ, zero, suc, _-_}
+use lib.ListN.{getD, set}
 
 abbrev pub entry : {A : Type 0} → List A → ℕ → A → A
 entry xs zero d = d
@@ -19,28 +16,3 @@ replaced xs (suc i) x = set xs i x
 abbrev pub indexOf : ℕ → ℕ
 indexOf zero = 255
 indexOf (suc i) = i
-
-pub index-of : (n : ℕ) → 0 < n → n - 1 ≡ indexOf n
-index-of zero h = absurd (omega arith)
-index-of (suc i) h = omega arith
-
-module _ {A : Type 0} where
-  pub entry-in : (xs : List A) (n i : ℕ) (d : A) → i ≡ indexOf n → i < 64 → getD xs i d ≡ entry xs n d
-  entry-in xs zero i d e h = absurd (omega arith)
-  entry-in xs (suc k) i d e h = rw e refl
-
-  pub entry-out : (xs : List A) (n i : ℕ) (d : A) → i ≡ indexOf n → 64 ≤ i → length xs ≡ 64 → d ≡ entry xs n d
-  entry-out xs zero i d e h l = refl
-  entry-out xs (suc k) i d e h l = sym (List·getD-eq-default xs d (omega arith))
-
-  pub replaced-in : (xs : List A) (n i : ℕ) (x : A) → i ≡ indexOf n → i < 64 → set xs i x ≡ replaced xs n x
-  replaced-in xs zero i x e h = absurd (omega arith)
-  replaced-in xs (suc k) i x e h = rw e refl
-
-  pub replaced-out : (xs : List A) (n i : ℕ) (x : A) → i ≡ indexOf n → 64 ≤ i → length xs ≡ 64 → xs ≡ replaced xs n x
-  replaced-out xs zero i x e h l = refl
-  replaced-out xs (suc k) i x e h l = sym (set-out xs k x (omega arith))
-
-  pub length-replaced : (xs : List A) (n : ℕ) (x : A) → length (replaced xs n x) ≡ length xs
-  length-replaced xs zero x = refl
-  length-replaced xs (suc i) x = length-set xs i x

@@ -8,14 +8,17 @@ use Prim.Native.Nat.{ℕ, _+_, _*_, _≤_, _<_}
 use native.Mathlib.Omega.{arith}
 use lib.ListN.{length, getD, drop, replicate, length-replicate, getD-replicate}
 use borrow.Author.Tests.{lt-ltb}
-use Rattle.count.specs.Truth.{bool, one}
+use Rattle.count.specs.Truth.{one}
+use Rattle.count.specs.TruthLaws.{bool}
 use Rattle.count.specs.Lists.{tally}
 use Rattle.board.specs.Board.{at}
 use Rattle.board.specs.declared.Vertex.{Vertex}
 use Rattle.net.specs.Terminals.{same, ends, terminals}
 use Rattle.net.specs.Same.{same-exact}
-use Rattle.net.specs.Grid.{changedAt, length-changed, changed-same, changed-other}
-use Rattle.net.specs.View.{nothing, pairsOf, heldEnds, tally-more, tally-none, terminals-tally}
+use Rattle.net.specs.Grid.{changedAt}
+use Rattle.net.specs.GridLaws.{length-changed, changed-same, changed-other}
+use Rattle.net.specs.View.{nothing, pairsOf, heldEnds}
+use Rattle.net.specs.ViewLaws.{tally-more, tally-none, terminals-tally}
 use Rattle.net.specs.declared.Held.{Held}
 use Rattle.net.specs.declared.Held.the-variants.{Nothing, Ends}
 use Rattle.net.specs.declared.Place.{Place}

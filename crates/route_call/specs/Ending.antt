@@ -9,7 +9,8 @@ use Prim.Native.Nat.{ℕ, suc, _+_, _≤_, _<_}
 use native.Mathlib.Omega.{arith}
 use lib.Dec.{leb}
 use lib.ListN.{length, getD, replicate, length-map, length-append, List·getD-append}
-use Rattle.count.specs.Truth.{bool, one, one-le, and-true, and-yes}
+use Rattle.count.specs.Truth.{one}
+use Rattle.count.specs.TruthLaws.{bool, one-le, and-true, and-yes}
 use Rattle.board.specs.Board.{Board, height, Within}
 use Rattle.board.specs.Path.{Convex}
 use Rattle.board.specs.declared.Vertex.{Vertex}

@@ -10,7 +10,7 @@ use lib.ListN.{length, getD, set}
 use lib.Seq.{getD-set-same, getD-set-other}
 use lib.Dec.{eqb, ltb}
 use borrow.Author.Tests.{eqb-true, eqb-false, ltb-true, ltb-false}
-use Rattle.count.specs.Truth.{bool, eq-or-ne, le-or-lt}
+use Rattle.count.specs.TruthLaws.{bool, eq-or-ne, le-or-lt}
 use Rattle.count.specs.Sum.{sum-zero, sum-suc}
 use Rattle.corner.specs.Pairs.{apart}
 use Rattle.corner.specs.Apart.{apart-le}

@@ -7,7 +7,7 @@ use mathlib.Core.Logic.{_⊎_, inl, inr}
 use Prim.Native.Nat.{ℕ, _+_, _-_, _*_, _%_, _≤_, _<_}
 use native.Mathlib.Omega.{arith}
 use lib.ListN.{getD, set}
-use Rattle.count.specs.Truth.{eq-or-ne, le-or-lt}
+use Rattle.count.specs.TruthLaws.{eq-or-ne, le-or-lt}
 use Rattle.router_table.specs.Scans.{First, seenD}
 use Rattle.router_table.specs.Writes.{Moved}
 use Rattle.router_invariant.specs.Run.{Run, lineR, colR, ulR, nulR, bulR, bulW}

@@ -8,7 +8,7 @@ use Prim.Native.Nat.{ℕ, _+_, _*_, _≤_, _<_}
 use native.Mathlib.Omega.{arith}
 use lib.ListN.{getD, set}
 use lib.Dec.{eqb}
-use Rattle.count.specs.Truth.{bool}
+use Rattle.count.specs.TruthLaws.{bool}
 use Rattle.router_table.specs.Scans.{First, swapD}
 use Rattle.router_table.specs.Writes.{Split}
 use Rattle.router_invariant.specs.Run.{Run, lineR, colR, ulR, bulW}

@@ -10,7 +10,7 @@ use lib.ListN.{length, set}
 use lib.Seq.{getD-set-same, getD-set-other}
 use lib.Dec.{ltb}
 use borrow.Author.Tests.{eq-eqb, ne-eqb, lt-ltb, ltb-true}
-use Rattle.count.specs.Truth.{bool, clash, and-yes}
+use Rattle.count.specs.TruthLaws.{bool, clash, and-yes}
 use Rattle.board.specs.declared.Vertex.{Vertex}
 use Rattle.net.specs.Terminals.{same}
 use Rattle.cut.specs.Cut.{side}

@@ -8,7 +8,7 @@ use native.Mathlib.Omega.{arith}
 use lib.ListN.{getD}
 use lib.Dec.{eqb, leb}
 use borrow.Author.Tests.{eq-eqb, eqb-true, le-leb, leb-true}
-use Rattle.count.specs.Truth.{bool-eq}
+use Rattle.count.specs.TruthLaws.{bool-eq}
 use Rattle.count.specs.Bits.{eq-case}
 use Rattle.count.specs.Sum.{sum-eq}
 use Rattle.board.specs.declared.Vertex.{Vertex}

@@ -9,7 +9,7 @@ use native.Mathlib.Omega.{arith}
 use lib.ListN.{getD, set}
 use lib.Seq.{getD-set-same, getD-set-other}
 use borrow.Author.Tests.{le-leb}
-use Rattle.count.specs.Truth.{and-yes}
+use Rattle.count.specs.TruthLaws.{and-yes}
 use Rattle.net.specs.Terminals.{same}
 use Rattle.cut.specs.Cut.{side}
 use Rattle.corner.specs.Taking.{all-take}

@@ -9,7 +9,8 @@ use native.Mathlib.Omega.{arith}
 use lib.ListN.{length, getD}
 use lib.Dec.{eqb}
 use borrow.Author.Tests.{eq-eqb, ne-eqb, eqb-true}
-use Rattle.count.specs.Truth.{one, clash, bool-eq, le-or-lt}
+use Rattle.count.specs.Truth.{one}
+use Rattle.count.specs.TruthLaws.{clash, bool-eq, le-or-lt}
 use Rattle.count.specs.Bits.{eq-case}
 use Rattle.count.specs.Sum.{sum, sum-eq}
 use Rattle.count.specs.Sums.{sum-none, sum-get}

@@ -9,7 +9,8 @@ use native.Mathlib.Omega.{arith}
 use lib.ListN.{getD}
 use lib.Dec.{leb}
 use borrow.Author.Tests.{le-leb, lt-leb}
-use Rattle.count.specs.Truth.{one, le-or-lt}
+use Rattle.count.specs.Truth.{one}
+use Rattle.count.specs.TruthLaws.{le-or-lt}
 use Rattle.count.specs.Bits.{le-case}
 use Rattle.count.specs.Sums.{sum-none}
 use Rattle.board.specs.Board.{at}

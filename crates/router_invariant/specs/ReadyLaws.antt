@@ -7,7 +7,7 @@ use Prim.Native.Nat.{ℕ, suc, _+_, _-_, _*_, _≤_, _<_}
 use native.Mathlib.Omega.{arith}
 use lib.ListN.{set}
 use borrow.Author.Tests.{le-leb}
-use Rattle.count.specs.Truth.{and-yes}
+use Rattle.count.specs.TruthLaws.{and-yes}
 use Rattle.board.specs.declared.Vertex.{Vertex}
 use Rattle.corner.specs.Taking.{all-take}
 use Rattle.corner.specs.Shape.{Shape, present, Here, Top, Shaped, last, UL, NUL, BUL}

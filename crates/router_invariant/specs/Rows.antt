@@ -9,7 +9,7 @@ use lib.ListN.{length, getD, set, length-set}
 use lib.Seq.{getD-set-same, getD-set-other}
 use lib.Dec.{eqb}
 use borrow.Author.Tests.{eqb-true, eqb-false}
-use Rattle.count.specs.Truth.{bool}
+use Rattle.count.specs.TruthLaws.{bool}
 use Rattle.count.specs.Bits.{eq-case}
 use Rattle.corner.specs.Shape.{last}
 use Rattle.router_notes.specs.Notes.{Move, start, finish, Item, Moved}

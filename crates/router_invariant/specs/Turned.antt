@@ -7,7 +7,7 @@ use mathlib.Core.Logic.{inl, inr}
 use Prim.Native.Nat.{_+_, _-_, _≤_, _<_}
 use native.Mathlib.Omega.{arith}
 use borrow.Author.Tests.{le-leb, lt-leb}
-use Rattle.count.specs.Truth.{le-or-lt}
+use Rattle.count.specs.TruthLaws.{le-or-lt}
 use Rattle.board.specs.declared.Vertex.{Vertex}
 use Rattle.cut.specs.Cut.{side}
 use Rattle.corner.specs.Shape.{Shape, Top, Line, last}

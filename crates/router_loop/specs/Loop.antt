@@ -7,7 +7,7 @@ use mathlib.Core.Logic.{_⊎_, inl, inr}
 use Prim.Native.Nat.{ℕ, zero, suc, _+_, _-_, _≤_, _<_}
 use native.Mathlib.Omega.{arith}
 use lib.ListN.{length, getD}
-use Rattle.count.specs.Truth.{clash}
+use Rattle.count.specs.TruthLaws.{clash}
 use Rattle.corner.specs.Shape.{vertices, Top}
 use Rattle.router_notes.specs.Limits.{pairLimit, lastPair, vertexLimit}
 use Rattle.router_notes.specs.State.{State}

@@ -9,7 +9,7 @@ use native.Mathlib.Omega.{arith}
 use lib.ListN.{length, getD, set}
 use lib.Seq.{getD-set-same, getD-set-other}
 use lib.Dec.{eqb}
-use Rattle.count.specs.Truth.{bool-eq}
+use Rattle.count.specs.TruthLaws.{bool-eq}
 use Rattle.count.specs.Bits.{eq-case}
 use Rattle.net.specs.declared.Pair.{Pair}
 use Rattle.corner.specs.Tallies.{all-map}

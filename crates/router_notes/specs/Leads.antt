@@ -6,7 +6,8 @@ use mathlib.Core.List.{[]}
 use mathlib.Core.Logic.{inl, inr}
 use Prim.Native.Nat.{ℕ, suc, _+_, _≤_, _<_}
 use native.Mathlib.Omega.{arith}
-use Rattle.count.specs.Truth.{one, bool, clash, and-true, and-yes}
+use Rattle.count.specs.Truth.{one}
+use Rattle.count.specs.TruthLaws.{bool, clash, and-true, and-yes}
 use Rattle.count.specs.Bits.{eq-case, one-imply, and-off}
 use Rattle.count.specs.Sums.{sum-none}
 use Rattle.board.specs.declared.Vertex.{Vertex}

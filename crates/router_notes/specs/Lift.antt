@@ -6,7 +6,8 @@ use mathlib.Core.Logic.{inl, inr}
 use Prim.Native.Nat.{ℕ, zero, suc, _+_, _-_, _≤_, _<_}
 use native.Mathlib.Omega.{arith}
 use lib.Dec.{eqb}
-use Rattle.count.specs.Truth.{one, eq-or-ne}
+use Rattle.count.specs.Truth.{one}
+use Rattle.count.specs.TruthLaws.{eq-or-ne}
 use Rattle.count.specs.Bits.{eq-case}
 use Rattle.count.specs.Sum.{sum, sum-eq, sum-suc}
 use Rattle.corner.specs.Trails.{Link, sameLink}

@@ -9,7 +9,8 @@ use native.Mathlib.Numerals.{add-one}
 use lib.ListN.{length, getD, set}
 use Rattle.count.specs.Lists.{upTo, length-rising, getD-rising, rising-snoc}
 use Rattle.board.specs.Board.{Board, height, noRow}
-use Rattle.board.specs.View.{boardOf, height-of, left-of, right-of}
+use Rattle.board.specs.View.{boardOf}
+use Rattle.board.specs.ViewLaws.{height-of, left-of, right-of}
 use Rattle.board.specs.declared.Row.{Row}
 use Rattle.board.specs.declared.Board as code
 use Rattle.corner.specs.Lines.{linesOf}

@@ -7,7 +7,7 @@ use Prim.Native.Nat.{ℕ, zero, suc, _+_, _≤_, _<_}
 use native.Mathlib.Omega.{arith}
 use native.Mathlib.Numerals.{add-one}
 use lib.ListN.{length, getD, set, take, length-append, length-map, List·getD-map}
-use Rattle.count.specs.Truth.{le-or-lt}
+use Rattle.count.specs.TruthLaws.{le-or-lt}
 use Rattle.count.specs.Lists.{rising, upTo}
 use Rattle.net.specs.View.{nothing, heldThen, pairsOf}
 use Rattle.net.specs.declared.Pair.{Pair}

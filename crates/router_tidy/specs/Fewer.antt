@@ -8,7 +8,8 @@ use Prim.Native.Nat.{ℕ, zero, suc, _+_, _*_, _≤_, _<_}
 use native.Mathlib.Omega.{arith}
 use native.Mathlib.Numerals.{add-one}
 use lib.ListN.{length, getD, set}
-use Rattle.count.specs.Truth.{one, one-le}
+use Rattle.count.specs.Truth.{one}
+use Rattle.count.specs.TruthLaws.{one-le}
 use Rattle.count.specs.Sum.{sum, sum-eq}
 use Rattle.count.specs.Sums.{sum-le, sum-get, sum-const}
 use Rattle.corner.specs.Shape.{size, last, Shape, present, vertices, Shaped, narrow, lower}

@@ -9,7 +9,7 @@ use native.Mathlib.Omega.{arith}
 use lib.ListN.{getD}
 use lib.Dec.{ltb, eqb}
 use borrow.Author.Tests.{eq-eqb, ne-eqb, le-leb, lt-leb}
-use Rattle.count.specs.Truth.{bool}
+use Rattle.count.specs.TruthLaws.{bool}
 use Rattle.corner.specs.Shape.{last, Good}
 use Rattle.router_notes.specs.State.{State, Routes}
 use Rattle.router_notes.specs.Leads.{leads-refl, leads-end}

@@ -7,7 +7,7 @@ use Prim.Native.Nat.{ℕ, zero, suc, _+_, _-_, _≤_, _<_}
 use native.Mathlib.Omega.{arith}
 use lib.ListN.{length, getD, set}
 use lib.Seq.{getD-set-same, getD-set-other}
-use Rattle.count.specs.Truth.{eq-or-ne, le-or-lt}
+use Rattle.count.specs.TruthLaws.{eq-or-ne, le-or-lt}
 use Rattle.router_notes.specs.Limits.{pairLimit}
 use Rattle.router_notes.specs.State.{State}
 use Rattle.router_table.specs.Writes.{Dropped}

@@ -8,7 +8,8 @@ use native.Mathlib.Omega.{arith}
 use lib.Dec.{ltb}
 use lib.ListN.{length, length-append}
 use borrow.Author.Tests.{lt-ltb}
-use Rattle.count.specs.Truth.{bool, one}
+use Rattle.count.specs.Truth.{one}
+use Rattle.count.specs.TruthLaws.{bool}
 use Rattle.count.specs.Sum.{sum, sum-zero, sum-suc, sum-eq}
 use Rattle.count.specs.Sums.{sum-get}
 use Rattle.board.specs.Board.{Board, Within}

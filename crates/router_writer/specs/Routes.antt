@@ -7,7 +7,8 @@ use mathlib.Core.Logic.{inl, inr}
 use Prim.Native.Nat.{ℕ, zero, suc, _+_, _≤_, _<_}
 use native.Mathlib.Omega.{arith}
 use lib.ListN.{getD, length}
-use Rattle.count.specs.Truth.{bool, one}
+use Rattle.count.specs.Truth.{one}
+use Rattle.count.specs.TruthLaws.{bool}
 use Rattle.count.specs.Sum.{sum, sum-zero, sum-suc}
 use Rattle.board.specs.Board.{Board, Within}
 use Rattle.board.specs.declared.Vertex.{Vertex}

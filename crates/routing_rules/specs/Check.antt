@@ -8,7 +8,8 @@ use Prim.Native.Nat.{_≤_}
 use native.Mathlib.Omega.{arith}
 use lib.Dec.{eqb}
 use borrow.Author.Tests.{eqb-true, eq-eqb}
-use Rattle.count.specs.Truth.{bool, clash, one, and-true, and-yes}
+use Rattle.count.specs.Truth.{one}
+use Rattle.count.specs.TruthLaws.{bool, clash, and-true, and-yes}
 use Rattle.board.specs.Board.{Board, Edge}
 use Rattle.board.specs.Path.{next, Path}
 use Rattle.board.specs.Degree.{edge?}

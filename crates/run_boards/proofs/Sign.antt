@@ -11,7 +11,7 @@ use borrow.Author.Tests.{ltb-true}
 use mir.Syntax.{w32, w64}
 use mir.Val.{Fits, SFits, toZ, ofZ}
 use mir.Facts.{toZ-ofZ}
-use Rattle.count.specs.Truth.{clash}
+use Rattle.count.specs.TruthLaws.{clash}
 use Rattle.cut.proofs.Signed.{small}
 
 -- what a cast to u64 asks

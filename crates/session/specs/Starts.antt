@@ -15,7 +15,7 @@ use Rattle.session.specs.declared.Session.{Session}
 use Rattle.session.specs.View.{sessionOf}
 use Rattle.session.specs.Value.{freshOf, blankBoard}
 use Rattle.session.specs.Promise.{FreshPromise, BlankPromise}
-use Rattle.session_sound.specs.OneByOne.{nets-none}
+use Rattle.session_sound.specs.OneByOneLaws.{nets-none}
 
 fresh-is-bare : (b : code.Block) → sessionOf (freshOf b) ≡ bare (blockOf b)
 unfolding freshOf pileOf changesOf

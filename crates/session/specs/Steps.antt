@@ -9,7 +9,7 @@ use native.Mathlib.Omega.{arith}
 use lib.Dec.{eqb}
 use lib.ListN.{length}
 use borrow.Author.Tests.{eqb-true, eqb-false}
-use Rattle.count.specs.Truth.{bool, and-true}
+use Rattle.count.specs.TruthLaws.{bool, and-true}
 use Rattle.board_block.specs.View.{blockOf}
 use Rattle.net.specs.declared.Net.{Net}
 use Rattle.net.specs.declared.Change.the-variants.{Added, Withdrawn}
@@ -22,7 +22,8 @@ use Rattle.session_rules.specs.Machine.{add, withdraw, takeBack, addStep, withd
 use Rattle.session_rules.specs.Sound.{liftable?, lifts?, Sound}
 use Rattle.net_places.specs.Numbered.{replaced}
 use Rattle.net_places.specs.Places.{net, holding, netsOf, placeAt}
-use Rattle.net_places.specs.Nets.{heldAs, net-of, remove-of}
+use Rattle.net_places.specs.Nets.{heldAs}
+use Rattle.net_places.specs.NetsLaws.{net-of, remove-of}
 use Rattle.session_pile.specs.Pile.{pileOf, topOf, lifted}
 use Rattle.session_pile.specs.Changes.{laid-pile, pile-top, pile-empty, length-pile}
 use Rattle.session.specs.declared.Session.{Session}

@@ -6,7 +6,7 @@ use mathlib.Core.List.{List, [], _∷_}
 use Prim.Native.Nat.{_≤_, _<_}
 use lib.Dec.{leb}
 use borrow.Author.Tests.{leb-true, leb-false, le-leb, lt-leb, not-false}
-use Rattle.count.specs.Truth.{clash, and-true}
+use Rattle.count.specs.TruthLaws.{clash, and-true}
 use Rattle.board.specs.Degree.{vertex?}
 use Rattle.board_block.specs.Block.{Block, pinsOf}
 use Rattle.net.specs.Terminals.{same, terminals}

@@ -6,7 +6,7 @@ use mathlib.Core.List.{List, [], _∷_}
 use Prim.Native.Nat.{ℕ, suc, _+_, _≤_}
 use native.Mathlib.Omega.{arith}
 use borrow.Author.Tests.{ne-eqb}
-use Rattle.count.specs.Truth.{and-true, and-yes}
+use Rattle.count.specs.TruthLaws.{and-true, and-yes}
 use Rattle.board.specs.declared.Vertex.{Vertex}
 use Rattle.board_block.specs.Block.{Block, pinsOf}
 use Rattle.net.specs.Terminals.{ends, terminals}

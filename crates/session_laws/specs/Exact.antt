@@ -7,7 +7,7 @@ use mathlib.Core.Logic.{_↔_}
 use lib.Dec.{leb}
 use lib.ListN.{length}
 use borrow.Author.Tests.{leb-true, le-leb}
-use Rattle.count.specs.Truth.{and-true}
+use Rattle.count.specs.TruthLaws.{and-true}
 use Rattle.board_convex.specs.Test.{isConvex}
 use Rattle.board_convex.specs.Exact.{is-convex}
 use Rattle.session_rules.specs.Session.{Session}

@@ -9,7 +9,7 @@ use Prim.Native.Nat.{ℕ, _+_, _≤_}
 use native.Mathlib.Omega.{arith}
 use lib.Dec.{eqb, ltb}
 use borrow.Author.Tests.{eqb-true}
-use Rattle.count.specs.Truth.{clash, and-true}
+use Rattle.count.specs.TruthLaws.{clash, and-true}
 use Rattle.board.specs.Degree.{vertex?}
 use Rattle.board.specs.declared.Vertex.{Vertex}
 use Rattle.board_block.specs.Block.{Block, pinsOf}

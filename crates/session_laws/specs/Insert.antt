@@ -8,7 +8,7 @@ use Prim.Native.Nat.{ℕ, _+_, _≤_}
 use native.Mathlib.Omega.{arith}
 use lib.Dec.{eqb, ltb}
 use borrow.Author.Tests.{eq-eqb, eqb-true}
-use Rattle.count.specs.Truth.{or-left, or-right, or-false}
+use Rattle.count.specs.TruthLaws.{or-left, or-right, or-false}
 use Rattle.board.specs.declared.Vertex.{Vertex}
 use Rattle.net.specs.Terminals.{ends, terminals}
 use Rattle.net.specs.Same.{same-self}

@@ -9,7 +9,7 @@ use Prim.Native.Nat.{ℕ, suc, _≤_, _<_}
 use native.Mathlib.Omega.{arith}
 use lib.Dec.{eqb, ltb}
 use borrow.Author.Tests.{ltb-true, ltb-false, eqb-true, eqb-false, lt-ltb, le-ltb, ne-eqb}
-use Rattle.count.specs.Truth.{bool, clash, and-true, le-or-lt}
+use Rattle.count.specs.TruthLaws.{bool, clash, and-true, le-or-lt}
 use Rattle.net.specs.declared.Net.{Net}
 use Rattle.session_rules.specs.Session.{holds, insert, remove, netOf}
 use Rattle.session_rules.specs.Sound.{rising?}

@@ -9,7 +9,7 @@ use native.Mathlib.Numerals.{add-one}
 use lib.ListN.{length, getD, set, take, drop, length-drop, List·getD-append}
 use lib.Seq.{getD-set-same, getD-set-other, getD-drop, getD-at, take-all}
 use borrow.Author.Tests.{lt-ltb, le-ltb}
-use Rattle.count.specs.Truth.{le-or-lt}
+use Rattle.count.specs.TruthLaws.{le-or-lt}
 use Rattle.net.specs.declared.Change.{Change}
 use Rattle.session_rules.specs.Machine.{lay}
 use Rattle.net_places.specs.Numbered.{entry}

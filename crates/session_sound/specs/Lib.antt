@@ -1,2 +1,3 @@
 pub mod Reverse
 pub mod OneByOne
+pub mod OneByOneLaws

@@ -6,7 +6,7 @@ use mathlib.Core.List.{List}
 use Prim.Native.Nat.{_<_}
 use native.Mathlib.Omega.{arith}
 use lib.ListN.{length}
-use Rattle.count.specs.Truth.{and-assoc}
+use Rattle.count.specs.TruthLaws.{and-assoc}
 use Rattle.board_block.specs.Block.{Block}
 use Rattle.net.specs.declared.Net.{Net}
 use Rattle.net.specs.declared.Change.{Change}
@@ -17,9 +17,10 @@ use Rattle.session_rules.specs.Add.{accepts}
 use Rattle.session_rules.specs.Machine.{reversed}
 use Rattle.session_rules.specs.Sound.{liftable?, lifts?}
 use Rattle.session_laws.specs.Accept.{free-of}
-use Rattle.net_places.specs.Numbered.{replaced, length-replaced}
+use Rattle.net_places.specs.Numbered.{replaced}
+use Rattle.net_places.specs.NumberedLaws.{length-replaced}
 use Rattle.net_places.specs.Places.{holding, netsOf, reversedIn}
-use Rattle.net_places.specs.Nets.{insert-of, remove-of}
+use Rattle.net_places.specs.NetsLaws.{insert-of, remove-of}
 use Rattle.session_pile.specs.Pile.{pileOf, topOf, lifted}
 use Rattle.session_pile.specs.Changes.{pile-top, pile-empty}
 use Rattle.session_pile.specs.declared.Pile.{Pile}

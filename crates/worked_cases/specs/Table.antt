@@ -5,7 +5,7 @@ use mathlib.Core.Bool.{true, false}
 use mathlib.Core.List.{List, [], _∷_, head?}
 use mathlib.Core.Option.{some}
 use lib.IntN.{pos, negsuc}
-use Rattle.count.specs.Truth.{clash}
+use Rattle.count.specs.TruthLaws.{clash}
 use Rattle.board.specs.Board.{Board, IsVertex, at}
 use Rattle.board.specs.Path.{turns, Convex}
 use Rattle.board.specs.Degree.{pins}

@@ -1,4 +1,4 @@
-use Rattle.board.specs.View.{cell-of}
+use Rattle.board.specs.ViewLaws.{cell-of}
 use borrow.Author.Needs.{needs}
 use Rattle.board.proofs.is_cell.Statement.{statement}
 use Rattle.board.proofs.is_cell.Tie as tie

@@ -3,7 +3,8 @@ use mathlib.Core.Path.{sym, ap, _∙_}
 use native.Mathlib.Omega.{arith}
 use lib.ListN.{List·getD-eq-default}
 use Rattle.board.specs.Board.{noRow}
-use Rattle.board.specs.View.{boardOf, height-of, right-of}
+use Rattle.board.specs.View.{boardOf}
+use Rattle.board.specs.ViewLaws.{height-of, right-of}
 use Rattle.board.specs.declared.Row.{Row}
 use borrow.Author.Needs.{needs}
 use Rattle.board.proofs.right_of.Statement.{statement}

@@ -1,7 +1,7 @@
 -- `is_convex` tells whether the board is within the limits and convex.
 use native.Mathlib.Omega.{arith}
 use mathlib.Core.Path.{sym, _∙_}
-use Rattle.count.specs.Truth.{decides}
+use Rattle.count.specs.TruthLaws.{decides}
 use Rattle.board.specs.View.{boardOf}
 use Rattle.board_convex.specs.Exact.{is-convex, outside-not-convex}
 use Rattle.board_convex.specs.Test.{isConvex}

@@ -4,7 +4,7 @@ use lib.Dec.{leb}
 use borrow.Author.Tests.{leb-true}
 use mathlib.Core.Path.{_≡_, refl}
 use mathlib.Core.Bool.{true, false, _&&_}
-use Rattle.count.specs.Truth.{and-true, decides}
+use Rattle.count.specs.TruthLaws.{and-true, decides}
 use Rattle.board.specs.View.{boardOf}
 use Rattle.board_convex.specs.Test.{inLimits}
 use Rattle.board_convex.specs.Limits.{in-limits}

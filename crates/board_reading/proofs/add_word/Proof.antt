@@ -1,5 +1,6 @@
 -- `add_word` is `addedWord`.
-use Rattle.board_reading.specs.Adding.{addedWord, told-added, told-kept}
+use Rattle.board_reading.specs.Adding.{addedWord}
+use Rattle.board_reading.specs.AddingLaws.{told-added, told-kept}
 use Rattle.session_add.specs.Check.{check-answer}
 use Rattle.session_answers.specs.Answers.{addAnswer, told}
 use Rattle.net_places.specs.Places.{netsOf}

@@ -1,6 +1,6 @@
 -- `read_bytes` reads the words of the bytes.
 use native.Mathlib.Omega.{arith}
-use Rattle.board_reading.specs.Promise.{refused-read, bytes-uneven, bytes-long, bytes-words}
+use Rattle.board_reading.specs.PromiseLaws.{refused-read, bytes-uneven, bytes-long, bytes-words}
 use Rattle.call_rules.specs.Reading.{readBytes}
 use lib.Seq.{length-take-le}
 use lib.ListN.{length, length-replicate}

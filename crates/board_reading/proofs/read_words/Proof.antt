@@ -1,5 +1,5 @@
 -- `read_words` is refused as the definition refuses, and else hands back the session that the words give.
-use Rattle.board_reading.specs.Promise.{refused-read, scan-refused, bent-refused, net-refused, session-read}
+use Rattle.board_reading.specs.PromiseLaws.{refused-read, scan-refused, bent-refused, net-refused, session-read}
 use Rattle.call_rules.specs.Reading.{readWords}
 use borrow.Author.Tests.{not-true, not-false}
 use mathlib.Core.Path.{sym, _∙_}

@@ -2,7 +2,7 @@
 use native.Mathlib.Omega.{arith}
 use Rattle.board_writing.specs.Laws.{unsound-write, short-write, whole-write}
 use Rattle.session.specs.View.{sessionOf}
-use Rattle.board.specs.View.{height-of}
+use Rattle.board.specs.ViewLaws.{height-of}
 use borrow.Author.Tests.{not-true, not-false}
 use mathlib.Core.Path.{sym, _∙_}
 use borrow.Author.Needs.{needs}

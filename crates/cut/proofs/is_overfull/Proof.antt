@@ -2,7 +2,7 @@ use Rattle.cut.specs.Laws.{overfull-exact, margin-tally}
 use Rattle.cut.specs.Cut.{overfull?}
 use Rattle.net.specs.View.{pairsOf}
 use Rattle.board.specs.View.{boardOf}
-use Rattle.count.specs.Truth.{decides}
+use Rattle.count.specs.TruthLaws.{decides}
 use lib.Signed.{ltZ}
 use lib.IntN.{ℤ, pos}
 use mathlib.Core.Path.{_∙_, ap}

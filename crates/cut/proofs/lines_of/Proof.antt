@@ -1,6 +1,6 @@
 -- `lines_of` is the definition, with the height that the board holds.
 use mathlib.Core.Path.{refl}
-use Rattle.board.specs.View.{height-of}
+use Rattle.board.specs.ViewLaws.{height-of}
 use borrow.Author.Needs.{needs}
 use Rattle.cut.proofs.lines_of.Statement.{statement}
 use Rattle.cut.proofs.lines_of.Tie as tie

@@ -4,7 +4,8 @@ use Rattle.cut.specs.declared.Tally.{Tally}
 use Rattle.cut.specs.Tally.{heldCrosses}
 use Rattle.cut.specs.Laws.{with-held, held-crosses-le, crossing-tally}
 use Rattle.cut.specs.Cut.{crosses, crossing}
-use Rattle.net.specs.View.{pairsOf, nothing, tally-more, tally-none}
+use Rattle.net.specs.View.{pairsOf, nothing}
+use Rattle.net.specs.ViewLaws.{tally-more, tally-none}
 use Rattle.count.specs.Lists.{tally}
 use Rattle.count.specs.Truth.{one}
 use lib.ListN.{length, drop, getD}

@@ -6,7 +6,8 @@ use Prim.Native.Nat.{ℕ, _-_, _≤_}
 use lib.ListN.{length, drop, getD}
 use Rattle.count.specs.Truth.{one}
 use Rattle.count.specs.Lists.{tally}
-use Rattle.net.specs.View.{pairsOf, nothing, tally-more, tally-none}
+use Rattle.net.specs.View.{pairsOf, nothing}
+use Rattle.net.specs.ViewLaws.{tally-more, tally-none}
 use Rattle.cut.specs.Cut.{crosses, crossing}
 use Rattle.cut.specs.Laws.{crossing-tally}
 use Rattle.cut.specs.declared.Cut.the-variants.{Column}

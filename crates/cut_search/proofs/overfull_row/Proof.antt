@@ -5,7 +5,8 @@ use Rattle.cut.specs.declared.Cut.the-variants.{Row}
 use Rattle.cut_search.specs.Found.{overfullRows, foundCut}
 use Rattle.cut.specs.Cut.{overfull?}
 use Rattle.net.specs.View.{pairsOf}
-use Rattle.board.specs.View.{boardOf, height-of}
+use Rattle.board.specs.View.{boardOf}
+use Rattle.board.specs.ViewLaws.{height-of}
 use Rattle.count.specs.Lists.{rising, rising-more, rising-none, first, first-yes, first-no}
 use mathlib.Core.List.{map, head?}
 use mathlib.Core.Path.{_≡_, refl, ap, sym, _∙_}

@@ -1,5 +1,6 @@
 use borrow.Author.Needs.{needs}
-use Rattle.net.specs.View.{pairsOf, tally-more, tally-none, terminals-tally}
+use Rattle.net.specs.View.{pairsOf}
+use Rattle.net.specs.ViewLaws.{tally-more, tally-none, terminals-tally}
 use Rattle.net.specs.Terminals.{ends, terminals}
 use Rattle.count.specs.Lists.{tally}
 use lib.ListN.{length, drop}

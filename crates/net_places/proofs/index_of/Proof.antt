@@ -1,7 +1,7 @@
 -- `index_of` gives the index of a number.
 use native.Mathlib.Omega.{arith}
 use mathlib.Core.Path.{_≡_, refl, _∙_}
-use Rattle.net_places.specs.Numbered.{index-of}
+use Rattle.net_places.specs.NumberedLaws.{index-of}
 use borrow.Author.Needs.{needs}
 use Rattle.net_places.proofs.index_of.Statement.{statement}
 use Rattle.net_places.proofs.index_of.Tie as tie

@@ -1,5 +1,5 @@
 -- `is_held` tells whether a net of the number is held.
-use Rattle.net_places.specs.Nets.{holds-of}
+use Rattle.net_places.specs.NetsLaws.{holds-of}
 use borrow.Author.Needs.{needs}
 use Rattle.net_places.proofs.is_held.Statement.{statement}
 use Rattle.net_places.proofs.is_held.Tie as tie

@@ -1,5 +1,5 @@
 -- `is_recorded` tells whether this very net is held.
-use Rattle.net_places.specs.Nets.{recorded-of}
+use Rattle.net_places.specs.NetsLaws.{recorded-of}
 use borrow.Author.Needs.{needs}
 use Rattle.net_places.proofs.is_recorded.Statement.{statement}
 use Rattle.net_places.proofs.is_recorded.Tie as tie

@@ -1,7 +1,7 @@
 -- `place_of` gives the place of a number, an empty one where there is none.
 use native.Mathlib.Omega.{arith}
 use Rattle.net.specs.View.{nothing}
-use Rattle.net_places.specs.Numbered.{entry-in, entry-out}
+use Rattle.net_places.specs.NumberedLaws.{entry-in, entry-out}
 use borrow.Author.Needs.{needs}
 use Rattle.net_places.proofs.place_of.Statement.{statement}
 use Rattle.net_places.proofs.place_of.Tie as tie

@@ -1,6 +1,6 @@
 -- `stored` replaces the place of a number, and nothing where there is none.
 use native.Mathlib.Omega.{arith}
-use Rattle.net_places.specs.Numbered.{replaced-in, replaced-out}
+use Rattle.net_places.specs.NumberedLaws.{replaced-in, replaced-out}
 use borrow.Author.Needs.{needs}
 use Rattle.net_places.proofs.stored.Statement.{statement}
 use Rattle.net_places.proofs.stored.Tie as tie

@@ -2,7 +2,7 @@
 use native.Mathlib.Omega.{arith}
 use mathlib.Core.Path.{sym, _∙_}
 use borrow.Author.Tests.{not-true, not-false}
-use Rattle.net_places.specs.Nets.{pairs-of}
+use Rattle.net_places.specs.NetsLaws.{pairs-of}
 use Rattle.session.specs.View.{sessionOf}
 use Rattle.route_call.specs.AnswerLaws.{odd-at, none-odd, route-unsound, route-short, route-odd}
 use borrow.Author.Needs.{needs}

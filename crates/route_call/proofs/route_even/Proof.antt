@@ -1,7 +1,7 @@
 -- `route_even` names the first overfull cut, or hands back a routing.
 use native.Mathlib.Omega.{arith}
 use mathlib.Core.Path.{sym, _∙_}
-use Rattle.net_places.specs.Nets.{pairs-of}
+use Rattle.net_places.specs.NetsLaws.{pairs-of}
 use Rattle.session.specs.View.{sessionOf}
 use Rattle.route_call.specs.AnswerLaws.{overfull-at, none-overfull, route-overfull, route-given}
 use borrow.Author.Needs.{needs}

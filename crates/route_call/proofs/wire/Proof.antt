@@ -1,5 +1,5 @@
 -- `wire` starts from the table of the nets' pairs.
-use Rattle.net_places.specs.Nets.{pairs-of}
+use Rattle.net_places.specs.NetsLaws.{pairs-of}
 use Rattle.session.specs.View.{sessionOf}
 use Rattle.route_call.specs.AnswerLaws.{even-sound}
 use Rattle.route_call.specs.Starting.{clear-zeros, nets-filled}

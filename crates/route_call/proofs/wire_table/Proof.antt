@@ -3,7 +3,7 @@ use native.Mathlib.Omega.{arith}
 use mathlib.Core.Path.{sym}
 use Prim.Native.Nat.{ℕ}
 use lib.ListN.{length-replicate}
-use Rattle.board.specs.View.{height-of}
+use Rattle.board.specs.ViewLaws.{height-of}
 use Rattle.session.specs.View.{sessionOf}
 use Rattle.route_call.specs.Starting.{first-low}
 use Rattle.route_call.specs.Ending.{fits-buffer, handed-back}

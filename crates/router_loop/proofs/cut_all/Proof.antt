@@ -3,7 +3,7 @@ use borrow.Author.Needs.{needs}
 use native.Mathlib.Omega.{arith}
 use mathlib.Core.Path.{refl}
 use Prim.Native.Nat.{_+_, _*_, _-_, _≤_}
-use Rattle.count.specs.Truth.{clash}
+use Rattle.count.specs.TruthLaws.{clash}
 use Rattle.router_notes.specs.Limits.{vertexLimit}
 use Rattle.router_ends.specs.View.{run, Low}
 use Rattle.router_loop.specs.Promise.{After}

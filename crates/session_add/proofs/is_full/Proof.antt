@@ -1,5 +1,5 @@
 -- `is_full` tells whether the pins of a vertex are all taken.
-use Rattle.net_places.specs.Nets.{pairs-of}
+use Rattle.net_places.specs.NetsLaws.{pairs-of}
 use borrow.Author.Needs.{needs}
 use Rattle.session_add.proofs.is_full.Statement.{statement}
 use Rattle.session_add.proofs.is_full.Tie as tie

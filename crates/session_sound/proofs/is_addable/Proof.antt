@@ -9,9 +9,10 @@ use lib.ListN.{length, length-replicate}
 use Rattle.board_block.specs.View.{blockOf}
 use Rattle.net.specs.View.{nothing}
 use Rattle.session_rules.specs.Sound.{addable?}
-use Rattle.net_places.specs.Numbered.{length-replaced}
+use Rattle.net_places.specs.NumberedLaws.{length-replaced}
 use Rattle.net_places.specs.Places.{netsOf, placeAt}
-use Rattle.session_sound.specs.OneByOne.{restAddable, empty-place, above-next, rest-first, rest-next, rest-last}
+use Rattle.session_sound.specs.OneByOne.{restAddable}
+use Rattle.session_sound.specs.OneByOneLaws.{empty-place, above-next, rest-first, rest-next, rest-last}
 use Rattle.session_sound.proofs.is_addable.Statement.{statement}
 use Rattle.session_sound.proofs.is_addable.Tie as tie
 

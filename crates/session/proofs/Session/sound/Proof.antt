@@ -1,9 +1,9 @@
 -- `sound` decides whether the session is sound.
 use mathlib.Core.Path.{refl}
-use Rattle.count.specs.Truth.{decides}
+use Rattle.count.specs.TruthLaws.{decides}
 use Rattle.session_rules.specs.Sound.{sound?}
 use Rattle.session_laws.specs.Exact.{sound-exact}
-use Rattle.net_places.specs.Nets.{rising-of}
+use Rattle.net_places.specs.NetsLaws.{rising-of}
 use Rattle.session_pile.specs.Changes.{length-pile}
 use Rattle.session.specs.View.{sessionOf}
 use borrow.Author.Needs.{needs}

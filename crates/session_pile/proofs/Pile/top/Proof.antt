@@ -4,7 +4,7 @@ use mathlib.Core.Path.{ap, _∙_}
 use Rattle.session_pile.specs.Pile.{noSlot}
 use Rattle.session_pile.specs.declared.Slot.{Slot}
 use Rattle.session_pile.specs.Shift.{length-unmapped-by}
-use Rattle.net_places.specs.Numbered.{entry-in, entry-out}
+use Rattle.net_places.specs.NumberedLaws.{entry-in, entry-out}
 use borrow.Author.Needs.{needs}
 use Rattle.session_pile.proofs.Pile.top.Statement.{statement}
 use Rattle.session_pile.proofs.Pile.top.Tie as tie
