@@ -103,7 +103,8 @@ module _ (R0 : Run) (la lb ids side vert half s1 s2 d1 d2 lo hi : List ℕ) (w :
   all-done z s0 H Z = (refl, fresh, z, tidied s0 H Z .0)
 
   module _ (v : Work) (U : Turned lo hi fresh v) (en : v .n ≡ n) (some : 0 < n) (few : v .n < pairLimit) (room : v .next < lastPair) (R3 : Run)
-      (b : Bool) (S : colR (run la1 lb1 ids1 side vert half s1 s2 d1 d2 lo hi v) < 32 → Went (run la1 lb1 ids1 side vert half s1 s2 d1 d2 lo hi v) R3 b) where
+      (b : Bool)
+      (S : colR (run la1 lb1 ids1 side vert half s1 s2 d1 d2 lo hi v) < 32 → Went (run la1 lb1 ids1 side vert half s1 s2 d1 d2 lo hi v) R3 b) where
     abbrev R2 : Run
     R2 = run la1 lb1 ids1 side vert half s1 s2 d1 d2 lo hi v
 
