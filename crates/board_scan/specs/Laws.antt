@@ -20,7 +20,7 @@ use Rattle.call_rules.specs.Result.{Result, no, yes, unless}
 use Rattle.call_rules.specs.Reading.{Taken, nothingTaken, wordLines, take, takeWords, badLength, boardIn}
 use Rattle.board_scan.specs.Scan.{wordRefused}
 use Rattle.board_scan.specs.Promise.{takeAll, scanFor, scanned, ScanPromise}
-use Rattle.board_scan.specs.Follows.{numbered, refused-same}
+use Rattle.board_scan.specs.OneWord.{numbered, refused-same}
 use Rattle.board_scan.specs.declared.Scan.{Scan}
 use Rattle.board_scan.specs.declared.Scanned.{Scanned}
 

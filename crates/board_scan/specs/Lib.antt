@@ -1,5 +1,5 @@
 pub mod Scan
 pub mod Promise
-pub mod Follows
+pub mod OneWord
 pub mod Loop
 pub mod Laws

@@ -20,7 +20,7 @@ use Rattle.call_rules.specs.Result.{no, yes, unless}
 use Rattle.call_rules.specs.Reading.{boardLimit, Taken, nothingTaken, wordLines, take, takeWords, badLength}
 use Rattle.board_scan.specs.Scan.{wordRefused, withRow, withNet, withWord, start}
 use Rattle.board_scan.specs.Promise.{takeAll, scanFor, scanned, ScanPromise}
-use Rattle.board_scan.specs.Follows.{numbered, refused-same, follows-more}
+use Rattle.board_scan.specs.OneWord.{numbered, refused-same, taken-same}
 use Rattle.board_scan.specs.declared.Scan.{Scan}
 use Rattle.board_scan.specs.declared.Scanned.{Scanned}
 
@@ -54,7 +54,7 @@ module _ (ws : List ℕ) (i : ℕ) (s : Scan) (h : i < length ws) (H : Here ws i
     taken = take i (H .taken) (boardWord (getD ws i 0));
     rest = one-word ∙ rw e refl;
     holds = ap (λ (x : Scan). withWord x (boardWord (getD ws i 0))) (H .holds)
-        ∙ follows-more (H .taken) i (eqb i 0) (rw (H .holds) at m) (boardWord (getD ws i 0)) (rw (H .holds) at e);
+        ∙ taken-same (H .taken) i (eqb i 0) (rw (H .holds) at m) (boardWord (getD ws i 0)) (rw (H .holds) at e);
   })
 
 -- ── after the last word ──

@@ -1,4 +1,4 @@
--- DEFINITIONS: what the code computes of one word of a board, at the level of its values.
+-- Definitions only: what the code computes of one word of a board, at the level of its values. Nothing is proved here.
 use mathlib.Core.Bool.{Bool, true, false, not, cond, _&&_, _||_}
 use Prim.Native.Nat.{ℕ, _+_}
 use lib.Dec.{leb, ltb, eqb}

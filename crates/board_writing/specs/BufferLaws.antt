@@ -6,34 +6,32 @@ use Prim.Native.Nat.{ℕ, suc, _+_, _<_, _≤_}
 use native.Mathlib.Omega.{arith}
 use lib.ListN.{length, drop, set, length-append, length-drop, length-set}
 use lib.Seq.{drop-cons, set-append-seam}
-use Rattle.board_writing.specs.Buffer.{startWith, Continues}
+use Rattle.call_rules.specs.Writing.{writtenInto}
+use Rattle.board_writing.specs.Buffer.{Continues}
 
-pub start-none : {A : Type 0} (buffer : List A) → startWith [] buffer ≡ buffer
-start-none buffer = refl
-
-pub start-length : {A : Type 0} (ws buffer : List A) → length ws ≤ length buffer → length (startWith ws buffer) ≡ length buffer
+start-length : (ws buffer : List ℕ) → length ws ≤ length buffer → length (writtenInto buffer ws) ≡ length buffer
 start-length ws buffer h = omega (arith, length-append ws (drop (length ws) buffer), length-drop (length ws) buffer)
 
-pub start-more : {A : Type 0} (ws buffer : List A) (x d : A) → length ws < length buffer
-    → set (startWith ws buffer) (length ws) x ≡ startWith (ws ++ (x ∷ [])) buffer
-start-more {A} ws buffer x d h =
+start-more : (ws buffer : List ℕ) (x : ℕ) → length ws < length buffer
+    → set (writtenInto buffer ws) (length ws) x ≡ writtenInto buffer (ws ++ (x ∷ []))
+start-more ws buffer x h =
     let n : length (ws ++ (x ∷ [])) ≡ suc (length ws) = omega (arith, length-append ws (x ∷ [])) in
-    rw (drop-cons buffer (length ws) d h, n, append-assoc ws (x ∷ []) (drop (suc (length ws)) buffer))
+    rw (drop-cons buffer (length ws) 0 h, n, append-assoc ws (x ∷ []) (drop (suc (length ws)) buffer))
     (set-append-seam ws _ (drop (suc (length ws)) buffer) x)
 
 -- the same in a loop: the buffer is `out`, as many words stand in it as the index says
-pub store-next : (ws out before : List ℕ) (i x : ℕ) → length ws ≡ i → i < length before → out ≡ startWith ws before
-    → set out i x ≡ startWith (ws ++ (x ∷ [])) before
-store-next ws out before i x e h f = rw (f, ← e) (start-more ws before x 0 (omega arith))
+pub store-next : (ws out before : List ℕ) (i x : ℕ) → length ws ≡ i → i < length before → out ≡ writtenInto before ws
+    → set out i x ≡ writtenInto before (ws ++ (x ∷ []))
+store-next ws out before i x e h f = rw (f, ← e) (start-more ws before x (omega arith))
 
-pub stored-length : (ws out before : List ℕ) → length ws ≤ length before → out ≡ startWith ws before → length out ≡ length before
+pub stored-length : (ws out before : List ℕ) → length ws ≤ length before → out ≡ writtenInto before ws → length out ≡ length before
 stored-length ws out before h f = ap length f ∙ start-length ws before h
 
 -- ── words written after those that stand in a buffer ──
 pub continues-none : (before : List ℕ) (from : ℕ) → Continues [] before before from from
 continues-none before from = record {
   index = omega arith;
-  buffer = λ ws first e f. f ∙ ap (λ (l : List ℕ). startWith l first) (sym (append-nil ws));
+  buffer = λ ws first e f. f ∙ ap (λ (l : List ℕ). writtenInto first l) (sym (append-nil ws));
   size = refl;
 }
 
@@ -51,6 +49,6 @@ continues-more vs us a b c f g h X Y = record {
   index = omega (arith, X .index, Y .index, length-append vs us);
   buffer = λ ws first e z.
       let l : length (ws ++ vs) ≡ g = omega (arith, X .index, length-append ws vs) in
-      Y .buffer (ws ++ vs) first l (X .buffer ws first e z) ∙ ap (λ (k : List ℕ). startWith k first) (append-assoc ws vs us);
+      Y .buffer (ws ++ vs) first l (X .buffer ws first e z) ∙ ap (λ (k : List ℕ). writtenInto first k) (append-assoc ws vs us);
   size = Y .size ∙ X .size;
 }

@@ -17,8 +17,8 @@ use Rattle.session.specs.declared.Session as code
 use Rattle.words.specs.BoardWord.{netWord, endWord}
 use Rattle.call_rules.specs.Result.{no, yes}
 use Rattle.call_rules.specs.Reading.{boardLimit}
-use Rattle.call_rules.specs.Writing.{boardWords, writeBoard}
-use Rattle.board_writing.specs.Buffer.{startWith, Continues}
+use Rattle.call_rules.specs.Writing.{boardWords, writtenInto, writeBoard}
+use Rattle.board_writing.specs.Buffer.{Continues}
 use Rattle.board_writing.specs.BufferLaws.{store-next, stored-length}
 use Rattle.board_writing.specs.Words.{rowWords, netWords}
 use Rattle.board_writing.specs.WordsLaws.{row-words-length, row-words-all, net-words-all, net-words-le}
@@ -38,7 +38,7 @@ parts s e =
     (endWord (s .block .board .count) (length (netWords (s .nets) 64)) ∷ [])))
 
 pub all-written : (s : code.Session) (before mid after : List ℕ) (rows at w : ℕ) → length (s .nets) ≡ 64 → s .block .board .count ≤ 31
-    → boardLimit ≤ length before → rows ≡ s .block .board .count → mid ≡ startWith (rowWords (s .block .board .rows) (s .block .board .count)) before
+    → boardLimit ≤ length before → rows ≡ s .block .board .count → mid ≡ writtenInto before (rowWords (s .block .board .rows) (s .block .board .count))
     → Continues (netWords (s .nets) 64) mid after rows at
     → w ≡ endWord (s .block .board .count) ((at - rows) % 256)
     → (at < length before) × (length after ≡ length before) × WrittenWords (boardWords (sessionOf s)) before (set after at w) (at + 1)
@@ -48,7 +48,7 @@ all-written s before mid after rows at w e h r q m C f =
     let ln : length N ≤ 64 = net-words-le (s .nets) 64 (omega arith) in
     let i : at ≡ rows + length N = C .index in
     let c : (at - rows) % 256 ≡ length N = omega arith in
-    let b : after ≡ startWith (R ++ N) before = C .buffer R before (omega arith) m in
+    let b : after ≡ writtenInto before (R ++ N) = C .buffer R before (omega arith) m in
     let l : length (R ++ N) ≡ at = omega (arith, length-append R N) in
     let x : w ≡ endWord (s .block .board .count) (length N) = rw c at f in
     let p = parts s e in (

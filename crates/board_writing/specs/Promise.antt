@@ -6,8 +6,7 @@ use lib.ListN.{length}
 use Rattle.session_rules.specs.Refusal.{refusal}
 use Rattle.session_rules.specs.Session.{Session}
 use Rattle.call_rules.specs.Result.{Result, no, yes}
-use Rattle.call_rules.specs.Writing.{writeBoard, countOf, bufferAfter}
-use Rattle.board_writing.specs.Buffer.{startWith}
+use Rattle.call_rules.specs.Writing.{writtenInto, writeBoard, countOf, bufferAfter}
 use Rattle.board_writing.specs.declared.WriteAnswer.{WriteAnswer}
 use Rattle.board_writing.specs.declared.WriteAnswer.the-variants as answer
 
@@ -25,4 +24,4 @@ pub record WritePromise (s : Session) (before : List ℕ) (r : WriteAnswer) (aft
 -- these words stand at the start of the buffer, and the answer is their count
 pub record WrittenWords (ws before after : List ℕ) (r : ℕ) : Type 0 where
   pub count : r ≡ length ws
-  pub buffer : after ≡ startWith ws before
+  pub buffer : after ≡ writtenInto before ws

@@ -1,14 +1,11 @@
 // Writing a session's board and nets as words into a lent buffer.
 ghost use mathlib.Core.Path.{_≡_};
-ghost use mathlib.Core.List.{_++_, map};
 ghost use Prim.Native.Nat.{_+_, _≤_, _<_};
 ghost use lib.ListN.{length};
-ghost use Rattle.board.specs.View.{boardOf};
-ghost use Rattle.words.specs.BoardWord.{rowWord};
-ghost use Rattle.board_writing.specs.Buffer.{startWith, Continues};
+ghost use Rattle.board_writing.specs.Buffer.{Continues};
 ghost use Rattle.session.specs.View.{sessionOf};
 ghost use Rattle.call_rules.specs.Reading.{boardLimit};
-ghost use Rattle.call_rules.specs.Writing.{boardWords};
+ghost use Rattle.call_rules.specs.Writing.{boardWords, writtenInto};
 ghost use Rattle.board_writing.specs.Words.{rowWords, heldWord, netWords};
 ghost use Rattle.board_writing.specs.Promise.{WrittenWords, WritePromise};
 use board::Board;
@@ -31,7 +28,7 @@ pub enum WriteAnswer {
 fn write_rows(b: Board, out: &mut [u32])
     requires { ⌜ b .count ≤ 31 ⌝ }
     requires { ⌜ 31 ≤ length (now out) ⌝ }
-    ensures { λ _. ⌜ now (out .exit) ≡ startWith (rowWords (b .rows) (b .count)) (now (out .entry)) ⌝ }
+    ensures { λ _. ⌜ now (out .exit) ≡ writtenInto (now (out .entry)) (rowWords (b .rows) (b .count)) ⌝ }
 {
     let n = wide(b.count);
     let rows = b.rows;

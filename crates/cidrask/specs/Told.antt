@@ -33,17 +33,14 @@ abbrev pub judgeTold : Result Report → Told
 judgeTold (yes r) = tell 0 (r .edges) (r .turns) (r .knockKnees)
 judgeTold (no r) = refusedTold r
 
--- the numbers and the buffer after reading with routing
+-- reading with routing: what came out, told by t, and the buffer afterwards
 pub record RoutedAs (board before : List ℕ) (t : Told) (after : List ℕ) : Type 0 where
   pub result : Result ℕ
   pub routes : EditorRoutes board before result after
   pub told : t ≡ routeTold result
 
--- reading with routing: what came out, by numbers, and the buffer afterwards
-pub record RoutePromise (board before : List ℕ) (number first second : ℕ) (after : List ℕ) : Type 0 where
-  pub result : Result ℕ
-  pub routes : EditorRoutes board before result after
-  pub told : tell number first second 0 ≡ routeTold result
+abbrev pub RoutePromise : (board before : List ℕ) (number first second : ℕ) (after : List ℕ) → Type 0
+RoutePromise board before number first second after = RoutedAs board before (tell number first second 0) after
 
 -- judging
 abbrev pub JudgePromise : (board list : List ℕ) (number first second third : ℕ) → Type 0

@@ -3,7 +3,7 @@ use native.Mathlib.Omega.{arith}
 use borrow.Author.Needs.{needs}
 use Rattle.board_writing.specs.Words.{rowWords}
 use Rattle.board_writing.specs.WordsLaws.{row-words-length, row-words-more}
-use Rattle.board_writing.specs.Buffer.{startWith}
+use Rattle.call_rules.specs.Writing.{writtenInto}
 use Rattle.board_writing.specs.BufferLaws.{store-next, stored-length}
 use lib.ListN.{length}
 use mathlib.Core.Path.{_≡_, refl}
@@ -17,7 +17,7 @@ use Rattle.numbers.proofs.wide.Reads as wide-reads
 
 abbrev Inv-loop : tie.InvT-loop
 Inv-loop out₀ n rows i₀ out i =
-    (i ≤ n) × (n ≤ 31) × (31 ≤ length out₀) × (out ≡ startWith (rowWords rows i) out₀)
+    (i ≤ n) × (n ≤ 31) × (31 ≤ length out₀) × (out ≡ writtenInto out₀ (rowWords rows i))
 
 abbrev μ-loop : tie.MeasureT-loop
 μ-loop out₀ n rows i₀ out i = n - i

@@ -97,10 +97,10 @@ array-more rs r h =
     rw (n, m, append-assoc rs (r ∷ []) (replicate (31 - suc (length rs)) noRow))
     (set-append-seam rs noRow (replicate (31 - suc (length rs)) noRow) r)
 
-pub follows-more : (t : Taken) (i : ℕ) (first : Bool) → length (t .nets) < 255 → (w : BoardWord) → wordRefused (scanFor t) first w ≡ 0
+pub taken-same : (t : Taken) (i : ℕ) (first : Bool) → length (t .nets) < 255 → (w : BoardWord) → wordRefused (scanFor t) first w ≡ 0
     → withWord (scanFor t) w ≡ scanFor (take i t w)
 unfolding wordRefused rowRefused withWord withRow withNet
-follows-more t i first m (word.Row r) e =
+taken-same t i first m (word.Row r) e =
     let h : length (t .rows) < 31 = few-rows (length (t .rows)) (ltb 0 (length (t .nets)) || t .ended) (not (ltb (r .left) (r .right))) e in
     let c : length (t .rows) + 1 ≡ length (t .rows ++ (r ∷ [])) = omega (arith, length-append (t .rows) (r ∷ [])) in
     rw (lt-ltb (length (t .rows)) 31 h) (λ j. record {
@@ -109,8 +109,8 @@ follows-more t i first m (word.Row r) e =
       last = lastOf (t .nets);
       ended = t .ended;
     })
-follows-more t i first m (word.Net n) e =
+taken-same t i first m (word.Net n) e =
     let c : length (t .nets) + 1 ≡ suc (length (t .nets)) = add-one (length (t .nets)) in
     rw (lt-ltb (length (t .nets)) 255 m, c) refl
-follows-more t i first m (word.End c) e = refl
-follows-more t i first m word.Unknown e = refl
+taken-same t i first m (word.End c) e = refl
+taken-same t i first m word.Unknown e = refl
