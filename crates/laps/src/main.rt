@@ -174,11 +174,9 @@ fn number(s: &[u8]) -> usize {
 
 fn print_told(told: Told) {
     if told.number == 0 {
-        io::write_all(1, b"accepted\n");
+        text::print_line(b"accepted", &[0usize; 0]);
     } else {
-        io::write_all(1, b"refused ");
-        io::print_decimal(1, told.number as u64);
-        io::write_all(1, b"\n");
+        text::print_line(b"refused", &[wide(told.number)]);
     }
 }
 

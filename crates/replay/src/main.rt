@@ -9,9 +9,12 @@
 // Numbers stand in decimal, parted by spaces; one above 249 is read as 255, and one that is missing as 0. Other lines are passed over.
 //
 // Each call prints a line: "accepted", or "refused", the number and the place; routing prints its words, each on a line. Then come the nets in
-// rising number, each a line "net" with
-// what add was given, and the pile from its top, each a line "added" or "withdrawn" with the net.
+// rising number, each a line "net" with what add was given, and the pile from its top, each a line "added" or "withdrawn" with the net.
 ghost use Prim.Native.Nat.{_≤_};
+ghost use lib.ListN.{length};
+ghost use Rattle.text.specs.Put.{Holds};
+ghost use Rattle.session_answers.specs.Answers.{toldOf};
+ghost use Rattle.replay.specs.Text.{answerLine};
 use board::Board;
 use board::Row;
 use board::Vertex;
@@ -20,6 +23,7 @@ use net::Held;
 use net::Net;
 use net::Pair;
 use net::Place;
+use numbers::wide;
 use session::Session;
 use session_answers::Told;
 use session_pile::Pile;
@@ -136,56 +140,55 @@ fn net(s: &[u8], from: usize) -> Net {
 
 // ── writing ──
 
-fn print_number(n: u8) {
-    io::write_all(1, b" ");
-    io::print_decimal(1, n as u64);
-}
-
-fn print_told(told: Told) {
-    if told.number == 0 {
-        io::write_all(1, b"accepted\n");
+// The line of an answer, at the start of the buffer; how many bytes it is.
+fn told_line(told: Told, out: &mut [u8; 128]) -> usize
+    ensures { λ r. ⌜ Holds (answerLine (toldOf told)) r (now (out .exit)) ⌝ }
+{
+    let number = told.number;
+    if number == 0 {
+        text::line(b"accepted", &[0usize; 0], out)
     } else {
-        io::write_all(1, b"refused");
-        print_number(told.number);
-        print_number(told.place);
-        io::write_all(1, b"\n");
+        text::refused(wide(number), wide(told.place), out)
     }
 }
 
-fn print_vertex(v: Vertex) {
-    print_number(v.line);
-    print_number(v.column);
+fn print_told(told: Told) {
+    let mut out = [0u8; 128];
+    let n = told_line(told, &mut out);
+    io::write_all(1, &out[..n]);
 }
 
-fn print_net(n: Net) {
+// A net with what add was given.
+fn print_net(name: &[u8], n: Net)
+    requires { ⌜ length (now name) ≤ 16 ⌝ }
+{
     let ends = n.ends;
-    print_number(n.number);
-    print_vertex(ends.first);
-    print_vertex(ends.second);
-    io::write_all(1, b"\n");
+    let u = ends.first;
+    let v = ends.second;
+    text::print_line(
+        name,
+        &[
+            wide(n.number),
+            wide(u.line),
+            wide(u.column),
+            wide(v.line),
+            wide(v.column),
+        ],
+    )
 }
 
 fn print_place(number: u8, place: Place) {
     let held = place.held;
     match held {
         Held::Nothing => {}
-        Held::Ends(ends) => {
-            io::write_all(1, b"net");
-            print_net(Net { number, ends });
-        }
+        Held::Ends(ends) => print_net(b"net", Net { number, ends }),
     }
 }
 
 fn print_change(change: Change) {
     match change {
-        Change::Added(n) => {
-            io::write_all(1, b"added");
-            print_net(n);
-        }
-        Change::Withdrawn(n) => {
-            io::write_all(1, b"withdrawn");
-            print_net(n);
-        }
+        Change::Added(n) => print_net(b"added", n),
+        Change::Withdrawn(n) => print_net(b"withdrawn", n),
     }
 }
 
@@ -255,9 +258,9 @@ fn back_line(session: Session) -> Session {
 }
 
 fn paths_line(session: Session) -> Session {
-    let mut words = [0u32; 2049];
-    let answer = route_call::route(session, &mut words);
-    route_text::print_answer(answer, &words);
+    let mut out = [0u8; 18441];
+    let n = route_text::session_text(session, &mut out);
+    io::write_all(1, &out[..n]);
     session
 }
 

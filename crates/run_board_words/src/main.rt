@@ -10,12 +10,10 @@ fn written(s: Session) {
     let answer = board_writing::write_board(s, &mut out);
     match answer {
         WriteAnswer::Written(n) => {
-            io::write_all(1, b"read");
-            text::print_number(n);
-            text::end_line();
+            text::print_line(b"read", &[n]);
         }
-        WriteAnswer::Unsound => text::print_refusal(20, 0),
-        WriteAnswer::ShortBuffer => text::print_refusal(18, 0),
+        WriteAnswer::Unsound => text::print_line(b"refused", &[20, 0]),
+        WriteAnswer::ShortBuffer => text::print_line(b"refused", &[18, 0]),
     }
 }
 
@@ -27,7 +25,7 @@ fn reads(words: &[u32]) {
             let s = r.session;
             written(s);
         }
-        ReadAnswer::Refused(kind, place) => text::print_refusal(kind as usize, place),
+        ReadAnswer::Refused(kind, place) => text::print_line(b"refused", &[kind as usize, place]),
     }
 }
 
@@ -40,7 +38,7 @@ fn reads_bytes(bytes: &[u8]) {
             let s = r.session;
             written(s);
         }
-        ReadAnswer::Refused(kind, place) => text::print_refusal(kind as usize, place),
+        ReadAnswer::Refused(kind, place) => text::print_line(b"refused", &[kind as usize, place]),
     }
 }
 
@@ -49,12 +47,10 @@ fn writes(out: &mut [u32]) {
     let answer = board_writing::write_board(session::blank(), out);
     match answer {
         WriteAnswer::Written(n) => {
-            io::write_all(1, b"written");
-            text::print_number(n);
-            text::end_line();
+            text::print_line(b"written", &[n]);
         }
-        WriteAnswer::Unsound => text::print_refusal(20, 0),
-        WriteAnswer::ShortBuffer => text::print_refusal(18, 0),
+        WriteAnswer::Unsound => text::print_line(b"refused", &[20, 0]),
+        WriteAnswer::ShortBuffer => text::print_line(b"refused", &[18, 0]),
     }
 }
 

@@ -10,39 +10,15 @@ use net::Pair;
 use net::Place;
 
 fn show(v: Verdict) {
-    match v {
-        Verdict::Passed(r) => {
-            io::write_all(1, b"passed");
-            text::print_number(r.edges as usize);
-            text::print_number(r.turns as usize);
-            text::print_number(r.knocks as usize);
-        }
-        Verdict::Refused(r) => {
-            io::write_all(1, b"refused");
-            text::print_number(r.number as usize);
-            text::print_number(r.place as usize);
-        }
-    }
-    text::end_line();
+    let mut out = [0u8; 128];
+    let n = judge_text::verdict_line(v, &mut out);
+    io::write_all(1, &out[..n]);
 }
 
 fn show_comparison(c: Comparison) {
-    match c {
-        Comparison::Alike(t) => {
-            if t {
-                io::write_all(1, b"alike");
-            } else {
-                io::write_all(1, b"not alike");
-            }
-        }
-        Comparison::Refused(list, r) => {
-            io::write_all(1, b"refused");
-            text::print_number(r.number as usize);
-            text::print_number(list as usize);
-            text::print_number(r.place as usize);
-        }
-    }
-    text::end_line();
+    let mut out = [0u8; 128];
+    let n = judge_text::comparison_line(c, &mut out);
+    io::write_all(1, &out[..n]);
 }
 
 fn row(left: u8, right: u8) -> Row {

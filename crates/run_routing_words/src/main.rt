@@ -1,23 +1,13 @@
 // Lists of routing words through judging, and what each answers: "passed" with edges, turns and knock-knees, or "refused" with number and
 // place.
-use judge_call::Judgement;
 
 fn judges(board: &[u32], words: &[u32]) {
     let r = board_reading::read_words(board);
     let s = r.session;
     let answer = judge_call::judge_words(s, words);
-    match answer {
-        Judgement::Passed(report) => {
-            io::write_all(1, b"passed");
-            text::print_number(report.edges as usize);
-            text::print_number(report.turns as usize);
-            text::print_number(report.knocks as usize);
-            text::end_line();
-        }
-        Judgement::Unsound => text::print_refusal(20, 0),
-        Judgement::UnevenBytes => text::print_refusal(10, 0),
-        Judgement::Refused(r) => text::print_refusal(r.number as usize, r.place as usize),
-    }
+    let mut out = [0u8; 128];
+    let n = judge_text::judgement_line(answer, &mut out);
+    io::write_all(1, &out[..n]);
 }
 
 // The ring of one cell.

@@ -1,6 +1,6 @@
 -- Definitions only: a word in hexadecimal (document 01: "Words alone are in hexadecimal, eight digits each"). Nothing is proved here.
 use mathlib.Core.Bool.{cond}
-use mathlib.Core.List.{List, [], _∷_}
+use mathlib.Core.List.{List, [], _∷_, flatMap}
 use Prim.Native.Nat.{ℕ, _+_, _/_, _%_, _^_}
 use lib.Dec.{ltb}
 
@@ -17,3 +17,7 @@ abbrev pub hexLine : ℕ → List ℕ
 hexLine w =
     digitAt w (16 ^ 7) ∷ digitAt w (16 ^ 6) ∷ digitAt w (16 ^ 5) ∷ digitAt w (16 ^ 4)
     ∷ digitAt w (16 ^ 3) ∷ digitAt w (16 ^ 2) ∷ digitAt w 16 ∷ digitAt w 1 ∷ 10 ∷ []
+
+-- each word on a line
+abbrev pub hexLines : List ℕ → List ℕ
+hexLines ws = flatMap hexLine ws

@@ -1,7 +1,12 @@
-// Words and numbers as text on standard output.
+// Words and numbers as text: functions that put a text into a buffer, and what prints such a text on standard output.
 ghost use mathlib.Core.Path.{_≡_};
-ghost use Prim.Native.Nat.{_<_};
-ghost use Rattle.text.specs.Hex.{digitAt, hexLine};
+ghost use mathlib.Core.List.{[], _∷_, flatMap};
+ghost use Prim.Native.Nat.{_+_, _*_, _≤_, _<_};
+ghost use lib.ListN.{length, take};
+ghost use Rattle.text.specs.Hex.{digitAt, hexLine, hexLines};
+ghost use Rattle.text.specs.Line.{spaced, lineOf, refusedLine};
+ghost use Rattle.text.specs.Put.{Put, Holds};
+use numbers::least;
 
 // The digit of a word that stands for so many units, "0" to "9" and "A" to "F".
 fn digit(w: u32, unit: u32) -> u8
@@ -29,43 +34,88 @@ pub fn hex_line(w: u32) -> [u8; 9]
     ]
 }
 
-fn print_word(w: u32) {
-    let line = hex_line(w);
-    io::write_all(1, &line);
-}
-
-// The first n words, or all where there are fewer, each on a line.
-pub fn print_words(words: &[u32], n: usize) {
-    for i in 0..n {
-        if i < words.len() {
-            print_word(words[i]);
-        }
+// The bytes of s, from this index of the buffer on; where they end.
+fn put(s: &[u8], out: &mut [u8], at: usize) -> usize
+    requires { ⌜ at + length (now s) ≤ length (now out) ⌝ }
+    ensures { λ r. ⌜ Put (now (s .entry)) at (now (out .entry)) r (now (out .exit)) ⌝ }
+{
+    for i in 0..s.len() {
+        out[at + i] = s[i];
     }
+    at + s.len()
 }
 
-// A space and a number.
-pub fn print_number(n: usize) {
-    io::write_all(1, b" ");
-    io::print_decimal(1, n as u64);
+// A space and the number's digits, from this index of the buffer on; where they end.
+fn put_number(n: usize, out: &mut [u8], at: usize) -> usize
+    requires { ⌜ at + 21 ≤ length (now out) ⌝ }
+    ensures { λ r. ⌜ Put (spaced n) at (now (out .entry)) r (now (out .exit)) ⌝ }
+    ensures { λ r. ⌜ r ≤ at + 21 ⌝ }
+{
+    let mut digits = [0u8; 20];
+    let count = io::decimal(n as u64, &mut digits);
+    let from = put(b" ", out, at);
+    put(&digits[..count], out, from)
 }
 
-pub fn end_line() {
-    io::write_all(1, b"\n");
+fn put_numbers(numbers: &[usize], out: &mut [u8], at: usize) -> usize
+    requires { ⌜ at + 21 * length (now numbers) ≤ length (now out) ⌝ }
+    ensures { λ r. ⌜ Put (flatMap spaced (now (numbers .entry))) at (now (out .entry)) r (now (out .exit)) ⌝ }
+    ensures { λ r. ⌜ r ≤ at + 21 * length (now (numbers .entry)) ⌝ }
+{
+    let mut end = at;
+    for i in 0..numbers.len() {
+        end = put_number(numbers[i], out, end);
+    }
+    end
 }
 
-// "refused", the number and a place of one number.
-pub fn print_refusal(number: usize, place: usize) {
-    io::write_all(1, b"refused");
-    print_number(number);
-    print_number(place);
-    end_line();
+// A name, numbers and a line feed, at the start of the buffer; how many bytes they are.
+pub fn line(name: &[u8], numbers: &[usize], out: &mut [u8]) -> usize
+    requires { ⌜ length (now name) + 21 * length (now numbers) < length (now out) ⌝ }
+    ensures { λ r. ⌜ Holds (lineOf (now (name .entry)) (now (numbers .entry))) r (now (out .exit)) ⌝ }
+{
+    let named = put(name, out, 0);
+    let numbered = put_numbers(numbers, out, named);
+    put(b"\n", out, numbered)
+}
+
+// The line of a refusal with a place of one number.
+pub fn refused(number: usize, place: usize, out: &mut [u8]) -> usize
+    requires { ⌜ 49 < length (now out) ⌝ }
+    ensures { λ r. ⌜ Holds (refusedLine number (place ∷ [])) r (now (out .exit)) ⌝ }
+{
+    line(b"refused", &[number, place], out)
 }
 
 // The same with a place of two numbers.
-pub fn print_refusal_at(number: usize, first: usize, second: usize) {
-    io::write_all(1, b"refused");
-    print_number(number);
-    print_number(first);
-    print_number(second);
-    end_line();
+pub fn refused_at(number: usize, first: usize, second: usize, out: &mut [u8]) -> usize
+    requires { ⌜ 70 < length (now out) ⌝ }
+    ensures { λ r. ⌜ Holds (refusedLine number (first ∷ second ∷ [])) r (now (out .exit)) ⌝ }
+{
+    line(b"refused", &[number, first, second], out)
+}
+
+// The first n words, or all where there are fewer, each on a line, at the start of the buffer; how many bytes they are.
+pub fn word_lines(words: &[u32], n: usize, out: &mut [u8]) -> usize
+    requires { ⌜ 9 * length (now words) ≤ length (now out) ⌝ }
+    ensures { λ r. ⌜ Holds (hexLines (take n (now (words .entry)))) r (now (out .exit)) ⌝ }
+{
+    let mut end: usize = 0;
+    let count = least(n, words.len());
+    for i in 0..count {
+        let line = hex_line(words[i]);
+        end = put(&line, out, end);
+    }
+    end
+}
+
+// ── printing ──
+
+// Prints a line of a name and numbers, at most five.
+pub fn print_line(name: &[u8], numbers: &[usize])
+    requires { ⌜ length (now name) + 21 * length (now numbers) < 128 ⌝ }
+{
+    let mut out = [0u8; 128];
+    let n = line(name, numbers, &mut out);
+    io::write_all(1, &out[..n]);
 }
