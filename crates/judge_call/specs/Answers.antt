@@ -1,11 +1,10 @@
 -- Definitions only: document 01's report, or number and place, for each answer of the code. Nothing is proved here.
 use mathlib.Core.Bool.{Bool}
-use mathlib.Core.List.{[], _∷_}
 use Rattle.session_rules.specs.Refusal.{refusal}
 use Rattle.call_rules.specs.Result.{Result, no, yes}
 use Rattle.call_rules.specs.Report.{Report}
 use Rattle.judge_shape.specs.Refused.{refusalOf}
-use Rattle.judge_report.specs.Paths.{reportIs}
+use Rattle.judge_report.specs.Reports.{reportIs}
 use Rattle.judge_list.specs.Verdicts.{listRefusal}
 use Rattle.judge_call.specs.declared.Judgement.{Judgement}
 use Rattle.judge_call.specs.declared.Judgement.the-variants as judgement

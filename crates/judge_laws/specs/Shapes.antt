@@ -19,7 +19,7 @@ use Rattle.words.specs.Inverse.{SaysRouting, says-path, says-run, says-routing-
 use Rattle.words.specs.declared.Path.{Path}
 use Rattle.words.specs.declared.Run.{Run}
 use Rattle.words.specs.declared.RoutingWord.the-variants as word
-use Rattle.call_rules.specs.Shape.{Due, between, inPath, over, runsDue, repeated, moveBetween, moveInPath, onward, wordsRefused, pathsFrom}
+use Rattle.call_rules.specs.Shape.{Due, between, inPath, over, runsDue, repeated, moveBetween, moveInPath, onward, wordsRefused, PathAt, pathsFrom}
 use Rattle.call_rules.specs.Judge.{pathsIn}
 use Rattle.judge_laws.specs.Runs.{steps, Runs, no-more, one-more, runs-back, runs-in-words}
 
@@ -151,6 +151,24 @@ paths-in-words all i (one-net {n} {ns} {rss} rs h d e) =
       runs-in-words (suc i) d,
       paths-in-words all (suc i + length rs) e,
     ) refl
+
+-- a path for each net
+nets-in-words : (all i : ℕ) {ns : List Net} {rss : List (List Run)} → Each ns rss
+    → map (λ (p : PathAt). p .net) (pathsFrom i ns (wordsBy all ns rss)) ≡ ns
+unfolding pathsFrom wordsBy
+nets-in-words all i no-net = refl
+nets-in-words all i (one-net {n} {ns} {rss} rs h d e) =
+    rw (
+      paths-back (record { number = n .number; runs = length rs }) h,
+      drop-at (map runWord rs) (wordsBy all ns rss) (length rs) (length-map rs runWord),
+    )
+    (ap (λ (l : List Net). n ∷ l) (nets-in-words all (suc i + length rs) e))
+
+pub shape-nets : (all i : ℕ) (ns : List Net) (ws : List ℕ) → wordsRefused all i between ns ws ≡ none
+    → map (λ (p : PathAt). p .net) (pathsFrom i ns ws) ≡ ns
+shape-nets all i ns ws h =
+    let r = shape-read all i between ns ws h in
+    ap (λ (v : List ℕ). map (λ (p : PathAt). p .net) (pathsFrom i ns v)) (r .words) ∙ nets-in-words all i (r .each)
 
 -- and it is the routing words of them
 pub words-back : (all : ℕ) {ns : List Net} {rss : List (List Run)} → Each ns rss

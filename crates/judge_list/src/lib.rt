@@ -2,11 +2,16 @@
 ghost use mathlib.Core.Path.{_≡_};
 ghost use Prim.Native.Nat.{_≤_};
 ghost use lib.ListN.{length};
-ghost use Rattle.board.specs.Board.{Within};
 ghost use Rattle.board.specs.View.{boardOf};
 ghost use Rattle.net_places.specs.Places.{netsOf};
 ghost use Rattle.judge_shape.specs.declared.Checked.the-variants.{Passed};
-ghost use Rattle.judge_list.specs.Verdicts.{Checks, verdictOn, verdictOf, comparisonOn, comparisonOf};
+ghost use Rattle.judge_list.specs.Verdicts.{
+  Checks,
+  verdictBy,
+  verdictOf,
+  comparisonBy,
+  comparisonOf,
+};
 use board::Board;
 use judge_report::Report;
 use judge_shape::Checked;
@@ -25,39 +30,39 @@ pub enum Comparison {
     Refused(u8, Refusal),
 }
 
-// Does a list pass? First the shape of the whole list, then the paths in order.
-fn check(b: Board, nets: [Place; 64], words: &[u32]) -> Checked
-    ensures { λ r. ⌜ (Within (boardOf b) → Checks (boardOf b) (netsOf nets) (now (words .entry)) r) ⌝ }
+// Does a list pass? First the shape of the whole list, then the paths in order, with a map of the edges used before.
+fn check(b: Board, nets: [Place; 64], words: &[u32], used: &mut [u8; 2048]) -> Checked
+    ensures { λ r. ⌜ Checks (boardOf b) (netsOf nets) (now (words .entry)) (now (used .entry)) (now (used .exit)) r ⌝ }
     ensures { λ r. ⌜ (r ≡ Passed → length (now (words .entry)) ≤ 2049) ⌝ }
 {
     match judge_shape::check_shape(nets, words) {
         Checked::Refused(r) => Checked::Refused(r),
-        Checked::Passed => {
-            let mut used = [0u8; 2048];
-            judge_walk::walk_paths(b, nets, words, &mut used)
-        }
+        Checked::Passed => judge_walk::walk_paths(b, nets, words, used),
     }
 }
 
 // Judges a list of routing words for the nets on the board.
 pub fn judge(b: Board, nets: [Place; 64], words: &[u32]) -> Verdict
-    ensures { λ r. ⌜ (Within (boardOf b) → verdictOf r ≡ verdictOn (boardOf b) (netsOf nets) (now (words .entry))) ⌝ }
+    ensures { λ r. ⌜ verdictOf r ≡ verdictBy (boardOf b) (netsOf nets) (now (words .entry)) ⌝ }
 {
-    match check(b, nets, words) {
+    let mut used = [0u8; 2048];
+    match check(b, nets, words, &mut used) {
         Checked::Refused(r) => Verdict::Refused(r),
         Checked::Passed => Verdict::Passed(judge_report::report_of(nets, words)),
     }
 }
 
-// Judges the first list, then the second, and compares the two.
+// Judges the first list, then the second, and compares the maps of their edges.
 pub fn compare(b: Board, nets: [Place; 64], first: &[u32], second: &[u32]) -> Comparison
-    ensures { λ r. ⌜ (Within (boardOf b) → comparisonOf r ≡ comparisonOn (boardOf b) (netsOf nets) (now (first .entry)) (now (second .entry))) ⌝ }
+    ensures { λ r. ⌜ comparisonOf r ≡ comparisonBy (boardOf b) (netsOf nets) (now (first .entry)) (now (second .entry)) ⌝ }
 {
-    match check(b, nets, first) {
+    let mut one = [0u8; 2048];
+    let mut two = [0u8; 2048];
+    match check(b, nets, first, &mut one) {
         Checked::Refused(r) => Comparison::Refused(0, r),
-        Checked::Passed => match check(b, nets, second) {
+        Checked::Passed => match check(b, nets, second, &mut two) {
             Checked::Refused(r) => Comparison::Refused(1, r),
-            Checked::Passed => Comparison::Alike(judge_alike::is_alike(nets, first, second)),
+            Checked::Passed => Comparison::Alike(judge_alike::is_alike(&one, &two)),
         },
     }
 }

@@ -1,22 +1,14 @@
 -- What a mark says of a vertex: how many of the nets before turned there, and whether this one did.
 -- Assumes that the nets come in rising number, up to 64.
 use mathlib.Core.Path.{_≡_, refl, ap, sym, _∙_}
-use mathlib.Core.List.{List}
 use Prim.Native.Nat.{ℕ, suc, _+_, _*_, _<_, _≤_}
 use native.Mathlib.Omega.{arith}
 use lib.Dec.{ltb, eqb}
-use lib.ListN.{length, getD, replicate, length-replicate, getD-replicate}
+use lib.ListN.{replicate, length-replicate, getD-replicate}
 use borrow.Author.Tests.{lt-ltb, le-ltb, eq-eqb, ne-eqb}
 use Rattle.count.specs.Truth.{one}
-use Rattle.board.specs.Board.{at}
-use Rattle.board.specs.declared.Vertex.{Vertex}
 use Rattle.judge_report.specs.Traces.{marked}
-
--- DEFINITION: the mark m of a vertex at which n nets turned, all of numbers below k
-pub data Coded (k n m : ℕ) : Type 0 where
-  nobody : n ≡ 0 → m ≡ 0 → Coded k n m
-  alone : n ≡ 1 → 0 < m → m < k → Coded k n m
-  many : 2 ≤ n → m ≡ 128 → Coded k n m
+use Rattle.judge_report.specs.Measures.{Coded, nobody, alone, many, Says}
 
 -- DEFINITION: and then x turns of net k there
 pub data Coding (k n x m : ℕ) : Type 0 where
@@ -57,11 +49,6 @@ pub code-knot : {k n m : ℕ} → k ≤ 65 → Coded k n m → eqb m 128 ≡ ltb
 code-knot {k} {n} {m} h (nobody u v) = ne-eqb m 128 (λ e. omega arith) ∙ sym (le-ltb 1 n (omega arith))
 code-knot {k} {n} {m} h (alone u v w) = ne-eqb m 128 (λ e. omega arith) ∙ sym (le-ltb 1 n (omega arith))
 code-knot {k} {n} {m} h (many u v) = eq-eqb m 128 v ∙ sym (lt-ltb 1 n (omega arith))
-
--- DEFINITION: the array has the marks of all vertices, n of a vertex being how many nets of numbers below k turned there
-pub record Says (k : ℕ) (n : Vertex → ℕ) (a : List ℕ) : Type 0 where
-  pub long : length a ≡ 1024
-  pub codes : (l c : ℕ) → l < 32 → c < 32 → Coded k (n (at l c)) (getD a (l * 32 + c) 0)
 
 pub says-none : Says 1 (λ v. 0) (replicate 1024 0)
 says-none = record {

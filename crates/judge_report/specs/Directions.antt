@@ -21,12 +21,8 @@ use Rattle.call_rules.specs.Shape.{runsFrom}
 use Rattle.call_rules.specs.Report.{directions, turnsAt}
 use Rattle.judge_shape.specs.declared.Last.{Last}
 use Rattle.judge_shape.specs.declared.Last.the-variants.{Nothing, Was}
+use Rattle.judge_report.specs.Measures.{dirsOf}
 use Rattle.judge_report.specs.Traces.{turnBy, lastAfter, lineAfter, columnAfter}
-
--- DEFINITION: the directions of a list of run words
-unfoldable pub dirsOf : List ℕ → List Direction
-dirsOf [] = []
-dirsOf (w ∷ ws) = replicate (runIn w .length) (runIn w .direction) ++ dirsOf ws
 
 pub dirs-are : (i : ℕ) (ws : List ℕ) → directions (runsFrom i ws) ≡ dirsOf ws
 unfolding directions runsFrom dirsOf

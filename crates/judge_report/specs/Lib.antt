@@ -1,6 +1,8 @@
 pub mod Traces
-pub mod Knots
+pub mod Measures
+pub mod Reports
 pub mod Directions
 pub mod Codes
 pub mod Tracing
+pub mod Knots
 pub mod Paths

@@ -14,39 +14,31 @@ use Rattle.board.specs.declared.Direction.{Direction}
 use Rattle.net.specs.View.{nothing}
 use Rattle.net.specs.declared.Net.{Net}
 use Rattle.net.specs.declared.Pair.{Pair}
-use Rattle.net.specs.declared.Held.{Held}
 use Rattle.net.specs.declared.Held.the-variants.{Nothing, Ends}
 use Rattle.net.specs.declared.Place.{Place}
 use Rattle.session_rules.specs.Session.{pairs}
 use Rattle.net_places.specs.Places.{net, heldNet, netsFrom, netsOf}
-use Rattle.words.specs.RoutingWord.{pathIn}
 use Rattle.call_rules.specs.Shape.{pathsFrom}
 use Rattle.call_rules.specs.Report.{edgesUsed, turnsMade, turnsAt, turning, knockKnee, knockKnees}
-use Rattle.call_rules.specs.Report as calls
 use Rattle.call_rules.specs.Report.{reportOf}
 use Rattle.call_rules.specs.Judge.{pathsIn}
 use Rattle.judge_shape.specs.Moves.{nets-more, nets-none}
-use Rattle.judge_walk.specs.Parts.{EndsAt, part-is, paths-out, paths-more}
+use Rattle.judge_walk.specs.PartLaws.{Found, paths-out, paths-part}
 use Rattle.judge_report.specs.Traces.{knots}
 use Rattle.judge_report.specs.Knots.{vertexAt, knots-are}
-use Rattle.judge_report.specs.Directions.{dirsOf, dirs-are}
-use Rattle.judge_report.specs.Codes.{code-skip, code-knot, Says}
-use Rattle.judge_report.specs.Tracing.{Measured}
+use Rattle.judge_report.specs.Measures.{dirsOf, Says, Measured, left, MeasuresPlace}
+use Rattle.judge_report.specs.Directions.{dirs-are}
+use Rattle.judge_report.specs.Codes.{code-skip, code-knot}
 use Rattle.judge_report.specs.declared.Trace.{Trace}
 use Rattle.judge_report.specs.declared.Sum.{Sum}
-use Rattle.judge_report.specs.declared.Report.{Report}
-
--- DEFINITION: the paths of the nets ns, from index i of the words on
-abbrev pub left : List Net → List ℕ → ℕ → List (List Direction)
-left ns ws i = pathsIn (pathsFrom i ns (drop i ws))
 
 pub left-out : (ns : List Net) (ws : List ℕ) (i : ℕ) → length ws ≤ i → left ns ws i ≡ []
 left-out ns ws i h = rw (paths-out i ns ws h) refl
 
-pub left-more : (n : Net) (ns : List Net) (ws : List ℕ) (i runs from : ℕ) → i < length ws → from ≡ suc i → runs ≡ pathIn (getD ws i 0) .runs
-    → left (n ∷ ns) ws i ≡ dirsOf (take runs (drop from ws)) ∷ left ns ws (from + runs)
-left-more n ns ws i runs from h e f =
-    rw (paths-more i runs from n ns ws h e f) (ap (λ (ds : List Direction). ds ∷ left ns ws (from + runs)) (dirs-are from (take runs (drop from ws))))
+pub left-more : {ws : List ℕ} {i from to : ℕ} → Found ws i from to → (n : Net) (ns : List Net)
+    → left (n ∷ ns) ws i ≡ dirsOf (take (to - from) (drop from ws)) ∷ left ns ws to
+left-more {ws} {i} {from} {to} f n ns =
+    rw (paths-part f n ns) (ap (λ (ds : List Direction). ds ∷ left ns ws to) (dirs-are (suc i) (take (to - from) (drop from ws))))
 
 turning-none : (v : Vertex) (ps : List Pair) → turning v ps [] ≡ 0
 unfolding turning
@@ -54,15 +46,6 @@ turning-none v [] = refl
 turning-none v (p ∷ ps) = refl
 
 -- ── what a place holds ──
--- DEFINITION: the sum s and the marks a before the place of net k, and the sum r and the marks a' after it
-pub record MeasuresPlace (k : ℕ) (held : Held) (ws : List ℕ) (s : Sum) (a : List ℕ) (r : Sum) (a' : List ℕ) : Type 0 where
-  pub edges : (ns : List Net) → s .edges + edgesUsed (left (heldNet k held ns) ws (s .at)) ≡ r .edges + edgesUsed (left ns ws (r .at))
-  pub turned : (ns : List Net) → s .turns + turnsMade (left (heldNet k held ns) ws (s .at)) ≡ r .turns + turnsMade (left ns ws (r .at))
-  pub marks : (n : Vertex → ℕ) → 0 < k → k ≤ 64 → Says k n a
-      → (n' : Vertex → ℕ) × Says (suc k) n' a'
-      × ((ns : List Net) (v : Vertex) → n v + turning v (pairs (heldNet k held ns)) (left (heldNet k held ns) ws (s .at))
-      ≡ n' v + turning v (pairs ns) (left ns ws (r .at)))
-
 says-skip : {k : ℕ} {n : Vertex → ℕ} {a : List ℕ} → Says k n a → Says (suc k) n a
 says-skip s = record { long = s .long; codes = λ l c p q. code-skip (s .codes l c p q) }
 
@@ -90,23 +73,19 @@ place-out {k} {ends} {ws} {s} h = record {
   );
 }
 
-pub place-on : {k : ℕ} {ends : Pair} {ws : List ℕ} {s : Sum} {a a' : List ℕ} {runs from to : ℕ} → s .at < length ws → from ≡ suc (s .at)
-    → runs ≡ pathIn (getD ws (s .at) 0) .runs → EndsAt from runs (length ws) to
+pub place-on : {k : ℕ} {ends : Pair} {ws : List ℕ} {s : Sum} {a a' : List ℕ} {from to : ℕ} → Found ws (s .at) from to
     → {t : Trace} → Measured (ends .first) k (take (to - from) (drop from ws)) t a a'
-    → {r : Sum} → r ≡ record { at = from + runs; edges = s .edges + t .edges; turns = s .turns + t .turns } → MeasuresPlace k (Ends ends) ws s a r a'
+    → {r : Sum} → r ≡ record { at = to; edges = s .edges + t .edges; turns = s .turns + t .turns } → MeasuresPlace k (Ends ends) ws s a r a'
 unfolding edgesUsed turnsMade turning
-place-on {k} {ends} {ws} {s} {a} {a'} {runs} {from} {to} l e f p {t} m g = rw g (record {
-  edges = λ ns. rw (left-more (net k ends) ns ws (s .at) runs from l e f) (omega (arith, part .edges));
-  turned = λ ns. rw (left-more (net k ends) ns ws (s .at) runs from l e f) (omega (arith, part .turned));
+place-on {k} {ends} {ws} {s} {a} {a'} {from} {to} f {t} m g = rw g (record {
+  edges = λ ns. rw (left-more f (net k ends) ns) (omega (arith, m .edges));
+  turned = λ ns. rw (left-more f (net k ends) ns) (omega (arith, m .turned));
   marks = λ n h q y. (
-    (λ v. n v + one (ltb 0 (turnsAt v (ends .first) (dirsOf (take runs (drop from ws)))))),
-    part .marks n h q y,
-    λ ns v. rw (left-more (net k ends) ns ws (s .at) runs from l e f) (omega arith),
+    (λ v. n v + one (ltb 0 (turnsAt v (ends .first) (dirsOf (take (to - from) (drop from ws)))))),
+    m .marks n h q y,
+    λ ns v. rw (left-more f (net k ends) ns) (omega arith),
   );
 })
-  where
-    part : Measured (ends .first) k (take runs (drop from ws)) t a a'
-    part = rw (part-is ws from runs to p) at m
 
 -- ── all places ──
 -- DEFINITION: the sum s and the marks a once the first i places are measured, from the marks a₀
@@ -147,10 +126,6 @@ measuring-on {nets} {ws} {a₀} {i} {s} {a} h l l64 {r} {a'} {k} g m = rw (add-o
     p = let e : k ≡ suc i = omega arith in rw e at m
 
 -- ── the report ──
--- DEFINITION: the report of document 01 that a value of the code stands for
-abbrev pub reportIs : Report → calls.Report
-reportIs r = record { edges = r .edges; turns = r .turns; knockKnees = r .knocks }
-
 pub measuring-done : {nets : List Place} {ws a₀ : List ℕ} {i : ℕ} {s : Sum} {a : List ℕ} → Measuring nets ws a₀ i s a → length nets ≤ i → i ≡ 64
     → Says 1 (λ v. 0) a₀
     → {n : ℕ} → n ≡ knots a

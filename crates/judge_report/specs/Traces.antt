@@ -4,7 +4,6 @@ use mathlib.Core.Bool.{cond, not, _&&_}
 use mathlib.Core.List.{List, [], _∷_}
 use Prim.Native.Nat.{ℕ, _+_, _-_, _*_, _≤_}
 use lib.Dec.{ltb, eqb}
-use lib.ListN.{getD, set}
 use Rattle.count.specs.Truth.{one}
 use Rattle.board.specs.Path.{number}
 use Rattle.board.specs.declared.Vertex.{Vertex}

@@ -2,18 +2,15 @@
 -- Assumes nothing; what is said of marks is for a net of number 1 to 64.
 use mathlib.Core.Path.{_≡_, refl, ap, _∙_}
 use mathlib.Core.Bool.{Bool, true, false, cond, not, _&&_}
-use mathlib.Core.List.{List, [], _∷_, _++_}
+use mathlib.Core.List.{List, [], _++_}
 use mathlib.Core.Logic.{_⊎_, inl, inr}
 use Prim.Native.Nat.{ℕ, suc, _+_, _-_, _*_, _<_, _≤_}
 use native.Mathlib.Numerals.{add-one}
 use native.Mathlib.Omega.{arith}
 use lib.Dec.{ltb, eqb}
-use lib.ListN.{length, drop, getD, set, replicate, length-set, drop-of-length-le}
-use lib.Seq.{drop-cons, getD-set-same, getD-set-other}
-use borrow.Author.Tests.{lt-ltb, ltb-true}
-use Rattle.count.specs.Truth.{one}
-use Rattle.count.specs.TruthLaws.{bool, clash}
-use Rattle.count.specs.Bits.{digits-apart}
+use lib.ListN.{length, drop, getD, replicate, drop-of-length-le}
+use lib.Seq.{drop-cons}
+use Rattle.count.specs.TruthLaws.{bool}
 use Rattle.board.specs.Board.{at}
 use Rattle.board.specs.Path.{number, turns}
 use Rattle.board.specs.declared.Vertex.{Vertex}
@@ -26,8 +23,9 @@ use Rattle.judge_shape.specs.declared.Last.{Last}
 use Rattle.judge_shape.specs.declared.Last.the-variants.{Nothing, Was}
 use Rattle.net.specs.GridLaws.{length-changed, changed-same, changed-other}
 use Rattle.judge_report.specs.Traces.{turnBy, traceRun, begin, marked, markAt, markRun}
-use Rattle.judge_report.specs.Directions.{dirsOf, edges-run, turnsAfter, turns-run, turnsFrom, from-run}
-use Rattle.judge_report.specs.Codes.{Coding, before, code-turn, code-done, Says}
+use Rattle.judge_report.specs.Measures.{dirsOf, Says, Measured}
+use Rattle.judge_report.specs.Directions.{edges-run, turnsAfter, turns-run, turnsFrom, from-run}
+use Rattle.judge_report.specs.Codes.{Coding, before, code-turn, code-done}
 use Rattle.judge_report.specs.declared.Trace.{Trace}
 
 -- ── the marks, one run on ──
@@ -71,7 +69,8 @@ mark-run {k} {n} {x} kp kq t r a m d e p q h = elim (turn-one (t .last) r) [
     none true = let y : x + 0 ≡ x = omega arith in rw y h
     none false = let y : x + 0 ≡ x = omega arith in rw y h
 
--- ── a path: its first i runs are traced ──
+-- ── a path ──
+-- DEFINITION: its first i runs are traced
 pub record Tracing (u : Vertex) (k : ℕ) (ws : List ℕ) (i : ℕ) (t : Trace) (a₀ a : List ℕ) : Type 0 where
   pub edges : t .edges + length (dirsOf (drop i ws)) ≡ length (dirsOf ws)
   pub turned : t .turns + turnsAfter (t .last) (dirsOf (drop i ws)) ≡ turns (dirsOf ws)
@@ -115,12 +114,6 @@ tracing-on {u} {k} {ws} {i} {t} {a₀} {a} h l e f g = rw (add-one i, g, f, e) (
   where
     w : Run
     w = runIn (getD ws i 0)
-
--- DEFINITION: what is measured of the path of net k from u, with the run words ws
-pub record Measured (u : Vertex) (k : ℕ) (ws : List ℕ) (t : Trace) (a a' : List ℕ) : Type 0 where
-  pub edges : t .edges ≡ length (dirsOf ws)
-  pub turned : t .turns ≡ turns (dirsOf ws)
-  pub marks : (n : Vertex → ℕ) → 0 < k → k ≤ 64 → Says k n a → Says (suc k) (λ v. n v + one (ltb 0 (turnsAt v u (dirsOf ws)))) a'
 
 pub tracing-done : {u : Vertex} {k : ℕ} {ws : List ℕ} {i : ℕ} {t : Trace} {a₀ a : List ℕ} → Tracing u k ws i t a₀ a → length ws ≤ i
     → Measured u k ws t a₀ a

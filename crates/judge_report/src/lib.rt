@@ -8,8 +8,8 @@ ghost use Rattle.call_rules.specs.Report.{reportOf};
 ghost use Rattle.call_rules.specs.Shape.{pathsFrom};
 ghost use Rattle.session_rules.specs.Session.{pairs};
 ghost use Rattle.net_places.specs.Places.{netsOf};
-ghost use Rattle.judge_report.specs.Tracing.{Measured};
-ghost use Rattle.judge_report.specs.Paths.{MeasuresPlace, reportIs};
+ghost use Rattle.judge_report.specs.Measures.{Measured, MeasuresPlace};
+ghost use Rattle.judge_report.specs.Reports.{reportIs};
 ghost use Rattle.judge_report.specs.Traces.{
   turnBy,
   lastAfter,
@@ -25,10 +25,10 @@ ghost use Rattle.judge_report.specs.Traces.{
 use board::Direction;
 use board::Vertex;
 use judge_shape::Last;
+use judge_walk::Part;
 use net::Held;
 use net::Place;
 use numbers::as_word;
-use numbers::long;
 use words::Run;
 
 // Where a path has come to, the direction of its last step, and its edges and turns so far.
@@ -204,7 +204,7 @@ fn measure_path(first: Vertex, number: u8, runs: &[u32], marks: &mut [u8; 1024])
     t
 }
 
-// Measures the path of what a place holds: its path word stands at the sum's index, and its runs are the part after that.
+// Measures the path of what a place holds: its path word stands at the sum's index.
 fn measure_place(place: Place, number: u8, words: &[u32], sum: Sum, marks: &mut [u8; 1024]) -> Sum
     requires { ⌜ length (now words) ≤ 2049 ⌝ }
     requires { ⌜ (sum .edges ≤ 40000000) × (sum .turns ≤ 40000000) ⌝ }
@@ -216,18 +216,16 @@ fn measure_place(place: Place, number: u8, words: &[u32], sum: Sum, marks: &mut 
         Held::Nothing => sum,
         Held::Ends(ends) => {
             let at = sum.at;
-            if words.len() <= at {
-                return sum;
-            }
-            let path = words::path_in(words[at]);
-            let runs = long(path.runs);
-            let from = at + 1;
-            let to = judge_walk::end_of(from, runs, words.len());
-            let t = measure_path(ends.first, number, &words[from..to], marks);
-            Sum {
-                at: from + runs,
-                edges: sum.edges + t.edges,
-                turns: sum.turns + t.turns,
+            match judge_walk::part_at(words, at) {
+                Part::Nothing => sum,
+                Part::Runs(from, to) => {
+                    let t = measure_path(ends.first, number, &words[from..to], marks);
+                    Sum {
+                        at: to,
+                        edges: sum.edges + t.edges,
+                        turns: sum.turns + t.turns,
+                    }
+                }
             }
         }
     }

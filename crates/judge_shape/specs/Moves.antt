@@ -38,6 +38,7 @@ use Rattle.judge_shape.specs.States.{
   Starts,
   at-end,
   at-net,
+  heldOne,
 }
 use Rattle.judge_shape.specs.declared.Last.{Last}
 use Rattle.judge_shape.specs.declared.Last.the-variants as last
@@ -125,11 +126,6 @@ taken-next all next (due.InPath more l) w d' e = absurd (taken-path more l (rout
 taken-next all next due.Over w d' e = absurd (let z : _≡_ {A = ℕ} 0 1 = cc in omega arith)
 
 -- ── the nets from a place on ──
--- DEFINITION: 1 for a place that holds a net
-abbrev pub heldOne : Held → ℕ
-heldOne Nothing = 0
-heldOne (Ends e) = 1
-
 pub nets-more : (nets : List Place) (i : ℕ) → i < length nets
     → netsFrom (suc i) (drop i nets) ≡ heldNet (suc i) (getD nets i nothing .held) (netsFrom (suc (suc i)) (drop (suc i) nets))
 unfolding netsFrom

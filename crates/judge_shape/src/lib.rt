@@ -5,7 +5,6 @@ ghost use lib.ListN.{length, drop};
 ghost use Rattle.call_rules.specs.Shape.{between, repeated, atEnd, wordsRefused};
 ghost use Rattle.net_places.specs.Places.{netsFrom, netsOf};
 ghost use Rattle.judge_shape.specs.Refused.{refusedOf};
-ghost use Rattle.judge_shape.specs.Moves.{heldOne};
 ghost use Rattle.judge_shape.specs.States.{
   lastOf,
   dueOf,
@@ -14,6 +13,7 @@ ghost use Rattle.judge_shape.specs.States.{
   pathMove,
   moveTo,
   Starts,
+  heldOne,
   shapeRefused,
 };
 use board::Direction;

@@ -1,6 +1,9 @@
 pub mod Slots
-pub mod Marking
-pub mod Walks
-pub mod Steps
+pub mod EdgeMap
+pub mod MapWalk
 pub mod Parts
-pub mod Paths
+pub mod PartLaws
+pub mod WalkLaws
+pub mod SlotLaws
+pub mod SameWalk
+pub mod MapMade

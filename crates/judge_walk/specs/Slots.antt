@@ -1,16 +1,16 @@
--- Definitions only: where an edge is marked in the array of used edges, and what such an array says. Nothing is proved here.
+-- Definitions only: the slots of a map of used edges, two for each vertex of lines and columns 0 to 31. Nothing is proved here.
 -- An edge to the right of a vertex and one down from it have two slots beside each other.
-use mathlib.Core.Path.{_≡_}
 use mathlib.Core.Bool.{cond}
-use mathlib.Core.List.{List}
-use Prim.Native.Nat.{ℕ, _+_, _-_, _*_, _%_}
-use lib.Dec.{eqb, ltb}
-use lib.ListN.{length, getD}
-use Rattle.board.specs.Board.{Board, Edge, IsEdge}
+use Prim.Native.Nat.{ℕ, suc, _+_, _-_, _*_, _/_, _%_}
+use lib.Dec.{eqb}
+use Rattle.board.specs.Board.{Edge, edge, at}
 use Rattle.board.specs.declared.Vertex.{Vertex}
 use Rattle.board.specs.declared.Direction.{Direction}
 use Rattle.board.specs.declared.Direction.the-variants.{Up, Right, Down, Left}
-use Rattle.routing_rules.specs.Routing.{uses}
+
+-- how many there are
+abbrev pub slots : ℕ
+slots = 2048
 
 -- the first slot of a vertex
 abbrev pub corner : ℕ → ℕ → ℕ
@@ -27,7 +27,6 @@ slotAt Right v = corner (v .line) (v .column)
 slotAt Down v = corner (v .line) (v .column) + 1
 slotAt Left v = corner (v .line) (v .column - 1)
 
--- the array is not 0 just at the slots of the used edges
-pub record Marks (b : Board) (used : List Edge) (a : List ℕ) : Type 0 where
-  pub long : length a ≡ 2048
-  pub says : (e : Edge) → IsEdge b e → ltb 0 (getD a (slot e) 0) ≡ ltb 0 (uses e used)
+-- the edge of a slot
+abbrev pub edgeAt : ℕ → Edge
+edgeAt s = edge (at (s / 64) (s % 64 / 2)) (cond (eqb (s % 2) 0) (at (s / 64) (suc (s % 64 / 2))) (at (suc (s / 64)) (s % 64 / 2)))

@@ -1,15 +1,22 @@
 // The paths of a list of routing words are walked on a board: refusals 44 to 46.
-// Which edges are used is looked up in an array of 2,048 slots, two for each vertex: the edge to its right and the edge down from it.
+// Which net uses an edge is looked up in a map of 2,048 slots, two for each vertex: the edge to its right and the edge down from it.
 ghost use mathlib.Core.Path.{_≡_};
-ghost use Prim.Native.Nat.{suc, _+_, _-_, _<_, _≤_};
+ghost use Prim.Native.Nat.{suc, _+_, _<_, _≤_, min};
 ghost use lib.ListN.{length};
-ghost use Rattle.board.specs.Board.{Within};
-ghost use Rattle.board.specs.Path.{next};
 ghost use Rattle.board.specs.View.{boardOf};
 ghost use Rattle.net_places.specs.Places.{netsOf};
+ghost use Rattle.call_rules.specs.Shape.{pathsFrom};
 ghost use Rattle.judge_walk.specs.Slots.{corner, slotAt};
-ghost use Rattle.judge_walk.specs.Parts.{EndsAt};
-ghost use Rattle.judge_walk.specs.Walks.{WalksRun, WalksPath, WalksPlace, WalksPaths};
+ghost use Rattle.judge_walk.specs.Parts.{partAt};
+ghost use Rattle.judge_walk.specs.MapWalk.{
+  further,
+  mapPath,
+  mapPaths,
+  pathEnd,
+  pathOf,
+  WalksRun,
+  WalksPlace,
+};
 use board::Board;
 use board::Direction;
 use board::Vertex;
@@ -35,16 +42,22 @@ pub enum Onward {
     Refused(Refusal),
 }
 
+// A path's runs as a part of the list: the index of the first and the index after the last. Nothing where the list is over.
+pub enum Part {
+    Nothing,
+    Runs(usize, usize),
+}
+
 // n + 1, and 255 for 255.
 fn after(n: u8) -> u8
-    ensures { λ r. ⌜ (n < 255 → r ≡ suc n) ⌝ }
+    ensures { λ r. ⌜ r ≡ min 255 (suc n) ⌝ }
 {
     if n < 255 { n + 1 } else { 255 }
 }
 
 // The place one further from v.
 fn next_of(d: Direction, v: Vertex) -> Vertex
-    ensures { λ r. ⌜ (v .line < 255 → v .column < 255 → r ≡ next d v) ⌝ }
+    ensures { λ r. ⌜ r ≡ further d v ⌝ }
 {
     match d {
         Direction::Up => Vertex {
@@ -86,9 +99,9 @@ fn slot_of(d: Direction, v: Vertex) -> usize
     }
 }
 
-// Walks a run edge by edge: 44 before 45 at each.
-fn walk_run(b: Board, run: Run, from: Vertex, used: &mut [u8; 2048]) -> Walked
-    ensures { λ r. ⌜ (Within (boardOf b) → WalksRun (boardOf b) run from (now (used .entry)) (now (used .exit)) r) ⌝ }
+// Walks a run of a net edge by edge: 44 before 45 at each. An edge that is walked gets the net's number.
+fn walk_run(b: Board, number: u8, run: Run, from: Vertex, used: &mut [u8; 2048]) -> Walked
+    ensures { λ r. ⌜ WalksRun (boardOf b) number run from (now (used .entry)) (now (used .exit)) r ⌝ }
 {
     let d = run.direction;
     let mut left = run.length;
@@ -103,7 +116,7 @@ fn walk_run(b: Board, run: Run, from: Vertex, used: &mut [u8; 2048]) -> Walked
         if again {
             return Walked::Refused(45);
         }
-        used[slot] = 1;
+        used[slot] = number;
         v = next_of(d, v);
         left -= 1;
     }
@@ -111,15 +124,22 @@ fn walk_run(b: Board, run: Run, from: Vertex, used: &mut [u8; 2048]) -> Walked
 }
 
 // Walks a path, given its runs as a part of the list, and the index of its path word: 46 after its last run.
-fn walk_path(b: Board, ends: Pair, index: u16, runs: &[u32], used: &mut [u8; 2048]) -> Checked
+fn walk_path(
+    b: Board,
+    number: u8,
+    ends: Pair,
+    index: u16,
+    runs: &[u32],
+    used: &mut [u8; 2048],
+) -> Checked
     requires { ⌜ index + length (now runs) ≤ 4096 ⌝ }
-    ensures { λ r. ⌜ (Within (boardOf b) → WalksPath (boardOf b) ends index (now (runs .entry)) (now (used .entry)) (now (used .exit)) r) ⌝ }
+    ensures { λ r. ⌜ pathEnd r (now (used .exit)) ≡ mapPath (boardOf b) (pathOf index number ends (now (runs .entry))) (now (used .entry)) ⌝ }
 {
     let mut v = ends.first;
     let mut at = index;
     for k in 0..runs.len() {
         at += 1;
-        match walk_run(b, words::run_in(runs[k]), v, used) {
+        match walk_run(b, number, words::run_in(runs[k]), v, used) {
             Walked::At(u) => {
                 v = u;
             }
@@ -138,49 +158,64 @@ fn walk_path(b: Board, ends: Pair, index: u16, runs: &[u32], used: &mut [u8; 204
     }
 }
 
-// The index after a path's runs, or the end of the list.
-pub fn end_of(from: usize, runs: usize, len: usize) -> usize
-    requires { ⌜ from + runs ≤ 70000 ⌝ }
-    requires { ⌜ from ≤ len ⌝ }
-    ensures { λ r. ⌜ EndsAt from runs len r ⌝ }
-    ensures { λ r. ⌜ (from ≤ r) × (r ≤ len) ⌝ }
+// The runs of the path whose word stands at index `at`: as many as it counts, or as the list has.
+pub fn part_at(words: &[u32], at: usize) -> Part
+    ensures { λ r. ⌜ r ≡ partAt (now (words .entry)) at ⌝ }
 {
-    let to = from + runs;
-    if to < len { to } else { len }
+    let len = words.len();
+    if len <= at {
+        return Part::Nothing;
+    }
+    let path = words::path_in(words[at]);
+    let runs = long(path.runs);
+    let from = at + 1;
+    if runs < len - from {
+        Part::Runs(from, from + runs)
+    } else {
+        Part::Runs(from, len)
+    }
 }
 
-// Walks the path of what a place holds: its path word stands at index `at`, and its runs are the part after that.
-fn walk_place(b: Board, place: Place, words: &[u32], at: usize, used: &mut [u8; 2048]) -> Onward
+// Walks the path of what a place holds: its path word stands at index `at`.
+fn walk_place(
+    b: Board,
+    number: u8,
+    place: Place,
+    words: &[u32],
+    at: usize,
+    used: &mut [u8; 2048],
+) -> Onward
     requires { ⌜ length (now words) ≤ 2049 ⌝ }
-    ensures { λ r. ⌜ (Within (boardOf b) → WalksPlace (boardOf b) (place .held) (now (words .entry)) at (now (used .entry)) (now (used .exit)) r) ⌝ }
+    ensures { λ r. ⌜ WalksPlace (boardOf b) number (place .held) (now (words .entry)) at (now (used .entry)) (now (used .exit)) r ⌝ }
 {
     let held = place.held;
     match held {
         Held::Nothing => Onward::At(at),
-        Held::Ends(ends) => {
-            if words.len() <= at {
-                return Onward::At(at);
-            }
-            let path = words::path_in(words[at]);
-            let runs = long(path.runs);
-            let from = at + 1;
-            let to = end_of(from, runs, words.len());
-            match walk_path(b, ends, at as u16, &words[from..to], used) {
-                Checked::Passed => Onward::At(from + runs),
+        Held::Ends(ends) => match part_at(words, at) {
+            Part::Nothing => Onward::At(at),
+            Part::Runs(from, to) => match walk_path(
+                b,
+                number,
+                ends,
+                at as u16,
+                &words[from..to],
+                used,
+            ) {
+                Checked::Passed => Onward::At(to),
                 Checked::Refused(r) => Onward::Refused(r),
-            }
-        }
+            },
+        },
     }
 }
 
-// Walks the paths of all nets in order.
+// Walks the paths of all nets in order, with a map of the edges used before.
 pub fn walk_paths(b: Board, nets: [Place; 64], words: &[u32], used: &mut [u8; 2048]) -> Checked
     requires { ⌜ length (now words) ≤ 2049 ⌝ }
-    ensures { λ r. ⌜ (Within (boardOf b) → WalksPaths (boardOf b) (netsOf nets) (now (words .entry)) (now (used .entry)) (now (used .exit)) r) ⌝ }
+    ensures { λ r. ⌜ pathEnd r (now (used .exit)) ≡ mapPaths (boardOf b) (pathsFrom 0 (netsOf nets) (now (words .entry))) (now (used .entry)) ⌝ }
 {
     let mut at: usize = 0;
     for i in 0..64 {
-        match walk_place(b, nets[i], words, at, used) {
+        match walk_place(b, (i + 1) as u8, nets[i], words, at, used) {
             Onward::At(n) => {
                 at = n;
             }

@@ -3,6 +3,7 @@ use Rattle.judge_call.specs.Calls.{compare-unsound, compare-sound}
 use Rattle.session.specs.View.{sessionOf}
 use borrow.Author.Tests.{not-true, not-false}
 use Rattle.judge_list.specs.Verdicts.{comparisonOf}
+use Rattle.judge_list.specs.VerdictLaws.{comparison-same}
 use mathlib.Core.Path.{ap, sym, _∙_}
 use borrow.Author.Needs.{needs}
 use Rattle.judge_call.proofs.compare_words.Statement.{statement}
@@ -38,7 +39,8 @@ returns-2 c =
     let at-if1 = at-compare .before .before .before in let if1 = at-if1 .if1 in
     let at-sound = at-if1 .before in let sound = at-sound .sound in
     let at-args = at-sound .before .before .before in let args = at-args .args in
-    let e = compare .ensures (sound .ensures .exact .0 (not-false (sound .result) (if1 .left)) .within) in
+    let w = sound .ensures .exact .0 (not-false (sound .result) (if1 .left)) .within in
+    let e = compare .ensures ∙ comparison-same w (args .s .nets) (args .first .now) (args .second .now) in
     (sym (ap comparisonOf (alike .given .1)) ∙ e) ∙ sym (compare-sound (sessionOf (args .s)) (args .first .now) (args .second .now)
     (sym (sound .ensures .same) ∙ not-false (sound .result) (if1 .left)))
 
@@ -49,7 +51,8 @@ returns-3 c =
     let at-if1 = at-compare .before .before .before in let if1 = at-if1 .if1 in
     let at-sound = at-if1 .before in let sound = at-sound .sound in
     let at-args = at-sound .before .before .before in let args = at-args .args in
-    let e = compare .ensures (sound .ensures .exact .0 (not-false (sound .result) (if1 .left)) .within) in
+    let w = sound .ensures .exact .0 (not-false (sound .result) (if1 .left)) .within in
+    let e = compare .ensures ∙ comparison-same w (args .s .nets) (args .first .now) (args .second .now) in
     (sym (ap comparisonOf (list .given .1)) ∙ e) ∙ sym (compare-sound (sessionOf (args .s)) (args .first .now) (args .second .now)
     (sym (sound .ensures .same) ∙ not-false (sound .result) (if1 .left)))
 

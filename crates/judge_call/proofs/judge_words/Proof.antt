@@ -3,6 +3,7 @@ use Rattle.judge_call.specs.Calls.{judge-unsound, judge-sound}
 use Rattle.session.specs.View.{sessionOf}
 use borrow.Author.Tests.{not-true, not-false}
 use Rattle.judge_list.specs.Verdicts.{verdictOf}
+use Rattle.judge_list.specs.VerdictLaws.{verdict-same}
 use mathlib.Core.Path.{ap, sym, _∙_}
 use borrow.Author.Needs.{needs}
 use Rattle.judge_call.proofs.judge_words.Statement.{statement}
@@ -37,7 +38,8 @@ returns-2 c =
     let at-if1 = at-judge .before .before .before in let if1 = at-if1 .if1 in
     let at-sound = at-if1 .before in let sound = at-sound .sound in
     let at-args = at-sound .before .before in let args = at-args .args in
-    let e = judge .ensures (sound .ensures .exact .0 (not-false (sound .result) (if1 .left)) .within) in
+    let w = sound .ensures .exact .0 (not-false (sound .result) (if1 .left)) .within in
+    let e = judge .ensures ∙ verdict-same w (args .s .nets) (args .words .now) in
     (sym (ap verdictOf (report .given .1)) ∙ e) ∙ sym (judge-sound (sessionOf (args .s)) (args .words .now)
     (sym (sound .ensures .same) ∙ not-false (sound .result) (if1 .left)))
 
@@ -48,7 +50,8 @@ returns-3 c =
     let at-if1 = at-judge .before .before .before in let if1 = at-if1 .if1 in
     let at-sound = at-if1 .before in let sound = at-sound .sound in
     let at-args = at-sound .before .before in let args = at-args .args in
-    let e = judge .ensures (sound .ensures .exact .0 (not-false (sound .result) (if1 .left)) .within) in
+    let w = sound .ensures .exact .0 (not-false (sound .result) (if1 .left)) .within in
+    let e = judge .ensures ∙ verdict-same w (args .s .nets) (args .words .now) in
     (sym (ap verdictOf (refusal .given .1)) ∙ e) ∙ sym (judge-sound (sessionOf (args .s)) (args .words .now)
     (sym (sound .ensures .same) ∙ not-false (sound .result) (if1 .left)))
 

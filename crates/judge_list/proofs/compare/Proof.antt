@@ -1,5 +1,6 @@
--- `compare` gives the comparison of document 01.
-use Rattle.judge_list.specs.Verdicts.{first-refused, second-refused, both-passed}
+-- `compare` gives the comparison, from the maps of the two lists.
+use native.Mathlib.Omega.{arith}
+use Rattle.judge_list.specs.VerdictLaws.{first-refused, second-refused, maps-compared}
 use borrow.Author.Needs.{needs}
 use Rattle.judge_list.proofs.compare.Statement.{statement}
 use Rattle.judge_list.proofs.compare.Tie as tie
@@ -23,30 +24,27 @@ enum-told-2 : tie.Need-enum-told-2
 enum-told-2 c = search needs
 
 is-alike-requires : tie.Need-is-alike-requires
-is-alike-requires c κs =
-    let at-check2 = c .before .before in let check2 = at-check2 .check2 in
-    let at-enum-told = at-check2 .before in let the-enum-told = at-enum-told .enum-told in
-    let at-check = at-enum-told .before .before in let check = at-check .check in
-    (check .ensures .1 (the-enum-told .given .1), check2 .ensures .1 (c .enum-told2 .given .1))
+is-alike-requires c κs = search needs
 
 returns : tie.Need-returns
-returns c = λ w. first-refused _ (c .before .before .before .check .ensures .0 w) (c .before .r .given .1)
+returns c = first-refused (c .before .before .before .check .ensures .0) _ (c .before .r .given .1)
 
 returns-2 : tie.Need-returns-2
 returns-2 c =
     let at-r2 = c .before in let r2 = at-r2 .r2 in
     let at-check2 = at-r2 .before .before in let check2 = at-check2 .check2 in
-    let at-enum-told = at-check2 .before in let the-enum-told = at-enum-told .enum-told in
+    let at-enum-told = at-check2 .before .before in let the-enum-told = at-enum-told .enum-told in
     let at-check = at-enum-told .before .before in let check = at-check .check in
-    λ w. second-refused (check .ensures .0 w) (the-enum-told .given .1) (check2 .ensures .0 w) (r2 .given .1)
+    second-refused (check .ensures .0) (the-enum-told .given .1) (check2 .ensures .0) (r2 .given .1)
 
 returns-3 : tie.Need-returns-3
 returns-3 c =
-    let at-enum-told2 = c .before in let enum-told2 = at-enum-told2 .enum-told2 in
-    let at-check2 = at-enum-told2 .before .before in let check2 = at-check2 .check2 in
-    let at-enum-told = at-check2 .before in let the-enum-told = at-enum-told .enum-told in
-    let at-check = at-enum-told .before .before in let check = at-check .check in
-    λ w. both-passed (check .ensures .0 w) (the-enum-told .given .1) (check2 .ensures .0 w) (enum-told2 .given .1) (c .is-alike .ensures)
+    maps-compared _
+    (omega (arith, c .before .before .before .before .before .before .before .before .before .before .before .before .before .good .1 .0))
+    (c .before .before .before .before .before .before .before .before .before .check .ensures .0)
+    (c .before .before .before .before .before .before .before .enum-told .given .1)
+    (c .before .before .before .before .before .check2 .ensures .0)
+    (c .before .before .before .enum-told2 .given .1) (c .is-alike .ensures)
 
 pub compare-spec : {M : Type 1} → statement M
 compare-spec =

@@ -1,5 +1,5 @@
--- `judge` gives the verdict of document 01.
-use Rattle.judge_list.specs.Verdicts.{verdict-passed, verdict-refused}
+-- `judge` gives the verdict: the check's, with the report on a list that passes.
+use Rattle.judge_list.specs.VerdictLaws.{verdict-passed, verdict-refused}
 use borrow.Author.Needs.{needs}
 use Rattle.judge_list.proofs.judge.Statement.{statement}
 use Rattle.judge_list.proofs.judge.Tie as tie
@@ -17,10 +17,10 @@ report-of-requires : tie.Need-report-of-requires
 report-of-requires c κs = c .before .before .check .ensures .1 (c .enum-told .given .1)
 
 returns : tie.Need-returns
-returns c = λ w. verdict-refused (c .before .before .before .check .ensures .0 w) (c .before .r .given .1)
+returns c = verdict-refused (c .before .before .before .check .ensures .0) (c .before .r .given .1)
 
 returns-2 : tie.Need-returns-2
-returns-2 c = λ w. verdict-passed (c .before .before .before .check .ensures .0 w) (c .before .enum-told .given .1) (c .report-of .ensures)
+returns-2 c = verdict-passed (c .before .before .before .check .ensures .0) (c .before .enum-told .given .1) (c .report-of .ensures)
 
 pub judge-spec : {M : Type 1} → statement M
 judge-spec =

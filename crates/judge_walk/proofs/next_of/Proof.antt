@@ -1,5 +1,4 @@
--- `next_of` is the place one further, where lines and columns are below 255.
-use native.Mathlib.Omega.{arith}
+-- `next_of` is the place one further.
 use borrow.Author.Needs.{needs}
 use Rattle.judge_walk.proofs.next_of.Statement.{statement}
 use Rattle.judge_walk.proofs.next_of.Tie as tie
@@ -29,16 +28,16 @@ before-requires-2 : tie.Need-before-requires-2
 before-requires-2 c κs = search needs
 
 returns : tie.Need-returns
-returns c = λ h k. cc
+returns c = cc
 
 returns-2 : tie.Need-returns-2
-returns-2 c = λ h k. cc (c .after .ensures (omega arith))
+returns-2 c = cc
 
 returns-3 : tie.Need-returns-3
-returns-3 c = λ h k. cc (c .after2 .ensures (omega arith))
+returns-3 c = cc
 
 returns-4 : tie.Need-returns-4
-returns-4 c = λ h k. cc
+returns-4 c = cc
 
 pub next-of-spec : {M : Type 1} → statement M
 next-of-spec =

@@ -1,24 +1,22 @@
--- `walk_path` walks as the definition does. The invariant: from all the runs the definition leads to where the code stands, with the runs after the
--- first k.
+-- `walk_path` walks as the definition does. The invariant: from where the code stands, with the runs from place k on, the walk comes to the same.
 use borrow.Author.Needs.{needs}
 use native.Mathlib.Omega.{arith}
-use mathlib.Core.Path.{_≡_, refl, sym, _∙_}
+use mathlib.Core.Path.{_≡_, sym, _∙_}
 use Prim.Native.Nat.{_+_, _-_, _≤_}
-use Rattle.board.specs.Board.{Within}
 use Rattle.board.specs.View.{boardOf}
-use Rattle.judge_walk.specs.Paths.{Runs, runs-start, runs-on, path-passed, path-missed, path-refused}
+use Rattle.judge_walk.specs.WalkLaws.{Runs, runs-start, runs-on, path-passed, path-missed, path-refused}
 use Rattle.judge_walk.proofs.walk_path.Statement.{statement}
 use Rattle.judge_walk.proofs.walk_path.Tie as tie
 
 abbrev Inv-loop : tie.InvT-loop
-Inv-loop b ends index runs used₀ v₀ at₀ k₀ k-end used v at k = (k ≤ k-end) × (at ≡ index + k)
-    × (Within (boardOf b) → Runs (boardOf b) index runs (ends .first) used₀ k v used)
+Inv-loop b number ends index runs used₀ v₀ at₀ k₀ k-end used v at k = (k ≤ k-end) × (at ≡ index + k)
+    × Runs (boardOf b) number ends index runs used₀ k v used
 
 abbrev μ-loop : tie.MeasureT-loop
-μ-loop b ends index runs used₀ v₀ at₀ k₀ k-end used v at k = k-end - k
+μ-loop b number ends index runs used₀ v₀ at₀ k₀ k-end used v at k = k-end - k
 
 loop-holds : tie.Need-loop-holds Inv-loop μ-loop
-loop-holds c = (omega arith, omega arith, λ w. runs-start)
+loop-holds c = (omega arith, omega arith, runs-start)
 
 add-at : tie.Need-add-at Inv-loop μ-loop
 add-at c = search needs
@@ -47,7 +45,8 @@ returns c =
     let at-walk-run = at-number .before .before in let walk-run = at-walk-run .walk-run in
     let at-run-in = at-walk-run .before .before in let run-in = at-run-in .run-in in
     let at-loop = at-run-in .before .before .before in let loop = at-loop .loop in
-    λ w. path-refused (loop .inv .2 w) (omega arith) (run-in .ensures .0) (walk-run .ensures w) (number .given .1) (omega arith)
+    path-refused (loop .inv .2) (omega arith) (run-in .ensures .0) (walk-run .ensures) (number .given .1)
+    (omega arith)
 
 add-k : tie.Need-add-k Inv-loop μ-loop
 add-k c = search needs
@@ -61,16 +60,16 @@ loop-again c =
     let at-walk-run = at-u .before .before in let walk-run = at-walk-run .walk-run in
     let at-run-in = at-walk-run .before .before in let run-in = at-run-in .run-in in
     let at-loop = at-run-in .before .before .before in let loop = at-loop .loop in
-    (omega arith, omega arith, λ w. runs-on (loop .inv .2 w) (omega arith) (run-in .ensures .0) (walk-run .ensures w) (u .given .1))
+    (omega arith, omega arith, runs-on (loop .inv .2) (omega arith) (run-in .ensures .0) (walk-run .ensures) (u .given .1))
 
 same-vertex-requires : tie.Need-same-vertex-requires Inv-loop μ-loop
 same-vertex-requires c κs = search needs
 
 returns-2 : tie.Need-returns-2 Inv-loop μ-loop
-returns-2 c = λ w. path-passed (c .before .before .before .loop .inv .2 w) (omega arith) (sym (c .before .same-vertex .ensures) ∙ c .if1 .taken)
+returns-2 c = path-passed (c .before .before .before .loop .inv .2) (omega arith) (sym (c .before .same-vertex .ensures) ∙ c .if1 .taken)
 
 returns-3 : tie.Need-returns-3 Inv-loop μ-loop
-returns-3 c = λ w. path-missed (c .before .before .before .loop .inv .2 w) (omega arith) (sym (c .before .same-vertex .ensures) ∙ c .if1 .left) refl
+returns-3 c = path-missed (c .before .before .before .loop .inv .2) (omega arith) (sym (c .before .same-vertex .ensures) ∙ c .if1 .left)
 
 pub walk-path-spec : {M : Type 1} → statement M
 walk-path-spec =

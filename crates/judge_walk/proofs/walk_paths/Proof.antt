@@ -1,21 +1,28 @@
--- `walk_paths` walks as the definition does. The invariant: from all the paths the definition leads to those of the nets from place i on.
+-- `walk_paths` walks as the definition does. The invariant: from where the code stands, with the nets from place i on, the walk comes to the same.
 use borrow.Author.Needs.{needs}
 use native.Mathlib.Omega.{arith}
+use mathlib.Core.Path.{refl}
 use Prim.Native.Nat.{_-_, _≤_}
-use Rattle.board.specs.Board.{Within}
 use Rattle.board.specs.View.{boardOf}
-use Rattle.judge_walk.specs.Paths.{Paths, paths-start, paths-on, paths-refused, paths-done}
+use Rattle.judge_walk.specs.WalkLaws.{Paths, paths-start, paths-on, paths-refused, paths-done}
 use Rattle.judge_walk.proofs.walk_paths.Statement.{statement}
 use Rattle.judge_walk.proofs.walk_paths.Tie as tie
 
 abbrev Inv-loop : tie.InvT-loop
-Inv-loop b words used₀ nets at₀ i₀ used at i = (i ≤ 64) × (Within (boardOf b) → Paths (boardOf b) nets words used₀ i at used)
+Inv-loop b words used₀ nets at₀ i₀ used at i = (i ≤ 64)
+    × Paths (boardOf b) nets words used₀ i at used
 
 abbrev μ-loop : tie.MeasureT-loop
 μ-loop b words used₀ nets at₀ i₀ used at i = 64 - i
 
 loop-holds : tie.Need-loop-holds Inv-loop μ-loop
-loop-holds c = (omega arith, λ w. paths-start)
+loop-holds c = (omega arith, paths-start)
+
+add-walk-place : tie.Need-add-walk-place Inv-loop μ-loop
+add-walk-place c = search needs
+
+cast-walk-place : tie.Need-cast-walk-place Inv-loop μ-loop
+cast-walk-place c = omega arith
 
 mul-walk-place : tie.Need-mul-walk-place Inv-loop μ-loop
 mul-walk-place c = search needs
@@ -33,8 +40,9 @@ enum-known-r : tie.Need-enum-known-r Inv-loop μ-loop
 enum-known-r c = search needs
 
 returns : tie.Need-returns Inv-loop μ-loop
-returns c = λ w. paths-refused (c .before .before .before .before .before .before .before .loop .inv .1 w) (omega arith)
-    (c .before .before .before .walk-place .ensures w) (c .before .r .given .1)
+returns c =
+    paths-refused (c .before .before .before .before .before .before .before .loop .inv .1) (omega arith) refl
+    (c .before .before .before .walk-place .ensures) (c .before .r .given .1)
 
 add-i : tie.Need-add-i Inv-loop μ-loop
 add-i c = search needs
@@ -45,12 +53,12 @@ loop-less c = search needs
 loop-again : tie.Need-loop-again Inv-loop μ-loop
 loop-again c = (
   omega arith,
-  λ w. paths-on (c .before .before .before .before .before .before .before .loop .inv .1 w) (omega arith)
-      (c .before .before .before .walk-place .ensures w) (c .before .n .given .1),
+  paths-on (c .before .before .before .before .before .before .before .loop .inv .1) (omega arith) refl
+      (c .before .before .before .walk-place .ensures) (c .before .n .given .1),
 )
 
 returns-2 : tie.Need-returns-2 Inv-loop μ-loop
-returns-2 c = λ w. paths-done (c .before .loop .inv .1 w) (omega arith)
+returns-2 c = paths-done (c .before .loop .inv .1) (omega arith)
 
 pub walk-paths-spec : {M : Type 1} → statement M
 walk-paths-spec =
@@ -59,6 +67,8 @@ walk-paths-spec =
     Inv-loop
     μ-loop
     loop-holds
+    add-walk-place
+    cast-walk-place
     mul-walk-place
     array-copy-out-walk-place
     walk-place-requires

@@ -1,28 +1,21 @@
--- `walk_run` walks as the definition does. The invariant: from the run's start the definition leads to where the code stands, with what is left of
--- it.
+-- `walk_run` walks as the definition does. The invariant: from where the code stands, with what is left of the run, the walk comes to the same.
 use borrow.Author.Needs.{needs}
 use borrow.Author.Tests.{not-true, not-false, ltb-true, ltb-false}
 use native.Mathlib.Omega.{arith}
 use mathlib.Core.Path.{sym, _∙_}
-use Rattle.board.specs.Board.{Within}
 use Rattle.board.specs.View.{boardOf}
-use Rattle.judge_walk.specs.Steps.{Along, along-start, along-off, along-again, along-on, along-done, vertex-near}
+use Rattle.judge_walk.specs.WalkLaws.{Along, along-start, along-off, along-again, along-on, along-done}
 use Rattle.judge_walk.proofs.walk_run.Statement.{statement}
 use Rattle.judge_walk.proofs.walk_run.Tie as tie
-use Rattle.judge_walk.proofs.walk_run.Reads as reads
-use Rattle.judge_walk.proofs.walk_run.Lts as lts
-use Rattle.board.proofs.is_edge.Reads as is-edge-reads
-use Rattle.judge_walk.proofs.next_of.Reads as next-of-reads
-use Rattle.judge_walk.proofs.slot_of.Reads as slot-of-reads
 
 abbrev Inv-loop : tie.InvT-loop
-Inv-loop b used₀ d left₀ v₀ used left v = Within (boardOf b) → Along (boardOf b) d left₀ v₀ used₀ left v used
+Inv-loop b number used₀ d left₀ v₀ used left v = Along (boardOf b) number d left₀ v₀ used₀ left v used
 
 abbrev μ-loop : tie.MeasureT-loop
-μ-loop b used₀ d left₀ v₀ used left v = left
+μ-loop b number used₀ d left₀ v₀ used left v = left
 
 loop-holds : tie.Need-loop-holds Inv-loop μ-loop
-loop-holds c = λ w. along-start
+loop-holds c = along-start
 
 slot-of-requires : tie.Need-slot-of-requires Inv-loop μ-loop
 slot-of-requires c κs = search needs
@@ -38,7 +31,7 @@ returns c =
     let at-is-edge = c .before .before in let is-edge = at-is-edge .is-edge in
     let at-loop-test = at-is-edge .before .before in let loop-test = at-loop-test .loop-test in
     let at-loop = at-loop-test .before in let loop = at-loop .loop in
-    λ w. along-off (loop .inv w) (loop-test .taken) (sym (is-edge .ensures .same) ∙ not-true _ (c .if1 .taken))
+    along-off (loop .inv) (loop-test .taken) (sym (is-edge .ensures .same) ∙ not-true _ (c .if1 .taken))
 
 returns-2 : tie.Need-returns-2 Inv-loop μ-loop
 returns-2 c =
@@ -47,7 +40,7 @@ returns-2 c =
     let at-slot-of = at-is-edge .before in let slot-of = at-slot-of .slot-of in
     let at-loop-test = at-slot-of .before in let loop-test = at-loop-test .loop-test in
     let at-loop = at-loop-test .before in let loop = at-loop .loop in
-    λ w. along-again w (loop .inv w) (loop-test .taken) (sym (is-edge .ensures .same) ∙ not-false _ (if1 .left)) (slot-of .ensures .0)
+    along-again (loop .inv) (loop-test .taken) (sym (is-edge .ensures .same) ∙ not-false _ (if1 .left)) (slot-of .ensures .0)
     (ltb-true _ _ (c .if2 .taken))
 
 element-write-used : tie.Need-element-write-used Inv-loop μ-loop
@@ -70,13 +63,11 @@ loop-again c =
     let at-slot-of = at-is-edge .before in let slot-of = at-slot-of .slot-of in
     let at-loop-test = at-slot-of .before in let loop-test = at-loop-test .loop-test in
     let at-loop = at-loop-test .before in let loop = at-loop .loop in
-    λ w.
-    let on = (sym (is-edge .ensures .same) ∙ not-false _ (if1 .left)) in
-    let near = vertex-near _ w _ _ on in
-    along-on w (loop .inv w) (loop-test .taken) on (slot-of .ensures .0) (ltb-false _ _ (if2 .left)) (c .next-of .ensures (near .0) (near .1))
+    along-on (loop .inv) (loop-test .taken) (sym (is-edge .ensures .same) ∙ not-false _ (if1 .left)) (slot-of .ensures .0)
+    (ltb-false _ _ (if2 .left)) (c .next-of .ensures)
 
 returns-3 : tie.Need-returns-3 Inv-loop μ-loop
-returns-3 c = λ w. along-done (c .before .loop .inv w) (c .loop-test .left)
+returns-3 c = along-done (c .before .loop .inv) (c .loop-test .left)
 
 pub walk-run-spec : {M : Type 1} → statement M
 walk-run-spec =

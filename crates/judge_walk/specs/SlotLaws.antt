@@ -1,26 +1,26 @@
--- Two edges of a board within the limits have different slots; so one more mark says that one more edge is used.
--- Assumes that the board is within the limits.
+-- Two edges that lie within lines and columns 0 to 31 have different slots; so a mark at one slot changes the map at one edge.
+-- Assumes nothing; an edge of a board within the limits lies so.
 use mathlib.Core.Path.{_≡_, refl, ap, sym, _∙_}
 use mathlib.Core.Bool.{Bool, true, false, cond}
-use mathlib.Core.List.{List, [], _∷_}
+use mathlib.Core.List.{List}
 use mathlib.Core.Logic.{_⊎_, inl, inr}
-use Prim.Native.Nat.{ℕ, suc, _+_, _-_, _*_, _%_, _<_}
+use Prim.Native.Nat.{ℕ, suc, _+_, _-_, _*_, _/_, _%_, _<_}
 use native.Mathlib.Omega.{arith}
 use lib.Dec.{eqb}
-use lib.ListN.{set, replicate, length-set, length-replicate, getD-replicate}
+use lib.ListN.{length, getD, set}
 use lib.Seq.{getD-set-same, getD-set-other}
-use borrow.Author.Tests.{lt-ltb, eq-eqb, ne-eqb}
-use Rattle.count.specs.Truth.{one}
+use borrow.Author.Tests.{eq-eqb, ne-eqb}
 use Rattle.count.specs.TruthLaws.{bool, clash}
+use Rattle.count.specs.Bits.{eq-case}
 use Rattle.board.specs.Board.{Board, Within, Edge, IsEdge, at, Side, top-side, bottom-side, left-side, right-side}
 use Rattle.board.specs.Path.{along}
 use Rattle.board.specs.EdgesAt.{edge-eq}
 use Rattle.board.specs.declared.Vertex.{Vertex}
 use Rattle.board.specs.declared.Direction.{Direction}
 use Rattle.board.specs.declared.Direction.the-variants.{Up, Right, Down, Left}
-use Rattle.routing_rules.specs.Routing.{uses, sameEdge}
+use Rattle.routing_rules.specs.Routing.{sameEdge}
 use Rattle.routing_rules.specs.Check.{same-edge-exact}
-use Rattle.judge_walk.specs.Slots.{corner, slot, slotAt, Marks}
+use Rattle.judge_walk.specs.Slots.{corner, slot, slotAt, edgeAt}
 
 -- ── an edge of a board within the limits, by its left or upper end ──
 pub record Lies (e : Edge) : Type 0 where
@@ -106,25 +106,35 @@ slots-apart e f l m s = elim (l .to) [
         let p = corner-apart _ _ _ _ (l .line) (l .column) (m .line) (m .column) x in
         edge-eq e f (p .0) (p .1) (k (p .0) (p .1))
 
--- ── marks ──
-pub marks-none : (b : Board) → Marks b [] (replicate 2048 0)
-unfolding uses
-marks-none b = record { long = length-replicate {A = ℕ} 2048 0; says = λ e h. rw (getD-replicate {A = ℕ} 2048 (slot e) 0 0 (slot-small e)) refl }
+-- ── the edge of a slot ──
+pub edge-at-lies : (s : ℕ) → s < 2048 → Lies (edgeAt s)
+edge-at-lies s h = record { line = omega arith; column = omega arith; to = go (eqb (s % 2) 0) }
+  where
+    go : (t : Bool) → (cond t (at (s / 64) (suc (s % 64 / 2))) (at (suc (s / 64)) (s % 64 / 2)) ≡ at (s / 64) (suc (s % 64 / 2)))
+        ⊎ (cond t (at (s / 64) (suc (s % 64 / 2))) (at (suc (s / 64)) (s % 64 / 2)) ≡ at (suc (s / 64)) (s % 64 / 2))
+    go true = inl refl
+    go false = inr refl
 
-pub marks-more : {b : Board} → Within b → {used : List Edge} {a : List ℕ} (e : Edge) → IsEdge b e → Marks b used a
-    → Marks b (e ∷ used) (set a (slot e) 1)
-unfolding uses
-marks-more {b} w {used} {a} e h m = record {
-  long = length-set a (slot e) 1 ∙ m .long;
-  says = λ f k. elim (bool (sameEdge f e)) [
-    | inl s ↦
-        let q : f ≡ e = same-edge-exact f e .0 s in
-        let z : slot f ≡ slot e = ap slot q in
-        let y : 0 < one (sameEdge f e) + uses f used = omega (arith, ap one s) in
-        rw (z, getD-set-same a (slot e) 1 0 (omega (arith, slot-small e, m .long))) (sym (lt-ltb 0 _ y))
-    | inr s ↦
-        let d : slot f ≡ slot e → ⊥ = λ z. clash (same-edge-exact f e .1 (slots-apart f e (edge-lies b w f k) (edge-lies b w e h) z)) s in
-        let y : one (sameEdge f e) + uses f used ≡ uses f used = omega (arith, ap one s) in
-        rw (getD-set-other a (slot e) (slot f) 1 0 d, y) (m .says f k)
-  ];
-}
+pub slot-edge-at : (s : ℕ) → s < 2048 → slot (edgeAt s) ≡ s
+slot-edge-at s h =
+    let l : s / 64 % 32 ≡ s / 64 = omega arith in
+    let c : s % 64 / 2 % 32 ≡ s % 64 / 2 = omega arith in
+    let o : s % 64 % 2 ≡ s % 2 = omega arith in
+    let t : s % 64 / 2 * 2 + s % 64 % 2 ≡ s % 64 = omega arith in
+    let u : s / 64 * 64 + s % 64 ≡ s = omega arith in
+    elim (eq-case (s % 2) 0) [
+      | inl e ↦ rw (e .0, eq-eqb (s / 64) (s / 64) refl, l, c) (omega (arith, e .2))
+      | inr e ↦ rw (e .0, ne-eqb (s / 64) (suc (s / 64)) (λ z. omega arith), l, c) (omega (arith, e .2))
+    ]
+
+-- ── a mark ──
+pub marked-at : (m : List ℕ) (k : ℕ) → length m ≡ 2048 → (e f : Edge) → Lies e → Lies f
+    → getD (set m (slot f) k) (slot e) 0 ≡ cond (sameEdge e f) k (getD m (slot e) 0)
+marked-at m k l e f p q = elim (bool (sameEdge e f)) [
+  | inl s ↦
+      let z : slot e ≡ slot f = ap slot (same-edge-exact e f .0 s) in
+      rw (s, z) (getD-set-same m (slot f) k 0 (omega (arith, slot-small f, l)))
+  | inr s ↦
+      let d : slot e ≡ slot f → ⊥ = λ z. clash (same-edge-exact e f .1 (slots-apart e f p q z)) s in
+      rw s (getD-set-other m (slot f) (slot e) k 0 d)
+]
