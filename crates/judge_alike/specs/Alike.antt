@@ -23,8 +23,8 @@ use Rattle.judge_walk.specs.MapWalk.{came, mapPaths}
 use Rattle.judge_alike.specs.MapsAlike.{edgesOf, allFrom, mapsAlike}
 use Rattle.judge_alike.specs.Counted.{lengthOf, edges-are}
 
--- ── a test of numbers in a row ──
--- DEFINITION: those before k are tested, with the outcome t, and n are left
+-- ── the nets in rising number ──
+-- DEFINITION: those up to number i are compared, with the outcome t, and the others up to 64 are left
 pub record Testing (a m : List ℕ) (i : ℕ) (t : Bool) : Type 0 where
   pub left : t && allFrom (suc i) (64 - i) (λ k. eqb (edgesOf a k) (edgesOf m k)) ≡ mapsAlike a m
 

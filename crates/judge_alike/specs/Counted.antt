@@ -1,5 +1,5 @@
 -- A walk that passes gives a net as many slots of the map as its path has edges.
--- Assumes that the nets have numbers above 0; of the board nothing.
+-- Assumes nothing, of the board neither; it is said of numbers above 0.
 use mathlib.Core.Path.{_≡_, refl, ap, _∙_}
 use mathlib.Core.Bool.{Bool, true, false, cond, not}
 use mathlib.Core.List.{List, [], _∷_, _++_}

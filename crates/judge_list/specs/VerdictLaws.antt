@@ -30,9 +30,10 @@ use Rattle.judge_shape.specs.States.{shapeRefused}
 use Rattle.judge_shape.specs.declared.Refusal.{Refusal}
 use Rattle.judge_shape.specs.declared.Checked.{Checked}
 use Rattle.judge_shape.specs.declared.Checked.the-variants as checked
-use Rattle.judge_walk.specs.EdgeMap.{unused}
+use Rattle.judge_walk.specs.EdgeMap.{unused, mapOf}
 use Rattle.judge_walk.specs.MapWalk.{Came, stopped, came, unlessAt, mapPaths, pathEnd}
 use Rattle.judge_walk.specs.SameWalk.{Agree, Marked, marks-none, paths-same}
+use Rattle.judge_walk.specs.MapMade.{map-made}
 use Rattle.judge_alike.specs.MapsAlike.{mapsAlike}
 use Rattle.judge_alike.specs.Alike.{netsIn, lists-alike}
 use Rattle.judge_laws.specs.Shapes.{shape-nets}
@@ -150,6 +151,12 @@ judged-same {b} w places ws = go (shapeRefused ns ws) ∙ sym (judged-is b ns ws
         agree-passing (mapPaths b (pathsFrom 0 ns ws) unused) (walkPaths b (pathsFrom 0 ns ws) []) (pathsIn (pathsFrom 0 ns ws))
         (paths-same w (pathsFrom 0 ns ws) (numbers-above 1 places 0 ws (omega arith)) [] unused marks-none)
     go (some r) = refl
+
+-- and the map that a list leaves that passes is the map of its paths
+pub map-left : {b : Board} → Within b → (places : List Place) (ws : List ℕ) {c : Checked} {a : List ℕ} → Checks b (netsOf places) ws unused a c
+    → c ≡ checked.Passed → a ≡ mapOf (pathsFrom 0 (netsOf places) ws)
+unfolding netsOf
+map-left w places ws h f = map-made w (pathsFrom 0 (netsFrom 1 places) ws) (numbers-above 1 places 0 ws (omega arith)) (checked-passed h f .1)
 
 pub verdict-same : {b : Board} → Within b → (places : List Place) (ws : List ℕ) → verdictBy b (netsOf places) ws ≡ verdictOn b (netsOf places) ws
 verdict-same w places ws = rw (judged-same w places ws) refl
