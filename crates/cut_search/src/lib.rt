@@ -14,6 +14,7 @@ use cut::Cut;
 use net::Held;
 use net::Place;
 use numbers::larger;
+use numbers::smaller;
 use numbers::wide;
 
 // The first overfull cut, if there is one.
@@ -26,12 +27,6 @@ pub enum FoundCut {
 pub enum FoundVertex {
     Nothing,
     At(Vertex),
-}
-
-fn smaller(m: u8, n: u8) -> u8
-    ensures { λ r. ⌜ r ≡ min m n ⌝ }
-{
-    if m < n { m } else { n }
 }
 
 // The first overfull row, from the top.

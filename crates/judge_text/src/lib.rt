@@ -4,7 +4,7 @@ ghost use Rattle.text.specs.Line.{refusedLine};
 ghost use Rattle.text.specs.Put.{Holds};
 ghost use Rattle.call_rules.specs.Result.{yes, no};
 ghost use Rattle.judge_shape.specs.Refused.{refusalOf};
-ghost use Rattle.judge_report.specs.Paths.{reportIs};
+ghost use Rattle.judge_report.specs.Reports.{reportIs};
 ghost use Rattle.judge_list.specs.Verdicts.{verdictOf, comparisonOf};
 ghost use Rattle.judge_call.specs.Answers.{judgementOf};
 ghost use Rattle.judge_text.specs.Text.{judgedLine, comparedLine};

@@ -37,6 +37,12 @@ pub fn before_index(i: usize) -> usize
     if 0 < i { i - 1 } else { 0 }
 }
 
+pub fn smaller(a: u8, b: u8) -> u8
+    ensures { λ r. ⌜ r ≡ min a b ⌝ }
+{
+    if a < b { a } else { b }
+}
+
 pub fn larger(a: u8, b: u8) -> u8
     ensures { λ r. ⌜ r ≡ max a b ⌝ }
 {

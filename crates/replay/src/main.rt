@@ -13,8 +13,7 @@
 ghost use Prim.Native.Nat.{_≤_};
 ghost use lib.ListN.{length};
 ghost use Rattle.text.specs.Put.{Holds};
-ghost use Rattle.session_answers.specs.Answers.{toldOf};
-ghost use Rattle.replay.specs.Text.{answerLine};
+ghost use Rattle.replay.specs.Text.{answerLine, toldAnswer};
 use board::Board;
 use board::Row;
 use board::Vertex;
@@ -142,7 +141,7 @@ fn net(s: &[u8], from: usize) -> Net {
 
 // The line of an answer, at the start of the buffer; how many bytes it is.
 fn told_line(told: Told, out: &mut [u8; 128]) -> usize
-    ensures { λ r. ⌜ Holds (answerLine (toldOf told)) r (now (out .exit)) ⌝ }
+    ensures { λ r. ⌜ Holds (answerLine (toldAnswer told)) r (now (out .exit)) ⌝ }
 {
     let number = told.number;
     if number == 0 {

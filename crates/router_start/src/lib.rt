@@ -12,21 +12,11 @@ use net::Held;
 use net::Pair;
 use net::Place;
 use numbers::before_index;
+use numbers::larger;
 use numbers::least;
+use numbers::smaller;
 use numbers::wide;
 use router_notes::PAIRS;
-
-fn smaller(a: u8, b: u8) -> u8
-    ensures { λ r. ⌜ r ≡ min a b ⌝ }
-{
-    if a < b { a } else { b }
-}
-
-fn larger(a: u8, b: u8) -> u8
-    ensures { λ r. ⌜ r ≡ max a b ⌝ }
-{
-    if a < b { b } else { a }
-}
 
 // The first and the last column of each line: those of the wider of the rows above and below it.
 pub fn fill_lines(b: Board, lo: &mut [u8; 32], hi: &mut [u8; 32])

@@ -17,7 +17,7 @@ use Rattle.cut_search.proofs.overfull_column.Reads as reads
 use Rattle.cut_search.proofs.overfull_column.Lts as lts
 use Rattle.cut.proofs.is_overfull.Reads as is-overfull-reads
 use Rattle.cut_search.proofs.last_column.Reads as last-column-reads
-use Rattle.cut_search.proofs.smaller.Reads as smaller-reads
+use Rattle.numbers.proofs.smaller.Reads as smaller-reads
 
 abbrev Inv-loop : tie.InvT-loop
 Inv-loop b nets end j₀ j =

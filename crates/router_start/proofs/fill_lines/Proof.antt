@@ -12,9 +12,9 @@ use Rattle.router_start.proofs.fill_lines.Tie as tie
 use Rattle.router_start.proofs.fill_lines.Reads as reads
 use Rattle.router_start.proofs.fill_lines.Lts as lts
 use Rattle.numbers.proofs.before_index.Reads as before-index-reads
-use Rattle.router_start.proofs.larger.Reads as larger-reads
+use Rattle.numbers.proofs.larger.Reads as larger-reads
 use Rattle.numbers.proofs.least.Reads as least-reads
-use Rattle.router_start.proofs.smaller.Reads as smaller-reads
+use Rattle.numbers.proofs.smaller.Reads as smaller-reads
 use Rattle.numbers.proofs.wide.Reads as wide-reads
 
 abbrev Inv-loop : tie.InvT-loop
