@@ -47,19 +47,22 @@ refused-requires c κs = search needs
 
 -- src/main.rt:37:1
 returns : tie.Need-returns
-returns c = (
-  c .written-line .ensures .0,
-  λ x P.
-      c .written-line .ensures .1
-      ∙ written-back (c .before .before .before .before .before .before .enum-told .given .1) (length-replicate {A = ℕ} 96 0) (c .before .before .before .before .write-board .ensures) x P,
-)
+returns c =
+    let written-line = c .written-line in
+    let at-write-board = c .before .before .before .before in let write-board = at-write-board .write-board in
+    let at-enum-told = at-write-board .before .before in let told = at-enum-told .enum-told in (
+      written-line .ensures .0,
+      λ x P. written-line .ensures .1 ∙ written-back (told .given .1) (length-replicate {A = ℕ} 96 0) (write-board .ensures) x P,
+    )
 
 -- src/main.rt:37:1
 returns-2 : tie.Need-returns-2
-returns-2 c = (
-  c .refused .ensures .0,
-  λ x P. (rw (c .before .before .wide .ensures .0) at (c .refused .ensures .1)) ∙ refused-line _ _ (c .before .before .before .before .answer .given .1) x P,
-)
+returns-2 c =
+    let at-wide = c .before .before in let wide = at-wide .wide in
+    let at-answer = at-wide .before .before in let answer = at-answer .answer in (
+      c .refused .ensures .0,
+      λ x P. (rw (wide .ensures .0) at (c .refused .ensures .1)) ∙ refused-line _ _ (answer .given .1) x P,
+    )
 
 pub read-line-spec : {M : Type 1} → statement M
 read-line-spec =
