@@ -48,7 +48,8 @@ line-number false false false false false false false r h = absurd (let q : _≡
 refused-number : (b : Block) (ns : List Net) (n : Net) (r : Refusal) → addRefused b ns n ≡ some r → 1 ≤ r .number
 unfolding addRefused addLines
 refused-number b ns n r h =
-    line-number (not (goodNumber (n .number))) (holds (n .number) ns) (not (vertex? (b .board) (n .ends .first))) (not (vertex? (b .board) (n .ends .second)))
+    line-number (not (goodNumber (n .number))) (holds (n .number) ns) (not (vertex? (b .board) (n .ends .first)))
+    (not (vertex? (b .board) (n .ends .second)))
     (same (n .ends .first) (n .ends .second)) (full b ns (n .ends .first)) (full b ns (n .ends .second)) r h
 
 module _ (t : Told) where

@@ -27,7 +27,20 @@ use Rattle.session.specs.View.{sessionOf}
 use Rattle.session.specs.Promise.{FreshPromise}
 use Rattle.session.specs.declared.Session as code
 use Rattle.call_rules.specs.Result.{Result, no, yes, andThen, unless}
-use Rattle.call_rules.specs.Reading.{Taken, nothingTaken, takeWords, addListed, reverse, boardIn, blockIn, readNets, readTaken, readWords, readBytes, badLength}
+use Rattle.call_rules.specs.Reading.{
+  Taken,
+  nothingTaken,
+  takeWords,
+  addListed,
+  reverse,
+  boardIn,
+  blockIn,
+  readNets,
+  readTaken,
+  readWords,
+  readBytes,
+  badLength,
+}
 use Rattle.words.specs.Bytes.{wordsIn}
 use Rattle.words_bytes.specs.Words.{FilledWith}
 use Rattle.words_bytes.specs.WordsLaws.{words-length, all-words}
@@ -109,7 +122,8 @@ module _ (ws : List ℕ) (r : Scanned) (S : ScanPromise ws r) (z : r .number ≡
   pub bent-refused : isConvex (boardOf (r .scan .board)) ≡ false → readWords ws ≡ no (refusal 16 0)
   bent-refused e = let t = taken-scan ws r S z in convex-refused ws (t .0) (t .1) (rw (t .2 .board-is) at e)
 
-  pub net-refused : isConvex (boardOf (r .scan .board)) ≡ true → (a : AddedAll) → AllPromise (blockOf (plainOf (r .scan .board))) ws a → (a .number ≡ 0 → ⊥)
+  pub net-refused : isConvex (boardOf (r .scan .board)) ≡ true → (a : AddedAll) → AllPromise (blockOf (plainOf (r .scan .board))) ws a
+      → (a .number ≡ 0 → ⊥)
       → readWords ws ≡ no (refusal (a .number) (a .index))
   net-refused e a A y = go A
     where
@@ -119,7 +133,8 @@ module _ (ws : List ℕ) (r : Scanned) (S : ScanPromise ws r) (z : r .number ≡
           nets-refused ws (t .0) (t .1) (rw (t .2 .board-is) at e) (refusal (a .number) (a .index)) (rw f (rw (t .2 .board-is) at g))
       go (inr g) = absurd (y (g .0))
 
-  pub session-read : isConvex (boardOf (r .scan .board)) ≡ true → (a : AddedAll) → AllPromise (blockOf (plainOf (r .scan .board))) ws a → a .number ≡ 0
+  pub session-read : isConvex (boardOf (r .scan .board)) ≡ true → (a : AddedAll) → AllPromise (blockOf (plainOf (r .scan .board))) ws a
+      → a .number ≡ 0
       → (s : code.Session) → FreshPromise (plainOf (r .scan .board)) s
       → ReadPromise (readWords ws) (record { answer = answer.Accepted; session = withPlaces s (a .nets) (s .pile) })
   session-read e a A y s f = go A

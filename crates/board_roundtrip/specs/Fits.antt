@@ -35,8 +35,10 @@ vertex-fits b v w e =
 pub nets-fit : (b : Block) (ns : List Net) → Within (b .board) → AllGood b ns → NetsFit ns
 nets-fit b [] w g = tt
 nets-fit b (n ∷ ns) w g =
-    let k = g .0 in
-    ((omega (arith, k .high), vertex-fits (b .board) (n .ends .first) w (k .first), vertex-fits (b .board) (n .ends .second) w (k .second)), nets-fit b ns w (g .1))
+    let k = g .0 in (
+      (omega (arith, k .high), vertex-fits (b .board) (n .ends .first) w (k .first), vertex-fits (b .board) (n .ends .second) w (k .second)),
+      nets-fit b ns w (g .1),
+    )
 
 -- numbers that rise from k on and end by 64
 rising-few : (b : Block) (k : ℕ) (ns : List Net) → k ≤ 65 → From k ns → AllGood b ns → length ns + k ≤ 65

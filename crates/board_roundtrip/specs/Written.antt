@@ -43,7 +43,8 @@ module _ (s : Session) (h : Sound s) where
   words-few = omega (arith, words-length s, few, h .within .few)
 
   -- ── they are taken one by one ──
-  written-taken : takeWords 0 nothingTaken (boardWords s) ≡ yes (taken (s .block .board .rows) (listedOnto (0 + length (s .block .board .rows)) (s .nets) []) true)
+  written-taken : takeWords 0 nothingTaken (boardWords s)
+      ≡ yes (taken (s .block .board .rows) (listedOnto (0 + length (s .block .board .rows)) (s .nets) []) true)
   unfolding boardWords
   written-taken =
       let rs = s .block .board .rows in let ns = s .nets in let i = 0 + length rs in
@@ -72,4 +73,5 @@ module _ (s : Session) (h : Sound s) where
   unfolding readWords
   words-read =
       let n = length (boardWords s) in
-      rw (ne-eqb n 0 (λ e. omega (arith, words-length s)), le-ltb boardLimit n words-few, written-taken) (taken-read (0 + length (s .block .board .rows)))
+      rw (ne-eqb n 0 (λ e. omega (arith, words-length s)), le-ltb boardLimit n words-few, written-taken)
+      (taken-read (0 + length (s .block .board .rows)))

@@ -38,7 +38,8 @@ parts s e =
     (endWord (s .block .board .count) (length (netWords (s .nets) 64)) ∷ [])))
 
 pub all-written : (s : code.Session) (before mid after : List ℕ) (rows at w : ℕ) → length (s .nets) ≡ 64 → s .block .board .count ≤ 31
-    → boardLimit ≤ length before → rows ≡ s .block .board .count → mid ≡ writtenInto before (rowWords (s .block .board .rows) (s .block .board .count))
+    → boardLimit ≤ length before → rows ≡ s .block .board .count
+    → mid ≡ writtenInto before (rowWords (s .block .board .rows) (s .block .board .count))
     → Continues (netWords (s .nets) 64) mid after rows at
     → w ≡ endWord (s .block .board .count) ((at - rows) % 256)
     → (at < length before) × (length after ≡ length before) × WrittenWords (boardWords (sessionOf s)) before (set after at w) (at + 1)

@@ -131,7 +131,8 @@ pub passes-complete : (s : Session) → Within (s .block .board) → Numbered (s
 unfolding judged routingWords uses
 passes-complete s w m l dss r =
     let all = length (s .nets) in
-    let few = edges-few (s .block .board) w (flatten (trails (pairs (s .nets)) dss)) (joins-edges (s .block .board) (pairs (s .nets)) dss (r .joins)) (r .once) in
+    let few = edges-few (s .block .board) w (flatten (trails (pairs (s .nets)) dss)) (joins-edges (s .block .board) (pairs (s .nets)) dss (r .joins))
+    (r .once) in
     let each = each-runs (s .block .board) w (s .nets) dss (r .joins) few in
     let ws = routingWords (s .nets) dss in
     let same : ws ≡ wordsBy all (s .nets) (map runsOf dss) =
@@ -146,7 +147,8 @@ passes-complete s w m l dss r =
     rw (ne-eqb (length ws) 0 (λ z. omega arith), le-ltb 2049 (length ws) (omega arith), shape, q) (ap yes paths)
 
 -- THE LAW: a list passes, with the paths dss, exactly when it is the routing words of a routing of the nets with those paths.
-pub passes-exactly : (s : Session) → Within (s .block .board) → Numbered (s .nets) → length (s .nets) ≤ 64 → (ws : List ℕ) (dss : List (List Direction))
+pub passes-exactly : (s : Session) → Within (s .block .board) → Numbered (s .nets) → length (s .nets) ≤ 64
+    → (ws : List ℕ) (dss : List (List Direction))
     → (judged s ws ≡ yes dss) ↔ Passing s ws dss
 passes-exactly s w m l ws dss = (
   passes-sound s ws dss,

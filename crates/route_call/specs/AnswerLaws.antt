@@ -60,12 +60,14 @@ module _ (s : Session) (ps : List Pair) (same : pairs (s .nets) ≡ ps) where
       → head? (oddVertices (s .block .board) (pairs (s .nets))) ≡ some v
   odd-at v e = rw same (vertex-some _ v e)
 
-  pub none-odd : code-vertex.the-variants.Nothing ≡ foundVertex (head? (oddVertices (s .block .board) ps)) → oddVertices (s .block .board) (pairs (s .nets)) ≡ []
+  pub none-odd : code-vertex.the-variants.Nothing ≡ foundVertex (head? (oddVertices (s .block .board) ps))
+      → oddVertices (s .block .board) (pairs (s .nets)) ≡ []
   none-odd e = rw same (head-none (oddVertices (s .block .board) ps) .0 (vertex-none _ e))
 
   pub overfull-at : (x : Cut) → code-cut.the-variants.At x ≡ foundCut (head? (overfullCuts (s .block .board) ps))
       → head? (overfullCuts (s .block .board) (pairs (s .nets))) ≡ some x
   overfull-at x e = rw same (found-some _ x e)
 
-  pub none-overfull : code-cut.the-variants.Nothing ≡ foundCut (head? (overfullCuts (s .block .board) ps)) → overfullCuts (s .block .board) (pairs (s .nets)) ≡ []
+  pub none-overfull : code-cut.the-variants.Nothing ≡ foundCut (head? (overfullCuts (s .block .board) ps))
+      → overfullCuts (s .block .board) (pairs (s .nets)) ≡ []
   none-overfull e = rw same (head-none (overfullCuts (s .block .board) ps) .0 (found-none _ e))

@@ -1,615 +1,70 @@
 // Lists of routing words through judging, and what each answers: "passed" with edges, turns and knock-knees, or "refused" with number and
 // place.
+//
+// Standard input is text, at most 65,536 bytes of it: a list on a line, told by its first letter, with words in hexadecimal.
+//     board WORD ..    the session that the lists are judged against, at most 2,050 words
+//     list WORD ..     is judged, at most 2,050 words of it
+// Other lines are passed over.
+ghost use mathlib.Core.Path.{_≡_};
+ghost use Rattle.text.specs.Put.{Holds};
+ghost use Rattle.session.specs.View.{sessionOf};
+ghost use Rattle.call_rules.specs.Judge.{judgeWords};
+ghost use Rattle.judge_text.specs.Text.{judgedLine};
+use session::Session;
 
-fn judges(board: &[u32], words: &[u32]) {
-    let r = board_reading::read_words(board);
-    let s = r.session;
-    let answer = judge_call::judge_words(s, words);
+// The line of a judged list, at the start of the buffer; how many bytes it is.
+fn list_line(s: Session, words: &[u32], out: &mut [u8; 128]) -> usize
+    ensures { λ r. ⌜ Holds (judgedLine (judgeWords (sessionOf s) (now (words .entry)))) r (now (out .exit)) ⌝ }
+{
+    judge_text::judgement_line(judge_call::judge_words(s, words), out)
+}
+
+fn print_list(s: Session, words: &[u32]) {
     let mut out = [0u8; 128];
-    let n = judge_text::judgement_line(answer, &mut out);
+    let n = list_line(s, words, &mut out);
     io::write_all(1, &out[..n]);
 }
 
-// The ring of one cell.
-fn judges_ring(words: &[u32]) {
-    judges(
-        &[
-            0x10000001,
-            0x20100001,
-            0x20200421,
-            0x20308420,
-            0x20408000,
-            0xF0000104,
-        ],
-        words,
-    );
+// The session after a line, and where the next line begins.
+struct Lined {
+    session: Session,
+    next: usize,
 }
 
-// The board and nets of case i.
-fn judges_corners(words: &[u32]) {
-    judges(
-        &[0x10000002, 0x10000002, 0x20100420, 0x20208841, 0xF0000202],
-        words,
-    );
+fn line(session: Session, s: &[u8], at: usize) -> Lined {
+    let mut words = [0u32; 2050];
+    let kind = vectors::letter(s, at);
+    let listed = vectors::read_list(s, at, &mut words);
+    let count = listed.count;
+    let next = listed.next;
+    if kind == b'b' {
+        let read = board_reading::read_words(&words[..count]);
+        let other = read.session;
+        return Lined {
+            session: other,
+            next,
+        };
+    }
+    if kind == b'l' {
+        print_list(session, &words[..count]);
+    }
+    Lined { session, next }
 }
 
-// Its board with one net alone.
-fn judges_alone(words: &[u32]) {
-    judges(&[0x10000002, 0x10000002, 0x20100422, 0xF0000201], words);
-}
-
-// The ring passes.
-fn judged_passes() {
-    judges_ring(
-        &[
-            0x40100001,
-            0x54000001,
-            0x40200001,
-            0x58000001,
-            0x40300001,
-            0x5C000001,
-            0x40400001,
-            0x50000001,
-            0xE0000004,
-        ],
-    );
-}
-
-// 41: no words, 2,050 words; 2,049 words are looked at.
-fn judged_lengths() {
-    judges_ring(&[0u32; 0]);
-    judges_ring(&[0xE0000004; 2050]);
-    judges_ring(&[0xE0000004; 2049]);
-}
-
-// 42: kinds, unnamed bits of each kind, length 0, a direction repeated, words of another kind where a run is due.
-fn judged_words() {
-    judges_ring(
-        &[
-            0x10000001,
-            0x54000001,
-            0x40200001,
-            0x58000001,
-            0x40300001,
-            0x5C000001,
-            0x40400001,
-            0x50000001,
-            0xE0000004,
-        ],
-    );
-    judges_ring(
-        &[
-            0x54000001,
-            0x54000001,
-            0x40200001,
-            0x58000001,
-            0x40300001,
-            0x5C000001,
-            0x40400001,
-            0x50000001,
-            0xE0000004,
-        ],
-    );
-    judges_ring(
-        &[
-            0x40100001,
-            0x54000001,
-            0x40200801,
-            0x58000001,
-            0x40300001,
-            0x5C000001,
-            0x40400001,
-            0x50000001,
-            0xE0000004,
-        ],
-    );
-    judges_ring(
-        &[
-            0x40100001,
-            0x54000001,
-            0x40280001,
-            0x58000001,
-            0x40300001,
-            0x5C000001,
-            0x40400001,
-            0x50000001,
-            0xE0000004,
-        ],
-    );
-    judges_ring(
-        &[
-            0x40100001,
-            0x54000001,
-            0x40200001,
-            0x58000021,
-            0x40300001,
-            0x5C000001,
-            0x40400001,
-            0x50000001,
-            0xE0000004,
-        ],
-    );
-    judges_ring(
-        &[
-            0x40100001,
-            0x54000001,
-            0x40200001,
-            0x5A000001,
-            0x40300001,
-            0x5C000001,
-            0x40400001,
-            0x50000001,
-            0xE0000004,
-        ],
-    );
-    judges_ring(
-        &[
-            0x40100001,
-            0x54000001,
-            0x40200001,
-            0x58000001,
-            0x40300001,
-            0x5C000001,
-            0x40400001,
-            0x50000001,
-            0xE0000104,
-        ],
-    );
-    judges_ring(
-        &[
-            0x40100001,
-            0x40200001,
-            0x40200001,
-            0x58000001,
-            0x40300001,
-            0x5C000001,
-            0x40400001,
-            0x50000001,
-            0xE0000004,
-        ],
-    );
-    judges_ring(
-        &[
-            0x40100001,
-            0xE0000004,
-            0x40200001,
-            0x58000001,
-            0x40300001,
-            0x5C000001,
-            0x40400001,
-            0x50000001,
-            0xE0000004,
-        ],
-    );
-    judges_ring(
-        &[
-            0x40100001,
-            0x54000000,
-            0x40200001,
-            0x58000001,
-            0x40300001,
-            0x5C000001,
-            0x40400001,
-            0x50000001,
-            0xE0000004,
-        ],
-    );
-    judges_ring(
-        &[
-            0x40100002,
-            0x54000001,
-            0x54000001,
-            0x40200001,
-            0x58000001,
-            0x40300001,
-            0x5C000001,
-            0x40400001,
-            0x50000001,
-            0xE0000004,
-        ],
-    );
-    judges_ring(
-        &[
-            0x40200801,
-            0x54000001,
-            0x40200001,
-            0x58000001,
-            0x40300001,
-            0x5C000001,
-            0x40400001,
-            0x50000001,
-            0xE0000004,
-        ],
-    );
-}
-
-// 43: another net, the end too soon, a path too many, other counts, over early, words after the end.
-fn judged_order() {
-    judges_ring(
-        &[
-            0x40200001,
-            0x54000001,
-            0x40200001,
-            0x58000001,
-            0x40300001,
-            0x5C000001,
-            0x40400001,
-            0x50000001,
-            0xE0000004,
-        ],
-    );
-    judges_ring(
-        &[
-            0x40100001,
-            0x54000001,
-            0x40100001,
-            0x58000001,
-            0x40300001,
-            0x5C000001,
-            0x40400001,
-            0x50000001,
-            0xE0000004,
-        ],
-    );
-    judges_ring(
-        &[
-            0x40100001,
-            0x54000001,
-            0x40200001,
-            0x58000001,
-            0x40300001,
-            0x5C000001,
-            0xE0000003,
-        ],
-    );
-    judges_ring(
-        &[
-            0x40100001,
-            0x54000001,
-            0x40200001,
-            0x58000001,
-            0x40300001,
-            0x5C000001,
-            0x40400001,
-            0x50000001,
-            0x40500000,
-            0xE0000005,
-        ],
-    );
-    judges_ring(
-        &[
-            0x40100001,
-            0x54000001,
-            0x40200001,
-            0x58000001,
-            0x40300001,
-            0x5C000001,
-            0x40400001,
-            0x50000001,
-            0xE0000003,
-        ],
-    );
-    judges_ring(
-        &[
-            0x40100001,
-            0x54000001,
-            0x40200001,
-            0x58000001,
-            0x40300001,
-            0x5C000001,
-            0x40400001,
-            0x50000001,
-            0xE0000005,
-        ],
-    );
-    judges_ring(
-        &[
-            0x40100001,
-            0x54000001,
-            0x40200001,
-            0x58000001,
-            0x40300001,
-            0x5C000001,
-            0x40400001,
-            0x50000001,
-        ],
-    );
-    judges_ring(
-        &[
-            0x40100001,
-            0x54000001,
-            0x40200001,
-            0x58000001,
-            0x40300001,
-            0x5C000001,
-            0x40400001,
-        ],
-    );
-    judges_ring(&[0x40100001]);
-    judges_ring(
-        &[
-            0x40100001,
-            0x54000001,
-            0x40200001,
-            0x58000001,
-            0x40300001,
-            0x5C000001,
-            0x40400001,
-            0x50000001,
-            0xE0000004,
-            0x00000000,
-        ],
-    );
-    judges_ring(
-        &[
-            0x40100001,
-            0x54000001,
-            0x40200001,
-            0x58000001,
-            0x40300001,
-            0x5C000001,
-            0x40400001,
-            0x50000001,
-            0xE0000004,
-            0xE0000004,
-        ],
-    );
-    judges_ring(
-        &[
-            0x40100001,
-            0x50000001,
-            0x40200001,
-            0x58000001,
-            0x40300001,
-            0x5C000001,
-            0x40400001,
-            0x50000001,
-        ],
-    );
-}
-
-// 44: off the board in each direction; 45: by another path, by the same one; 44 before 45.
-fn judged_steps() {
-    judges_ring(
-        &[
-            0x40100001,
-            0x50000001,
-            0x40200001,
-            0x58000001,
-            0x40300001,
-            0x5C000001,
-            0x40400001,
-            0x50000001,
-            0xE0000004,
-        ],
-    );
-    judges_ring(
-        &[
-            0x40100001,
-            0x5C000001,
-            0x40200001,
-            0x58000001,
-            0x40300001,
-            0x5C000001,
-            0x40400001,
-            0x50000001,
-            0xE0000004,
-        ],
-    );
-    judges_ring(
-        &[
-            0x40100001,
-            0x54000001,
-            0x40200001,
-            0x54000001,
-            0x40300001,
-            0x5C000001,
-            0x40400001,
-            0x50000001,
-            0xE0000004,
-        ],
-    );
-    judges_ring(
-        &[
-            0x40100001,
-            0x54000001,
-            0x40200001,
-            0x58000001,
-            0x40300001,
-            0x58000001,
-            0x40400001,
-            0x50000001,
-            0xE0000004,
-        ],
-    );
-    judges_ring(
-        &[
-            0x40100001,
-            0x54000002,
-            0x40200001,
-            0x58000001,
-            0x40300001,
-            0x5C000001,
-            0x40400001,
-            0x50000001,
-            0xE0000004,
-        ],
-    );
-    judges_ring(
-        &[
-            0x40100001,
-            0x54000001,
-            0x40200002,
-            0x5C000001,
-            0x58000001,
-            0x40300001,
-            0x5C000001,
-            0x40400001,
-            0x50000001,
-            0xE0000004,
-        ],
-    );
-    judges_ring(
-        &[
-            0x40100003,
-            0x54000001,
-            0x5C000001,
-            0x54000001,
-            0x40200001,
-            0x58000001,
-            0x40300001,
-            0x5C000001,
-            0x40400001,
-            0x50000001,
-            0xE0000004,
-        ],
-    );
-    judges_ring(
-        &[
-            0x40100001,
-            0x54000001,
-            0x40200001,
-            0x58000001,
-            0x40300001,
-            0x5C000001,
-            0x40400003,
-            0x54000001,
-            0x5C000001,
-            0x50000001,
-            0xE0000004,
-        ],
-    );
-    judges_ring(
-        &[
-            0x40100001,
-            0x54000001,
-            0x40200002,
-            0x5C000002,
-            0x58000001,
-            0x40300001,
-            0x5C000001,
-            0x40400001,
-            0x50000001,
-            0xE0000004,
-        ],
-    );
-}
-
-// 46: a path that ends elsewhere, one of no runs; before the next path.
-fn judged_ends() {
-    judges_ring(
-        &[
-            0x40100001,
-            0x58000001,
-            0x40200001,
-            0x58000001,
-            0x40300001,
-            0x5C000001,
-            0x40400001,
-            0x50000001,
-            0xE0000004,
-        ],
-    );
-    judges_ring(
-        &[
-            0x40100000,
-            0x40200001,
-            0x58000001,
-            0x40300001,
-            0x5C000001,
-            0x40400001,
-            0x50000001,
-            0xE0000004,
-        ],
-    );
-    judges_ring(
-        &[
-            0x40100001,
-            0x54000001,
-            0x40200000,
-            0x40300001,
-            0x5C000001,
-            0x40400001,
-            0x50000001,
-            0xE0000004,
-        ],
-    );
-    judges_ring(
-        &[
-            0x40100001,
-            0x58000001,
-            0x40200001,
-            0x50000001,
-            0x40300001,
-            0x5C000001,
-            0x40400001,
-            0x50000001,
-            0xE0000004,
-        ],
-    );
-    judges_ring(
-        &[
-            0x40100001,
-            0x54000001,
-            0x40200001,
-            0x58000001,
-            0x40300001,
-            0x5C000001,
-            0x40400000,
-            0xE0000004,
-        ],
-    );
-}
-
-// Case i: one knock-knee; the same nets the other way round.
-fn judged_corners() {
-    judges_corners(
-        &[
-            0x40100002,
-            0x58000001,
-            0x5C000001,
-            0x40200002,
-            0x5C000001,
-            0x58000001,
-            0xE0000002,
-        ],
-    );
-    judges_corners(
-        &[
-            0x40100002,
-            0x5C000001,
-            0x58000001,
-            0x40200002,
-            0x58000001,
-            0x5C000001,
-            0xE0000002,
-        ],
-    );
-}
-
-// A net alone that passes a vertex twice, turning there twice: no knock-knee.
-fn judged_twice() {
-    judges_alone(
-        &[
-            0x40100006,
-            0x58000001,
-            0x5C000001,
-            0x58000001,
-            0x54000001,
-            0x50000001,
-            0x54000001,
-            0xE0000001,
-        ],
-    );
+fn lines(s: &[u8]) {
+    let mut session = session::blank();
+    let mut at: usize = 0;
+    let mut turns = s.len();
+    while 0 < turns {
+        let lined = line(session, s, at);
+        session = lined.session;
+        at = lined.next;
+        turns -= 1;
+    }
 }
 
 fn main() {
-    judged_passes();
-    judged_lengths();
-    judged_words();
-    judged_order();
-    judged_steps();
-    judged_ends();
-    judged_corners();
-    judged_twice();
+    let mut text = io::large_buffer();
+    let n = io::read_full(0, &mut text);
+    lines(&text[..n]);
 }

@@ -77,7 +77,11 @@ unfolding withdrawOf withdrawSound
 withdraw-keeps s k = elim (bool (sound? (sessionOf s))) [ inl e ↦ rw e (held-kept s k (placeAt (s .nets) k .held)) | inr e ↦ rw e (λ r. refl) ]
 
 pub withdraw-promise : (s : Session) (k : ℕ) (r : AfterWithdraw) → Sized s → r ≡ withdrawOf s k → WithdrawPromise s k r
-withdraw-promise s k r z e = rw e (record { value = refl; call = record { answers = withdraw-answers s k; next = withdraw-nexts s k z; kept = withdraw-keeps s k } })
+withdraw-promise s k r z e = rw e (record {
+  value = refl;
+  call =
+      record { answers = withdraw-answers s k; next = withdraw-nexts s k z; kept = withdraw-keeps s k };
+})
 
 -- ── take back ──
 take-back-answers : (s : Session) → takeBackAnswer (takeBackOf s .answer) ≡ call (sessionOf s) takeBack .answer
@@ -97,4 +101,8 @@ unfolding takeBackOf
 take-back-keeps s = elim (bool (sound? (sessionOf s))) [ inl e ↦ rw e (back-kept s) | inr e ↦ rw e (λ r. refl) ]
 
 pub take-back-promise : (s : Session) (r : AfterTakeBack) → Sized s → r ≡ takeBackOf s → TakeBackPromise s r
-take-back-promise s r z e = rw e (record { value = refl; call = record { answers = take-back-answers s; next = take-back-nexts s z; kept = take-back-keeps s } })
+take-back-promise s r z e = rw e (record {
+  value = refl;
+  call =
+      record { answers = take-back-answers s; next = take-back-nexts s z; kept = take-back-keeps s };
+})

@@ -36,7 +36,8 @@ first-line false false false false false false false = refl
 pub check-answer : (b : Block) (ns : List Net) (n : Net) → addAnswer (checkOf b ns n) ≡ answered (addRefused b ns n)
 unfolding checkOf addRefused addLines
 check-answer b ns n =
-    first-line (not (goodNumber (n .number))) (holds (n .number) ns) (not (vertex? (b .board) (n .ends .first))) (not (vertex? (b .board) (n .ends .second)))
+    first-line (not (goodNumber (n .number))) (holds (n .number) ns) (not (vertex? (b .board) (n .ends .first)))
+    (not (vertex? (b .board) (n .ends .second)))
     (same (n .ends .first) (n .ends .second)) (full b ns (n .ends .first)) (full b ns (n .ends .second))
 
 first-none : (a b c d e f g : Bool)
@@ -55,5 +56,6 @@ first-none false false false false false false false = refl
 pub check-accepts : (b : Block) (ns : List Net) (n : Net) → isAccepted (checkOf b ns n) ≡ accepts b ns n
 unfolding checkOf accepts addRefused addLines
 check-accepts b ns n =
-    first-none (not (goodNumber (n .number))) (holds (n .number) ns) (not (vertex? (b .board) (n .ends .first))) (not (vertex? (b .board) (n .ends .second)))
+    first-none (not (goodNumber (n .number))) (holds (n .number) ns) (not (vertex? (b .board) (n .ends .first)))
+    (not (vertex? (b .board) (n .ends .second)))
     (same (n .ends .first) (n .ends .second)) (full b ns (n .ends .first)) (full b ns (n .ends .second))

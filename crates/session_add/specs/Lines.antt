@@ -25,5 +25,6 @@ firstOf is21 is22 is23-0 is23-1 is24 is25-0 is25-1 =
 -- what adding the net n to the nets ns on the block b answers
 unfoldable pub checkOf : Block → List Net → Net → AddAnswer
 checkOf b ns n =
-    firstOf (not (goodNumber (n .number))) (holds (n .number) ns) (not (vertex? (b .board) (n .ends .first))) (not (vertex? (b .board) (n .ends .second)))
+    firstOf (not (goodNumber (n .number))) (holds (n .number) ns) (not (vertex? (b .board) (n .ends .first)))
+    (not (vertex? (b .board) (n .ends .second)))
     (same (n .ends .first) (n .ends .second)) (full b ns (n .ends .first)) (full b ns (n .ends .second))

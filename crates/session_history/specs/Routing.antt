@@ -27,7 +27,18 @@ use Rattle.session_laws.specs.Exact.{sound-exact}
 use Rattle.session.specs.declared.Session as code
 use Rattle.session.specs.View.{sessionOf}
 use Rattle.call_rules.specs.Result.{Result, no, yes}
-use Rattle.call_rules.specs.Route.{routeRoom, overfullRefusal, overfullRefused, routeRefused, HandsBack, HandsBackBytes, Routes, RoutesBytes, refused, given}
+use Rattle.call_rules.specs.Route.{
+  routeRoom,
+  overfullRefusal,
+  overfullRefused,
+  routeRefused,
+  HandsBack,
+  HandsBackBytes,
+  Routes,
+  RoutesBytes,
+  refused,
+  given,
+}
 use Rattle.route_call.specs.Answers.{routeAnswer}
 use Rattle.route_call.specs.Sessions.{problem-of}
 use Rattle.session_history.specs.Made.{Made, changed, routed, routedBytes, Meets, Chain}
@@ -77,7 +88,8 @@ words-rightly : (m : Session) → Sound m → AllEven m → {before after : List
 words-rightly m S E long (refused {r} e) = refused-rightly m S E long r e (HandsBack m _ _)
 words-rightly m S E long (given {after} {count} e H) = given-rightly m S E long count e (HandsBack m _ after) H
 
-bytes-rightly : (m : Session) → Sound m → AllEven m → {before after : List ℕ} {a : Result ℕ} → routeRoom m ≤ length before / 4 → RoutesBytes m before a after
+bytes-rightly : (m : Session) → Sound m → AllEven m → {before after : List ℕ} {a : Result ℕ} → routeRoom m ≤ length before / 4
+    → RoutesBytes m before a after
     → Rightly m a (HandsBackBytes m before after)
 bytes-rightly m S E long (refused {r} e) = refused-rightly m S E long r e (HandsBackBytes m _ _)
 bytes-rightly m S E long (given {after} {count} e H) = given-rightly m S E long count e (HandsBackBytes m _ after) H

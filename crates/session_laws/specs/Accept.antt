@@ -57,7 +57,8 @@ none-holds false false false false false false false h = record {
 pub free-of : (b : Block) (ns : List Net) (n : Net) → accepts b ns n ≡ true → Free b ns n
 unfolding accepts addRefused addLines
 free-of b ns n h =
-    let f = none-holds (not (goodNumber (n .number))) (holds (n .number) ns) (not (vertex? (b .board) (n .ends .first))) (not (vertex? (b .board) (n .ends .second)))
+    let f = none-holds (not (goodNumber (n .number))) (holds (n .number) ns) (not (vertex? (b .board) (n .ends .first)))
+    (not (vertex? (b .board) (n .ends .second)))
     (same (n .ends .first) (n .ends .second)) (full b ns (n .ends .first)) (full b ns (n .ends .second)) h in
     let k = and-true (leb 1 (n .number)) (leb (n .number) 64) (not-false (goodNumber (n .number)) (f .is21)) in
     record {

@@ -33,5 +33,11 @@ sound-exact s = (
         short = leb-true (length (s .pile)) pileLimit (w .0);
         lifts = w .1;
       },
-  λ h. rw (is-convex (s .block .board) .1 (h .within, h .convex), h .rising, h .addable, le-leb (length (s .pile)) pileLimit (h .short), h .lifts) refl,
+  λ h. rw (
+    is-convex (s .block .board) .1 (h .within, h .convex),
+    h .rising,
+    h .addable,
+    le-leb (length (s .pile)) pileLimit (h .short),
+    h .lifts,
+  ) refl,
 )

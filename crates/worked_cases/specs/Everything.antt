@@ -30,7 +30,8 @@ use Rattle.call_rules.specs.Judge.{judged, judgeWords, compareWords, judgeBytes
 use Rattle.call_rules.specs.Route.{routeRefused}
 
 unfoldable pub everything : ℕ
-unfolding sum count select turn turns belowRight belowLeft aboveRight aboveLeft vertex? edge? degree pins pinsOf rowsFit contains? peels inLimits isConvex
+unfolding sum count select turn turns belowRight belowLeft aboveRight aboveLeft vertex? edge? degree pins pinsOf rowsFit contains? peels
+    inLimits isConvex
     terminals edges crosses crossing margin overfull? cuts overfullCuts odd? oddVertices edgesFrom trails uses path? joins? once? routing? holds
     insert remove netOf recorded addLines addRefused accepts lay added withdrawn reversed takenBack step rising? addable? liftable? lifts? sound? call
     boardWord asRow asNet asEnd routingWord asPath asRun asRoutingEnd runsOf pathWords pathsWords routingWords wordsIn bytesOf wordLines takeWords

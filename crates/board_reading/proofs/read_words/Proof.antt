@@ -65,7 +65,8 @@ returns-3 c =
     let at-args = at-scan-words .before .before in let args = at-args .args in
     let ws = args .words .now in let s = scan-words in let x = is-convex in let a = add-words in
     refused-read (readWords ws) (a .result .number) (a .result .index) _ (c .refused3 .ensures)
-    (net-refused ws (s .result) (s .ensures) (if1 .left) (sym (x .ensures .same) ∙ not-false (x .result) (if2 .left)) (a .result) (rw (plain .ensures) at (a .ensures))
+    (net-refused ws (s .result) (s .ensures) (if1 .left) (sym (x .ensures .same) ∙ not-false (x .result) (if2 .left)) (a .result)
+    (rw (plain .ensures) at (a .ensures))
     (if3 .taken))
 
 fresh-requires : tie.Need-fresh-requires
@@ -87,7 +88,8 @@ returns-4 c =
     let at-args = at-scan-words .before .before in let args = at-args .args in
     let ws = args .words .now in let s = scan-words in let x = is-convex in let a = add-words in
     rw (c .with-places .ensures)
-    (session-read ws (s .result) (s .ensures) (if1 .left) (sym (x .ensures .same) ∙ not-false (x .result) (if2 .left)) (a .result) (rw (plain .ensures) at (a .ensures))
+    (session-read ws (s .result) (s .ensures) (if1 .left) (sym (x .ensures .same) ∙ not-false (x .result) (if2 .left)) (a .result)
+    (rw (plain .ensures) at (a .ensures))
     (if3 .left)
     (fresh .result) (rw (plain .ensures) at (fresh .ensures)))
 
