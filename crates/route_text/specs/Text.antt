@@ -27,5 +27,5 @@ answerText (no r) after = refusalText r
 -- the text for a session that is routed into the least buffer: the refusal, or the words of a routing
 pub data RouteText (s : Session) : (text : List ℕ) → Type 0 where
   refused : {r : Refusal} → routeRefused s routingLimit ≡ some r → RouteText s (refusalText r)
-  given : (paths : List (List Direction)) → routeRefused s routingLimit ≡ none → Routing (s .board) (pairs (s .nets)) paths
+  given : (paths : List (List Direction)) → routeRefused s routingLimit ≡ none → Routing (s .block .board) (pairs (s .nets)) paths
       → RouteText s (hexLines (routingWords (s .nets) paths))
