@@ -1,6 +1,6 @@
 -- Definitions only: a block, which is a board with what belongs to it besides its cells, and the pins that its nets may use.
 -- Nothing is proved here.
--- What comes to belong to a board, as pins that are taken or a rule book, is a field of Block and a part of `pinsOf`, and no more.
+-- What comes to belong to a board, as pins that are taken or a rule book, is a field of Block; what nets may use of it is told by `pinsOf` alone.
 use Prim.Native.Nat.{ℕ}
 use Rattle.board.specs.Board.{Board}
 use Rattle.board.specs.Degree.{pins}

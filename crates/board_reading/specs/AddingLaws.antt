@@ -28,7 +28,8 @@ use Rattle.words.specs.declared.BoardWord.{BoardWord}
 use Rattle.words.specs.declared.BoardWord.the-variants as word
 use Rattle.call_rules.specs.Result.{no, yes}
 use Rattle.call_rules.specs.Reading.{Listed, addListed}
-use Rattle.board_reading.specs.Listed.{listThen, listed, listed-more, listed-none}
+use Rattle.board_reading.specs.Listed.{listThen, listed}
+use Rattle.board_reading.specs.ListedLaws.{listed-more, listed-none}
 use Rattle.board_reading.specs.Adding.{addedNet, addedWord, Adding}
 
 -- ── the code's answer to add is the definition's refusal ──

@@ -1,7 +1,7 @@
 -- Definitions only: what reading promises. Nothing is proved here: PromiseLaws has the laws.
 use mathlib.Core.Path.{_≡_}
 use mathlib.Core.Option.{Option, none, some}
-use Prim.Native.Nat.{ℕ, _-_}
+use Prim.Native.Nat.{ℕ}
 use Rattle.board_block.specs.View.{plainOf}
 use Rattle.session_rules.specs.Refusal.{Refusal, refusal}
 use Rattle.session_rules.specs.Session.{Session}

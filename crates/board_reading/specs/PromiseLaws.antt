@@ -28,6 +28,7 @@ use Rattle.session.specs.Promise.{FreshPromise}
 use Rattle.session.specs.declared.Session as code
 use Rattle.call_rules.specs.Result.{Result, no, yes, andThen, unless}
 use Rattle.call_rules.specs.Reading.{
+  boardLimit,
   Taken,
   nothingTaken,
   takeWords,
@@ -47,8 +48,10 @@ use Rattle.words_bytes.specs.WordsLaws.{words-length, all-words}
 use Rattle.board_scan.specs.Promise.{takeAll, ScanPromise}
 use Rattle.board_scan.specs.Laws.{refused-scan, taken-scan}
 use Rattle.board_scan.specs.declared.Scanned.{Scanned}
-use Rattle.board_reading.specs.Value.{boardValue, valueFor, places-for}
-use Rattle.board_reading.specs.Listed.{listed, taken-nets}
+use Rattle.board_reading.specs.Value.{boardValue, valueFor}
+use Rattle.board_reading.specs.ValueLaws.{places-for}
+use Rattle.board_reading.specs.Listed.{listed}
+use Rattle.board_reading.specs.ListedLaws.{taken-nets}
 use Rattle.board_reading.specs.Adding.{AllPromise}
 use Rattle.board_reading.specs.declared.AddedAll.{AddedAll}
 use Rattle.board_reading.specs.declared.ReadAnswer.the-variants as answer
@@ -157,11 +160,11 @@ module _ (bs : List ℕ) where
   unfolding readBytes
   bytes-even h = rw (eq-eqb (length bs % 4) 0 h) refl
 
-  pub bytes-long : length bs % 4 ≡ 0 → 96 < length bs / 4 → readBytes bs ≡ no (refusal 11 0)
+  pub bytes-long : length bs % 4 ≡ 0 → boardLimit < length bs / 4 → readBytes bs ≡ no (refusal 11 0)
   unfolding readWords
   bytes-long h k =
-      let l : ltb 96 (length (wordsIn bs)) ≡ true = lt-ltb 96 (length (wordsIn bs)) (omega (arith, words-length bs)) in
-      let b : badLength (wordsIn bs) ≡ true = or-right (eqb (length (wordsIn bs)) 0) (ltb 96 (length (wordsIn bs))) l in
+      let l : ltb boardLimit (length (wordsIn bs)) ≡ true = lt-ltb boardLimit (length (wordsIn bs)) (omega (arith, words-length bs)) in
+      let b : badLength (wordsIn bs) ≡ true = or-right (eqb (length (wordsIn bs)) 0) (ltb boardLimit (length (wordsIn bs))) l in
       bytes-even h ∙ rw b refl
 
   -- the words in the buffer are all of them

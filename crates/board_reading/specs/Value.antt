@@ -1,13 +1,9 @@
--- DEFINITIONS: the value of the code's struct that reading hands back for a session; and that the view of it is that session.
--- Assumes nothing.
-use mathlib.Core.Path.{_≡_, refl, ap, sym, _∙_}
-use mathlib.Core.List.{List, [], _∷_, _++_, map}
+-- Definitions only: the value of the code's struct that reading hands back for a session. Nothing is proved here: ValueLaws has the laws.
+use mathlib.Core.List.{List, _++_, map}
 use mathlib.Core.Option.{Option, none, some}
-use Prim.Native.Nat.{ℕ, suc, _+_, _-_, _<_}
-use native.Mathlib.Omega.{arith}
-use lib.ListN.{length, getD, replicate}
-use lib.Seq.{ext-getD}
-use Rattle.count.specs.Lists.{upTo, length-rising, getD-rising}
+use Prim.Native.Nat.{suc, _+_, _-_}
+use lib.ListN.{length, replicate}
+use Rattle.count.specs.Lists.{upTo}
 use Rattle.board.specs.Board.{noRow}
 use Rattle.board.specs.declared.Row.{Row}
 use Rattle.board.specs.declared.Board as code-board
@@ -16,13 +12,9 @@ use Rattle.board_block.specs.View.{plainOf}
 use Rattle.board_block.specs.declared.Block as code-block
 use Rattle.net.specs.View.{nothing}
 use Rattle.net.specs.declared.Net.{Net}
-use Rattle.net.specs.declared.Held.{Held}
-use Rattle.net.specs.declared.Held.the-variants.{Nothing, Ends}
 use Rattle.net.specs.declared.Place.{Place}
 use Rattle.session_rules.specs.Session.{Session, netOf}
-use Rattle.net_places.specs.Places.{holding, netsOf}
-use Rattle.net_places.specs.Nets.{heldAs}
-use Rattle.net_places.specs.NetsLaws.{net-of}
+use Rattle.net_places.specs.Places.{holding}
 use Rattle.session.specs.Value.{withPlaces, freshOf, blankBoard}
 use Rattle.session.specs.declared.Session as code
 use Rattle.call_rules.specs.Result.{Result, no, yes}
@@ -50,23 +42,3 @@ valueFor s = withPlaces (freshOf (blockValue (s .block))) (placesFor (s .nets)) 
 abbrev pub readValue : Result Session → code.Session
 readValue (no r) = freshOf (plainOf blankBoard)
 readValue (yes s) = valueFor s
-
--- ── 64 places are determined by their nets ──
-place-held : (n : ℕ) (p : Place) → placeFor (heldAs n (p .held)) ≡ p
-place-held n p = go (p .held)
-  where
-    go : (h : Held) → placeFor (heldAs n h) ≡ record { held = h }
-    go Nothing = refl
-    go (Ends e) = refl
-
-pub places-for : (ps : List Place) → length ps ≡ 64 → placesFor (netsOf ps) ≡ ps
-unfolding placesFor
-places-for ps e = ext-getD nothing (map (λ i. placeFor (netOf (suc i) (netsOf ps))) (upTo 64)) ps
-    (length-rising (λ i. placeFor (netOf (suc i) (netsOf ps))) 0 64 ∙ sym e) each
-  where
-    each : (i : ℕ) → i < length (map (λ i. placeFor (netOf (suc i) (netsOf ps))) (upTo 64))
-        → getD (map (λ i. placeFor (netOf (suc i) (netsOf ps))) (upTo 64)) i nothing ≡ getD ps i nothing
-    each i h = let z : 0 + i ≡ i = omega arith in
-        getD-rising (λ i. placeFor (netOf (suc i) (netsOf ps))) 0 64 i nothing
-        (omega (arith, length-rising (λ i. placeFor (netOf (suc i) (netsOf ps))) 0 64))
-        ∙ (rw z (ap placeFor (net-of ps (suc i)) ∙ place-held (suc i) (getD ps i nothing)))

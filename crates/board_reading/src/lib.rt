@@ -8,6 +8,7 @@ use board_block::Block;
 use net::Held;
 use net::Place;
 use session::Session;
+use words::BOARD_WORDS;
 use words::BoardWord;
 
 // What reading answers: a refusal has its number and place.
@@ -141,10 +142,10 @@ pub fn read_bytes(bytes: &[u8]) -> AfterRead
         return refused(10, 0);
     }
     let n = size / 4;
-    if 96 < n {
+    if BOARD_WORDS < n {
         return refused(11, 0);
     }
-    let mut words = [0u32; 96];
+    let mut words = [0u32; BOARD_WORDS];
     words_bytes::fill_words(bytes, n, &mut words);
     read_words(&words[..n])
 }

@@ -1,7 +1,6 @@
 // Searches: the first overfull cut of a board, and its first odd vertex.
 ghost use mathlib.Core.Path.{_≡_};
 ghost use mathlib.Core.List.{head?};
-ghost use Prim.Native.Nat.{min};
 ghost use Rattle.board.specs.View.{boardOf};
 ghost use Rattle.net.specs.View.{pairsOf};
 ghost use Rattle.cut.specs.Cut.{overfullCuts};

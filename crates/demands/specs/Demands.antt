@@ -53,7 +53,7 @@ use Rattle.route_call.specs.declared.RouteAnswer.{RouteAnswer}
 use Rattle.route_call.specs.Answers.{routeAnswer}
 use Rattle.cidrask.specs.declared.Told.{Told}
 use Rattle.cidrask.specs.Told.{tell, refusedTold, RoutePromise, JudgePromise}
-use Rattle.session_history.specs.Made.{Made, Chain}
+use Rattle.session_history.specs.Made.{Made, changed, Meets, Chain}
 use Rattle.session_history.specs.Demand as history
 
 -- ── the parts of the statements ──
@@ -174,3 +174,9 @@ pub record Demand3 : Type 0 where
   pub whole : (s : Session) (calls : List Made) → Fresh (sessionOf s) → Chain s calls → history.Demand3 s calls
   pub start : (b : code-block.Block) (s : Session) → Within (blockOf b .board) → Convex (blockOf b .board) → FreshPromise b s
       → Fresh (sessionOf s) × (sessionOf s ≡ bare (blockOf b))
+  -- adds, withdrawals and take-backs that kept their promises are calls of such a list, as the machine is fed them
+  pub add-made : (s : Session) (n : Net) (r : AfterAdd) → AddPromise s n r → Meets s (changed (calls.add n) (addAnswer (r .answer)) (r .session))
+  pub withdraw-made : (s : Session) (k : ℕ) (r : AfterWithdraw) → WithdrawPromise s k r
+      → Meets s (changed (calls.withdraw k) (withdrawAnswer (r .answer)) (r .session))
+  pub take-back-made : (s : Session) (r : AfterTakeBack) → TakeBackPromise s r
+      → Meets s (changed calls.takeBack (takeBackAnswer (r .answer)) (r .session))

@@ -169,9 +169,9 @@ c-refused board list q e = rw e refl
 
 pub demand-1 : Demand1
 demand-1 = record {
-  add = λ s n r P. (P .call .answers, P .call .next, P .call .kept);
-  withdraw = λ s k r P. (P .call .answers, P .call .next, P .call .kept);
-  take-back = λ s r P. (P .call .answers, P .call .next, P .call .kept);
+  add = λ s n r P. (P .call .answers, P .call .next, P .kept);
+  withdraw = λ s k r P. (P .call .answers, P .call .next, P .kept);
+  take-back = λ s r P. (P .call .answers, P .call .next, P .kept);
   read-words = λ ws r P. reads (readWords ws) r P;
   read-bytes = λ bs r P. reads (readBytes bs) r P;
   write = λ s before r after P. (
@@ -278,4 +278,7 @@ pub demand-3 : Demand3
 demand-3 = record {
   whole = λ s calls F k. history.demand-3 s calls F k;
   start = λ b s W C P. (P .fresh W C, P .bare);
+  add-made = λ s n r P. P .call;
+  withdraw-made = λ s k r P. P .call;
+  take-back-made = λ s r P. P .call;
 }

@@ -4,6 +4,7 @@ ghost use Rattle.count.specs.Truth.{Decides};
 ghost use Rattle.board.specs.Board.{Within};
 ghost use Rattle.board.specs.Path.{Convex};
 ghost use Rattle.board.specs.View.{boardOf};
+ghost use Rattle.board_block.specs.View.{plainOf};
 ghost use Rattle.board_convex.specs.Test.{isConvex};
 ghost use Rattle.session.specs.View.{sessionOf};
 ghost use Rattle.session.specs.Promise.{FreshPromise, AddPromise, WithdrawPromise, TakeBackPromise};
@@ -32,6 +33,13 @@ pub fn is_convex(b: Board) -> bool
     ensures { λ r. ⌜ Decides r (isConvex (boardOf b)) (Within (boardOf b) × Convex (boardOf b)) ⌝ }
 {
     board_convex::is_convex(b)
+}
+
+// A board by itself as a block.
+pub fn plain(b: Board) -> Block
+    ensures { λ r. ⌜ r ≡ plainOf b ⌝ }
+{
+    board_block::plain(b)
 }
 
 // A session on the block, with no nets and an empty pile.

@@ -8,6 +8,7 @@ use judge_list::Verdict;
 use judge_report::Report;
 use judge_shape::Refusal;
 use session::Session;
+use words::ROUTING_WORDS;
 
 // What judging answers: the report; 20 an unsound session; 10 a count of bytes that is no multiple of 4; or 41 to 46.
 pub enum Judgement {
@@ -68,13 +69,13 @@ pub fn judge_bytes(s: Session, bytes: &[u8]) -> Judgement
         return Judgement::UnevenBytes;
     }
     let n = size / 4;
-    if 2049 < n {
+    if ROUTING_WORDS < n {
         return Judgement::Refused(Refusal {
             number: 41,
             place: 0,
         });
     }
-    let mut words = [0u32; 2049];
+    let mut words = [0u32; ROUTING_WORDS];
     words_bytes::fill_words(bytes, n, &mut words);
     judge_words(s, &words[..n])
 }

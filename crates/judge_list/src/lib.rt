@@ -2,6 +2,7 @@
 ghost use mathlib.Core.Path.{_≡_};
 ghost use Prim.Native.Nat.{_≤_};
 ghost use lib.ListN.{length};
+ghost use Rattle.call_rules.specs.Shape.{routingLimit};
 ghost use Rattle.board.specs.View.{boardOf};
 ghost use Rattle.net_places.specs.Places.{netsOf};
 ghost use Rattle.judge_shape.specs.declared.Checked.the-variants.{Passed};
@@ -33,7 +34,7 @@ pub enum Comparison {
 // Does a list pass? First the shape of the whole list, then the paths in order, with a map of the edges used before.
 fn check(b: Board, nets: [Place; 64], words: &[u32], used: &mut [u8; 2048]) -> Checked
     ensures { λ r. ⌜ Checks (boardOf b) (netsOf nets) (now (words .entry)) (now (used .entry)) (now (used .exit)) r ⌝ }
-    ensures { λ r. ⌜ (r ≡ Passed → length (now (words .entry)) ≤ 2049) ⌝ }
+    ensures { λ r. ⌜ (r ≡ Passed → length (now (words .entry)) ≤ routingLimit) ⌝ }
 {
     match judge_shape::check_shape(nets, words) {
         Checked::Refused(r) => Checked::Refused(r),

@@ -5,7 +5,7 @@ ghost use Prim.Native.Nat.{_+_, _-_, _*_, _≤_};
 ghost use lib.ListN.{length};
 ghost use Rattle.call_rules.specs.Judge.{pathsIn};
 ghost use Rattle.call_rules.specs.Report.{reportOf};
-ghost use Rattle.call_rules.specs.Shape.{pathsFrom};
+ghost use Rattle.call_rules.specs.Shape.{routingLimit, pathsFrom};
 ghost use Rattle.session_rules.specs.Session.{pairs};
 ghost use Rattle.net_places.specs.Places.{netsOf};
 ghost use Rattle.judge_report.specs.Measures.{Measured, MeasuresPlace};
@@ -185,7 +185,7 @@ fn count_knots(marks: [u8; 1024]) -> u32
 
 // Measures a path, given its runs as a part of the list.
 fn measure_path(first: Vertex, number: u8, runs: &[u32], marks: &mut [u8; 1024]) -> Trace
-    requires { ⌜ length (now runs) ≤ 2049 ⌝ }
+    requires { ⌜ length (now runs) ≤ routingLimit ⌝ }
     ensures { λ r. ⌜ Measured first number (now (runs .entry)) r (now (marks .entry)) (now (marks .exit)) ⌝ }
     ensures { λ r. ⌜ (r .edges ≤ 600000) × (r .turns ≤ 600000) ⌝ }
 {
@@ -206,7 +206,7 @@ fn measure_path(first: Vertex, number: u8, runs: &[u32], marks: &mut [u8; 1024])
 
 // Measures the path of what a place holds: its path word stands at the sum's index.
 fn measure_place(place: Place, number: u8, words: &[u32], sum: Sum, marks: &mut [u8; 1024]) -> Sum
-    requires { ⌜ length (now words) ≤ 2049 ⌝ }
+    requires { ⌜ length (now words) ≤ routingLimit ⌝ }
     requires { ⌜ (sum .edges ≤ 40000000) × (sum .turns ≤ 40000000) ⌝ }
     ensures { λ r. ⌜ MeasuresPlace number (place .held) (now (words .entry)) sum (now (marks .entry)) r (now (marks .exit)) ⌝ }
     ensures { λ r. ⌜ (r .edges ≤ sum .edges + 600000) × (r .turns ≤ sum .turns + 600000) ⌝ }
@@ -233,7 +233,7 @@ fn measure_place(place: Place, number: u8, words: &[u32], sum: Sum, marks: &mut 
 
 // The report on the paths of the nets in a list of words.
 pub fn report_of(nets: [Place; 64], words: &[u32]) -> Report
-    requires { ⌜ length (now words) ≤ 2049 ⌝ }
+    requires { ⌜ length (now words) ≤ routingLimit ⌝ }
     ensures { λ r. ⌜ reportIs r ≡ reportOf (pairs (netsOf nets)) (pathsIn (pathsFrom 0 (netsOf nets) (now (words .entry)))) ⌝ }
 {
     let mut marks = [0u8; 1024];

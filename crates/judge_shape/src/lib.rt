@@ -2,7 +2,7 @@
 ghost use mathlib.Core.Path.{_≡_};
 ghost use Prim.Native.Nat.{suc, _≤_};
 ghost use lib.ListN.{length, drop};
-ghost use Rattle.call_rules.specs.Shape.{between, repeated, atEnd, wordsRefused};
+ghost use Rattle.call_rules.specs.Shape.{routingLimit, between, repeated, atEnd, wordsRefused};
 ghost use Rattle.net_places.specs.Places.{netsFrom, netsOf};
 ghost use Rattle.judge_shape.specs.Refused.{refusedOf};
 ghost use Rattle.judge_shape.specs.States.{
@@ -19,6 +19,7 @@ ghost use Rattle.judge_shape.specs.States.{
 use board::Direction;
 use net::Held;
 use net::Place;
+use words::ROUTING_WORDS;
 use words::RoutingWord;
 
 // A refusal with one place number.
@@ -183,7 +184,7 @@ fn at_end(len: u16, due: Due) -> Checked
 
 // The words are taken one by one.
 fn check_words(nets: [Place; 64], all: u8, words: &[u32]) -> Checked
-    requires { ⌜ length (now words) ≤ 2049 ⌝ }
+    requires { ⌜ length (now words) ≤ routingLimit ⌝ }
     ensures { λ r. ⌜ refusedOf r ≡ wordsRefused all 0 between (netsOf nets) (now (words .entry)) ⌝ }
 {
     let mut due = Due::Between;
@@ -213,7 +214,7 @@ pub fn check_shape(nets: [Place; 64], words: &[u32]) -> Checked
     ensures { λ r. ⌜ refusedOf r ≡ shapeRefused (netsOf nets) (now (words .entry)) ⌝ }
 {
     let len = words.len();
-    if (len == 0) | (2049 < len) {
+    if (len == 0) | (ROUTING_WORDS < len) {
         Checked::Refused(Refusal {
             number: 41,
             place: 0,

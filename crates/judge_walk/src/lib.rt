@@ -5,7 +5,7 @@ ghost use Prim.Native.Nat.{suc, _+_, _<_, _≤_, min};
 ghost use lib.ListN.{length};
 ghost use Rattle.board.specs.View.{boardOf};
 ghost use Rattle.net_places.specs.Places.{netsOf};
-ghost use Rattle.call_rules.specs.Shape.{pathsFrom};
+ghost use Rattle.call_rules.specs.Shape.{routingLimit, pathsFrom};
 ghost use Rattle.judge_walk.specs.Slots.{corner, slotAt};
 ghost use Rattle.judge_walk.specs.Parts.{partAt};
 ghost use Rattle.judge_walk.specs.MapWalk.{
@@ -185,7 +185,7 @@ fn walk_place(
     at: usize,
     used: &mut [u8; 2048],
 ) -> Onward
-    requires { ⌜ length (now words) ≤ 2049 ⌝ }
+    requires { ⌜ length (now words) ≤ routingLimit ⌝ }
     ensures { λ r. ⌜ WalksPlace (boardOf b) number (place .held) (now (words .entry)) at (now (used .entry)) (now (used .exit)) r ⌝ }
 {
     let held = place.held;
@@ -210,7 +210,7 @@ fn walk_place(
 
 // Walks the paths of all nets in order, with a map of the edges used before.
 pub fn walk_paths(b: Board, nets: [Place; 64], words: &[u32], used: &mut [u8; 2048]) -> Checked
-    requires { ⌜ length (now words) ≤ 2049 ⌝ }
+    requires { ⌜ length (now words) ≤ routingLimit ⌝ }
     ensures { λ r. ⌜ pathEnd r (now (used .exit)) ≡ mapPaths (boardOf b) (pathsFrom 0 (netsOf nets) (now (words .entry))) (now (used .entry)) ⌝ }
 {
     let mut at: usize = 0;

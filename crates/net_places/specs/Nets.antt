@@ -7,7 +7,6 @@ use Rattle.net.specs.declared.Pair.{Pair}
 use Rattle.net.specs.declared.Net.{Net}
 use Rattle.net.specs.declared.Held.{Held}
 use Rattle.net.specs.declared.Held.the-variants.{Nothing, Ends}
-use Rattle.session_rules.specs.Session.{holds, recorded}
 use Rattle.net_places.specs.Places.{net}
 
 -- what a place holds, as a net

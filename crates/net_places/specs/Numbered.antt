@@ -1,7 +1,7 @@
 -- Definitions only: the entry of a number n from 1 on, at index n - 1 of a list, read and replaced. Number 0 has none; nor has one past the end.
 -- Nothing is proved here: NumberedLaws has the laws.
 use mathlib.Core.List.{List}
-use Prim.Native.Nat.{ℕ, zero, suc, _-_}
+use Prim.Native.Nat.{ℕ, zero, suc}
 use lib.ListN.{getD, set}
 
 abbrev pub entry : {A : Type 0} → List A → ℕ → A → A

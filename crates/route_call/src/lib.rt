@@ -1,6 +1,6 @@
 // The call `route`: the nets of a session joined by edge-disjoint paths, or what stands in the way.
 ghost use mathlib.Core.Path.{_≡_};
-ghost use Prim.Native.Nat.{_≤_, min};
+ghost use Prim.Native.Nat.{_≤_};
 ghost use lib.ListN.{length};
 ghost use Rattle.session.specs.View.{sessionOf};
 ghost use Rattle.session_rules.specs.Sound.{Sound};
@@ -17,9 +17,10 @@ use router_ends::Work;
 use router_notes::PAIRS;
 use router_notes::VERTICES;
 use session::Session;
+use words::ROUTING_WORDS;
 
 // The words that routing asks for.
-const WORDS: usize = 2049;
+const WORDS: usize = ROUTING_WORDS;
 
 // What routing answers: the count of words written, or a refusal: 20 an unsound session, 31 a buffer under 2,049 words, 32 the first odd
 // vertex, 33 the first overfull cut.

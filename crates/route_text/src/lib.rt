@@ -11,6 +11,7 @@ use cut::Cut;
 use numbers::wide;
 use route_call::RouteAnswer;
 use session::Session;
+use words::ROUTING_WORDS;
 
 // The refusal of an overfull cut.
 fn cut_text(x: Cut, out: &mut [u8; 18441]) -> usize
@@ -23,7 +24,7 @@ fn cut_text(x: Cut, out: &mut [u8; 18441]) -> usize
 }
 
 // What routing answered: its words, or the refusal. There is room for the longest routing.
-fn answer_text(answer: RouteAnswer, words: &[u32; 2049], out: &mut [u8; 18441]) -> usize
+fn answer_text(answer: RouteAnswer, words: &[u32; ROUTING_WORDS], out: &mut [u8; 18441]) -> usize
     ensures { λ r. ⌜ Holds (answerText (routeAnswer answer) (now (words .entry))) r (now (out .exit)) ⌝ }
 {
     match answer {
@@ -40,7 +41,7 @@ pub fn session_text(s: Session, out: &mut [u8; 18441]) -> usize
     ensures { λ r. ⌜ Counts r (now (out .exit)) ⌝ }
     ensures { λ r. ⌜ RouteText (sessionOf s) (take r (now (out .exit))) ⌝ }
 {
-    let mut words = [0u32; 2049];
+    let mut words = [0u32; ROUTING_WORDS];
     let answer = route_call::route(s, &mut words);
     answer_text(answer, &words, out)
 }

@@ -57,7 +57,7 @@ unfolding addOf
 add-keeps s n = elim (bool (sound? (sessionOf s))) [ inl e ↦ rw e (add-kept s n) | inr e ↦ rw e (λ r. refl) ]
 
 pub add-promise : (s : Session) (n : Net) (r : AfterAdd) → Sized s → r ≡ addOf s n → AddPromise s n r
-add-promise s n r z e = rw e (record { value = refl; call = record { answers = add-answers s n; next = add-nexts s n z; kept = add-keeps s n } })
+add-promise s n r z e = rw e (record { value = refl; call = record { answers = add-answers s n; next = add-nexts s n z }; kept = add-keeps s n })
 
 -- ── withdraw ──
 withdraw-answers : (s : Session) (k : ℕ) → withdrawAnswer (withdrawOf s k .answer) ≡ call (sessionOf s) (withdraw k) .answer
@@ -79,8 +79,8 @@ withdraw-keeps s k = elim (bool (sound? (sessionOf s))) [ inl e ↦ rw e (held-k
 pub withdraw-promise : (s : Session) (k : ℕ) (r : AfterWithdraw) → Sized s → r ≡ withdrawOf s k → WithdrawPromise s k r
 withdraw-promise s k r z e = rw e (record {
   value = refl;
-  call =
-      record { answers = withdraw-answers s k; next = withdraw-nexts s k z; kept = withdraw-keeps s k };
+  call = record { answers = withdraw-answers s k; next = withdraw-nexts s k z };
+  kept = withdraw-keeps s k;
 })
 
 -- ── take back ──
@@ -103,6 +103,6 @@ take-back-keeps s = elim (bool (sound? (sessionOf s))) [ inl e ↦ rw e (back-ke
 pub take-back-promise : (s : Session) (r : AfterTakeBack) → Sized s → r ≡ takeBackOf s → TakeBackPromise s r
 take-back-promise s r z e = rw e (record {
   value = refl;
-  call =
-      record { answers = take-back-answers s; next = take-back-nexts s z; kept = take-back-keeps s };
+  call = record { answers = take-back-answers s; next = take-back-nexts s z };
+  kept = take-back-keeps s;
 })

@@ -1,5 +1,6 @@
 -- Definitions only: what each call of the code promises. Nothing is proved here.
--- Each promise has the value that is handed back, by a definition, and `CallPromise`: what that is to the list machine.
+-- Each promise has the value that is handed back, by a definition; `CallPromise`: what that is to the list machine; and that a refused call hands
+-- back the very session that it was given.
 use mathlib.Core.Path.{_≡_}
 use Prim.Native.Nat.{ℕ}
 use Rattle.board.specs.Board.{Within}
@@ -22,22 +23,23 @@ use Rattle.session.specs.Value.{addOf, withdrawOf, takeBackOf, freshOf, 
 pub record CallPromise (s : Session) (c : Call) (a : Answer) (t : Session) : Type 0 where
   -- the machine's answer, 20 for an unsound session included,
   pub answers : a ≡ machine.call (sessionOf s) c .answer
-  -- and its session;
+  -- and its session
   pub next : sessionOf t ≡ machine.call (sessionOf s) c .next
-  -- a refused call hands back the very session that it was given
-  pub kept : (a ≡ accepted → ⊥) → t ≡ s
 
 pub record AddPromise (s : Session) (n : Net) (r : AfterAdd) : Type 0 where
   pub value : r ≡ addOf s n
   pub call : CallPromise s (add n) (addAnswer (r .answer)) (r .session)
+  pub kept : (addAnswer (r .answer) ≡ accepted → ⊥) → r .session ≡ s
 
 pub record WithdrawPromise (s : Session) (k : ℕ) (r : AfterWithdraw) : Type 0 where
   pub value : r ≡ withdrawOf s k
   pub call : CallPromise s (withdraw k) (withdrawAnswer (r .answer)) (r .session)
+  pub kept : (withdrawAnswer (r .answer) ≡ accepted → ⊥) → r .session ≡ s
 
 pub record TakeBackPromise (s : Session) (r : AfterTakeBack) : Type 0 where
   pub value : r ≡ takeBackOf s
   pub call : CallPromise s takeBack (takeBackAnswer (r .answer)) (r .session)
+  pub kept : (takeBackAnswer (r .answer) ≡ accepted → ⊥) → r .session ≡ s
 
 -- a session on a block, fresh if its board is convex
 pub record FreshPromise (b : code.Block) (r : Session) : Type 0 where

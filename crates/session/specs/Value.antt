@@ -6,7 +6,7 @@ use Prim.Native.Nat.{ℕ}
 use lib.Dec.{eqb}
 use lib.ListN.{replicate}
 use Rattle.board.specs.declared.Board as code-board
-use Rattle.board_block.specs.View.{blockOf, plainOf}
+use Rattle.board_block.specs.View.{blockOf}
 use Rattle.board_block.specs.declared.Block as code
 use Rattle.net.specs.View.{nothing}
 use Rattle.net.specs.declared.Net.{Net}

@@ -1,6 +1,6 @@
 -- Definitions only: a list of calls with what each handed back (document 01, "Each call gets the session that the last one, refused or not,
 -- handed back, and nothing else changes it in between"; demand 3). Nothing is proved here.
--- A further call that changes a session is one more constructor of the machine's Call, and nothing here.
+-- A further call that the machine takes is one more constructor of its Call, with a CallPromise, and nothing here.
 use mathlib.Core.Path.{_≡_}
 use mathlib.Core.List.{List, [], _∷_, _++_}
 use Prim.Native.Nat.{ℕ}

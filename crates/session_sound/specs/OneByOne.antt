@@ -8,7 +8,6 @@ use Rattle.net.specs.declared.Net.{Net}
 use Rattle.net.specs.declared.Held.{Held}
 use Rattle.net.specs.declared.Held.the-variants.{Nothing, Ends}
 use Rattle.net.specs.declared.Place.{Place}
-use Rattle.session_rules.specs.Session.{holds}
 use Rattle.session_rules.specs.Add.{accepts}
 use Rattle.session_rules.specs.Sound.{addable?}
 use Rattle.net_places.specs.Places.{net, netsFrom, netsOf}

@@ -27,6 +27,9 @@ use numbers::as_word;
 // The greatest count of a board's words, and the least buffer to write them into.
 pub const BOARD_WORDS: usize = 96;
 
+// The greatest count of a routing's words: 64 paths, 1,984 runs and the end.
+pub const ROUTING_WORDS: usize = 2049;
+
 // The counts of a board's end word.
 pub struct Counts {
     pub rows: u8,

@@ -7,15 +7,12 @@ use Rattle.board.proofs.above_right.Lts as lts
 use Rattle.numbers.proofs.before.Reads as before-reads
 use Rattle.board.proofs.is_cell.Reads as is-cell-reads
 
--- src/lib.rt:88:31
 before-requires : tie.Need-before-requires
 before-requires c κs = search needs
 
--- src/lib.rt:88:20
 is-cell-requires : tie.Need-is-cell-requires
 is-cell-requires c κs = search needs
 
--- src/lib.rt:85:1
 returns : tie.Need-returns
 unfolding aboveRight
 returns c = cc

@@ -7,15 +7,12 @@ use Rattle.board.proofs.below_left.Lts as lts
 use Rattle.numbers.proofs.before.Reads as before-reads
 use Rattle.board.proofs.is_cell.Reads as is-cell-reads
 
--- src/lib.rt:82:41
 before-requires : tie.Need-before-requires
 before-requires c κs = search needs
 
--- src/lib.rt:82:22
 is-cell-requires : tie.Need-is-cell-requires
 is-cell-requires c κs = search needs
 
--- src/lib.rt:79:1
 returns : tie.Need-returns
 unfolding belowLeft
 returns c = cc

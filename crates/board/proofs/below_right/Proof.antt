@@ -6,11 +6,9 @@ use Rattle.board.proofs.below_right.Reads as reads
 use Rattle.board.proofs.below_right.Lts as lts
 use Rattle.board.proofs.is_cell.Reads as is-cell-reads
 
--- src/lib.rt:76:5
 is-cell-requires : tie.Need-is-cell-requires
 is-cell-requires c κs = search needs
 
--- src/lib.rt:73:1
 returns : tie.Need-returns
 unfolding belowRight
 returns c = cc

@@ -6,11 +6,9 @@ use Rattle.board.proofs.is_cell.Reads as reads
 use Rattle.board.proofs.is_cell.Lts as lts
 use Rattle.board.proofs.row_at.Reads as row-at-reads
 
--- src/lib.rt:69:9
 row-at-requires : tie.Need-row-at-requires
 row-at-requires c κs = search needs
 
--- src/lib.rt:65:1
 returns : tie.Need-returns
 returns c = rw (cell-of (c .before .before .before .before .before .args .b)) (cc)
 

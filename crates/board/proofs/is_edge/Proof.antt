@@ -12,76 +12,60 @@ use Rattle.board.proofs.above_right.Reads as above-right-reads
 use Rattle.board.proofs.below_left.Reads as below-left-reads
 use Rattle.board.proofs.below_right.Reads as below-right-reads
 
--- src/lib.rt:109:26
 enum-told : tie.Need-enum-told
 enum-told c = search needs
 
--- src/lib.rt:109:26
 above-left-requires : tie.Need-above-left-requires
 above-left-requires c κs = search needs
 
--- src/lib.rt:109:45
 above-right-requires : tie.Need-above-right-requires
 above-right-requires c κs = search needs
 
--- src/lib.rt:110:29
 enum-told-2 : tie.Need-enum-told-2
 enum-told-2 c = search needs
 
--- src/lib.rt:110:29
 above-right-requires-2 : tie.Need-above-right-requires-2
 above-right-requires-2 c κs = search needs
 
--- src/lib.rt:110:49
 below-right-requires : tie.Need-below-right-requires
 below-right-requires c κs = search needs
 
--- src/lib.rt:111:28
 enum-told-3 : tie.Need-enum-told-3
 enum-told-3 c = search needs
 
--- src/lib.rt:111:28
 below-left-requires : tie.Need-below-left-requires
 below-left-requires c κs = search needs
 
--- src/lib.rt:111:47
 below-right-requires-2 : tie.Need-below-right-requires-2
 below-right-requires-2 c κs = search needs
 
--- src/lib.rt:112:28
 enum-told-4 : tie.Need-enum-told-4
 enum-told-4 c = search needs
 
--- src/lib.rt:112:28
 above-left-requires-2 : tie.Need-above-left-requires-2
 above-left-requires-2 c κs = search needs
 
--- src/lib.rt:112:47
 below-left-requires-2 : tie.Need-below-left-requires-2
 below-left-requires-2 c κs = search needs
 
--- src/lib.rt:105:1
 returns : tie.Need-returns
 unfolding edge?
 returns c = decides _ (edge? (boardOf (c .before .before .before .before .args .b)) (c .before .before .before .before .args .d)
     (c .before .before .before .before .args .v)) (edge-exact (boardOf (c .before .before .before .before .args .b))
     (c .before .before .before .before .args .d) (c .before .before .before .before .args .v)) (cc)
 
--- src/lib.rt:105:1
 returns-2 : tie.Need-returns-2
 unfolding edge?
 returns-2 c = decides _ (edge? (boardOf (c .before .before .before .before .args .b)) (c .before .before .before .before .args .d)
     (c .before .before .before .before .args .v)) (edge-exact (boardOf (c .before .before .before .before .args .b))
     (c .before .before .before .before .args .d) (c .before .before .before .before .args .v)) (cc)
 
--- src/lib.rt:105:1
 returns-3 : tie.Need-returns-3
 unfolding edge?
 returns-3 c = decides _ (edge? (boardOf (c .before .before .before .before .args .b)) (c .before .before .before .before .args .d)
     (c .before .before .before .before .args .v)) (edge-exact (boardOf (c .before .before .before .before .args .b))
     (c .before .before .before .before .args .d) (c .before .before .before .before .args .v)) (cc)
 
--- src/lib.rt:105:1
 returns-4 : tie.Need-returns-4
 unfolding edge?
 returns-4 c = decides _ (edge? (boardOf (c .before .before .before .before .args .b)) (c .before .before .before .before .args .d)

@@ -12,23 +12,18 @@ use Rattle.board.proofs.above_right.Reads as above-right-reads
 use Rattle.board.proofs.below_left.Reads as below-left-reads
 use Rattle.board.proofs.below_right.Reads as below-right-reads
 
--- src/lib.rt:101:6
 above-left-requires : tie.Need-above-left-requires
 above-left-requires c κs = search needs
 
--- src/lib.rt:101:25
 above-right-requires : tie.Need-above-right-requires
 above-right-requires c κs = search needs
 
--- src/lib.rt:101:47
 below-left-requires : tie.Need-below-left-requires
 below-left-requires c κs = search needs
 
--- src/lib.rt:101:66
 below-right-requires : tie.Need-below-right-requires
 below-right-requires c κs = search needs
 
--- src/lib.rt:98:1
 returns : tie.Need-returns
 unfolding vertex?
 returns c = decides _ (vertex? (boardOf (c .before .before .before .before .args .b)) (c .before .before .before .before .args .v))

@@ -9,23 +9,18 @@ use Rattle.board.proofs.row_at.Reads as reads
 use Rattle.board.proofs.row_at.Lts as lts
 use Rattle.numbers.proofs.wide.Reads as wide-reads
 
--- src/lib.rt:60:9
 wide-requires : tie.Need-wide-requires
 wide-requires c κs = search needs
 
--- src/lib.rt:61:18
 mul-result : tie.Need-mul-result
 mul-result c = search needs
 
--- src/lib.rt:61:18
 array-copy-out-result : tie.Need-array-copy-out-result
 array-copy-out-result c = search needs
 
--- src/lib.rt:57:1
 returns : tie.Need-returns
 returns c = cc
 
--- src/lib.rt:57:1
 returns-2 : tie.Need-returns-2
 returns-2 c = sym (List·getD-eq-default (c .before .before .args .t1) noRow (omega arith))
 

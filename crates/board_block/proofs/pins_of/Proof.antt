@@ -7,11 +7,9 @@ use Rattle.board_block.proofs.pins_of.Reads as reads
 use Rattle.board_block.proofs.pins_of.Lts as lts
 use Rattle.board_degree.proofs.pins_of.Reads as pins-of-reads
 
--- src/lib.rt:23:5
 pins-of-requires : tie.Need-pins-of-requires
 pins-of-requires c κs = search needs
 
--- src/lib.rt:20:1
 returns : tie.Need-returns
 unfolding pinsOf
 returns c = search needs

@@ -11,51 +11,39 @@ use Rattle.board.proofs.below_left.Reads as below-left-reads
 use Rattle.board.proofs.below_right.Reads as below-right-reads
 use Rattle.board.proofs.bit.Reads as bit-reads
 
--- src/lib.rt:121:9
 above-left-requires : tie.Need-above-left-requires
 above-left-requires c κs = search needs
 
--- src/lib.rt:122:9
 above-right-requires : tie.Need-above-right-requires
 above-right-requires c κs = search needs
 
--- src/lib.rt:123:9
 below-left-requires : tie.Need-below-left-requires
 below-left-requires c κs = search needs
 
--- src/lib.rt:124:9
 below-right-requires : tie.Need-below-right-requires
 below-right-requires c κs = search needs
 
--- src/lib.rt:125:6
 bit-requires : tie.Need-bit-requires
 bit-requires c κs = search needs
 
--- src/lib.rt:125:21
 bit-requires-2 : tie.Need-bit-requires-2
 bit-requires-2 c κs = search needs
 
--- src/lib.rt:125:6
 add-result : tie.Need-add-result
 add-result c = search needs
 
--- src/lib.rt:125:38
 bit-requires-3 : tie.Need-bit-requires-3
 bit-requires-3 c κs = search needs
 
--- src/lib.rt:125:53
 bit-requires-4 : tie.Need-bit-requires-4
 bit-requires-4 c κs = search needs
 
--- src/lib.rt:125:38
 add-result-2 : tie.Need-add-result-2
 add-result-2 c = search needs
 
--- src/lib.rt:125:5
 add-result-3 : tie.Need-add-result-3
 add-result-3 c = search needs
 
--- src/lib.rt:117:1
 returns : tie.Need-returns
 unfolding degree edge?
 returns c = (cc, omega arith)

@@ -8,24 +8,19 @@ use Rattle.board_degree.proofs.pins_of.Lts as lts
 use Rattle.board_degree.proofs.degree_of.Reads as degree-of-reads
 use Rattle.board.proofs.is_vertex.Reads as is-vertex-reads
 
--- src/lib.rt:132:8
 is-vertex-requires : tie.Need-is-vertex-requires
 is-vertex-requires c κs = search needs
 
--- src/lib.rt:132:30
 degree-of-requires : tie.Need-degree-of-requires
 degree-of-requires c κs = search needs
 
--- src/lib.rt:132:26
 sub-result : tie.Need-sub-result
 sub-result c = search needs
 
--- src/lib.rt:129:1
 returns : tie.Need-returns
 unfolding pins
 returns c = rw (← c .before .before .is-vertex .ensures .same, c .before .if1 .taken) (cc)
 
--- src/lib.rt:129:1
 returns-2 : tie.Need-returns-2
 unfolding pins
 returns-2 c = rw (← c .before .is-vertex .ensures .same, c .if1 .left) refl

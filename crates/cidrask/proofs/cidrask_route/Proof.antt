@@ -7,15 +7,12 @@ use Rattle.cidrask.proofs.cidrask_route.Reads as reads
 use Rattle.cidrask.proofs.cidrask_route.Lts as lts
 use Rattle.cidrask.proofs.routed.Reads as routed-reads
 
--- src/lib.rt:121:9
 routed-requires : tie.Need-routed-requires
 routed-requires c κs = search needs
 
--- src/lib.rt:117:1
 same-length : tie.Need-same-length
 same-length c = search needs
 
--- src/lib.rt:117:1
 returns : tie.Need-returns
 returns c =
     let at-routed = c .before .before in let routed = at-routed .routed in

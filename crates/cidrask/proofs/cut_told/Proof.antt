@@ -5,27 +5,21 @@ use Rattle.cidrask.proofs.cut_told.Tie as tie
 use Rattle.cidrask.proofs.cut_told.Reads as reads
 use Rattle.cidrask.proofs.cut_told.Lts as lts
 
--- src/lib.rt:39:18
 enum-known-x : tie.Need-enum-known-x
 enum-known-x c = search needs
 
--- src/lib.rt:42:21
 cast-t5 : tie.Need-cast-t5
 cast-t5 c = search needs
 
--- src/lib.rt:45:21
 enum-known-x-2 : tie.Need-enum-known-x-2
 enum-known-x-2 c = search needs
 
--- src/lib.rt:48:21
 cast-t6 : tie.Need-cast-t6
 cast-t6 c = search needs
 
--- src/lib.rt:35:1
 returns : tie.Need-returns
 returns c = rw (c .before .x .given .1)
 
--- src/lib.rt:35:1
 returns-2 : tie.Need-returns-2
 returns-2 c = rw (c .before .x2 .given .1)
 

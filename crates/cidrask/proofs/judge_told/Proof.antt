@@ -6,63 +6,48 @@ use Rattle.cidrask.proofs.judge_told.Reads as reads
 use Rattle.cidrask.proofs.judge_told.Lts as lts
 use Rattle.cidrask.proofs.refused.Reads as refused-reads
 
--- src/lib.rt:80:27
 enum-known-judgement : tie.Need-enum-known-judgement
 enum-known-judgement c = search needs
 
--- src/lib.rt:82:20
 cast-t5 : tie.Need-cast-t5
 cast-t5 c = search needs
 
--- src/lib.rt:83:21
 cast-t6 : tie.Need-cast-t6
 cast-t6 c = search needs
 
--- src/lib.rt:84:20
 cast-t7 : tie.Need-cast-t7
 cast-t7 c = search needs
 
--- src/lib.rt:86:31
 enum-told : tie.Need-enum-told
 enum-told c = search needs
 
--- src/lib.rt:86:31
 refused-requires : tie.Need-refused-requires
 refused-requires c κs = search needs
 
--- src/lib.rt:87:35
 enum-told-2 : tie.Need-enum-told-2
 enum-told-2 c = search needs
 
--- src/lib.rt:87:35
 refused-requires-2 : tie.Need-refused-requires-2
 refused-requires-2 c κs = search needs
 
--- src/lib.rt:88:28
 enum-known-judgement-2 : tie.Need-enum-known-judgement-2
 enum-known-judgement-2 c = search needs
 
--- src/lib.rt:88:52
 cast-refused : tie.Need-cast-refused
 cast-refused c = search needs
 
--- src/lib.rt:88:34
 refused-requires-3 : tie.Need-refused-requires-3
 refused-requires-3 c κs = search needs
 
--- src/lib.rt:76:1
 returns : tie.Need-returns
 returns c = rw (c .before .before .before .before .judgement .given .1)
 
--- src/lib.rt:76:1
 returns-2 : tie.Need-returns-2
 returns-2 c = rw (c .before .enum-told .given .1) (c .refused .ensures)
 
--- src/lib.rt:76:1
 returns-3 : tie.Need-returns-3
 returns-3 c = rw (c .before .enum-told2 .given .1) (c .refused2 .ensures)
 
--- src/lib.rt:76:1
 returns-4 : tie.Need-returns-4
 returns-4 c = rw (c .before .before .before .judgement2 .given .1) (c .refused3 .ensures)
 

@@ -10,31 +10,24 @@ use Rattle.cidrask.proofs.refused.Reads as refused-reads
 use Rattle.judge_call.proofs.judge_bytes.Reads as judge-bytes-reads
 use Rattle.board_reading.proofs.read_bytes.Reads as read-bytes-reads
 
--- src/lib.rt:107:9
 read-bytes-requires : tie.Need-read-bytes-requires
 read-bytes-requires c κs = search needs
 
--- src/lib.rt:110:29
 enum-known-answer : tie.Need-enum-known-answer
 enum-known-answer c = search needs
 
--- src/lib.rt:110:47
 refused-requires : tie.Need-refused-requires
 refused-requires c κs = search needs
 
--- src/lib.rt:111:44
 enum-told : tie.Need-enum-told
 enum-told c = search needs
 
--- src/lib.rt:111:44
 judge-bytes-requires : tie.Need-judge-bytes-requires
 judge-bytes-requires c κs = search needs
 
--- src/lib.rt:111:33
 judge-told-requires : tie.Need-judge-told-requires
 judge-told-requires c κs = search needs
 
--- src/lib.rt:104:1
 returns : tie.Need-returns
 returns c =
     let at-answer = c .before .before in let answer = at-answer .answer in
@@ -42,7 +35,6 @@ returns c =
     let at-args = at-read-bytes .before .before .before in let args = at-args .args in
     rw (c .refused .ensures) (judged-unread (args .board .now) (args .list .now) _ _ (read-bytes .ensures) (answer .given .1))
 
--- src/lib.rt:104:1
 returns-2 : tie.Need-returns-2
 returns-2 c =
     let at-judge-bytes = c .before in let judge-bytes = at-judge-bytes .judge-bytes in

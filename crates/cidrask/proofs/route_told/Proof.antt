@@ -7,63 +7,48 @@ use Rattle.cidrask.proofs.route_told.Lts as lts
 use Rattle.cidrask.proofs.cut_told.Reads as cut-told-reads
 use Rattle.cidrask.proofs.refused.Reads as refused-reads
 
--- src/lib.rt:58:29
 enum-known-answer : tie.Need-enum-known-answer
 enum-known-answer c = search needs
 
--- src/lib.rt:64:33
 enum-told : tie.Need-enum-told
 enum-told c = search needs
 
--- src/lib.rt:64:33
 refused-requires : tie.Need-refused-requires
 refused-requires c κs = search needs
 
--- src/lib.rt:65:37
 enum-told-2 : tie.Need-enum-told-2
 enum-told-2 c = search needs
 
--- src/lib.rt:65:37
 refused-requires-2 : tie.Need-refused-requires-2
 refused-requires-2 c κs = search needs
 
--- src/lib.rt:66:26
 enum-known-answer-2 : tie.Need-enum-known-answer-2
 enum-known-answer-2 c = search needs
 
--- src/lib.rt:68:20
 cast-t7 : tie.Need-cast-t7
 cast-t7 c = search needs
 
--- src/lib.rt:69:21
 cast-t8 : tie.Need-cast-t8
 cast-t8 c = search needs
 
--- src/lib.rt:72:31
 enum-known-answer-3 : tie.Need-enum-known-answer-3
 enum-known-answer-3 c = search needs
 
--- src/lib.rt:72:37
 cut-told-requires : tie.Need-cut-told-requires
 cut-told-requires c κs = search needs
 
--- src/lib.rt:54:1
 returns : tie.Need-returns
 returns c = rw (c .before .answer .given .1)
 
--- src/lib.rt:54:1
 returns-2 : tie.Need-returns-2
 returns-2 c = rw (c .before .enum-told .given .1) (c .refused .ensures)
 
--- src/lib.rt:54:1
 returns-3 : tie.Need-returns-3
 returns-3 c = rw (c .before .enum-told2 .given .1) (c .refused2 .ensures)
 
--- src/lib.rt:54:1
 returns-4 : tie.Need-returns-4
 returns-4 c = rw (c .before .before .before .answer2 .given .1)
 
--- src/lib.rt:54:1
 returns-5 : tie.Need-returns-5
 returns-5 c = rw (c .before .before .answer3 .given .1) (c .cut-told .ensures)
 

@@ -10,42 +10,33 @@ use Rattle.cidrask.proofs.route_told.Reads as route-told-reads
 use Rattle.board_reading.proofs.read_bytes.Reads as read-bytes-reads
 use Rattle.route_call.proofs.route_bytes.Reads as route-bytes-reads
 
--- src/lib.rt:96:9
 read-bytes-requires : tie.Need-read-bytes-requires
 read-bytes-requires c κs = search needs
 
--- src/lib.rt:99:29
 enum-known-answer : tie.Need-enum-known-answer
 enum-known-answer c = search needs
 
--- src/lib.rt:99:47
 refused-requires : tie.Need-refused-requires
 refused-requires c κs = search needs
 
--- src/lib.rt:100:79
 enum-told : tie.Need-enum-told
 enum-told c = search needs
 
--- src/lib.rt:100:44
 route-bytes-requires : tie.Need-route-bytes-requires
 route-bytes-requires c κs = search needs
 
--- src/lib.rt:100:33
 route-told-requires : tie.Need-route-told-requires
 route-told-requires c κs = search needs
 
--- src/lib.rt:93:1
 returns : tie.Need-returns
 returns c =
     let at-answer = c .before .before in let answer = at-answer .answer in
     let at-read-bytes = at-answer .before .before in let read-bytes = at-read-bytes .read-bytes in
     rw (c .refused .ensures) (routed-unread _ _ (read-bytes .ensures) (answer .given .1))
 
--- src/lib.rt:93:1
 same-length : tie.Need-same-length
 same-length c = search needs
 
--- src/lib.rt:93:1
 returns-2 : tie.Need-returns-2
 returns-2 c =
     let at-route-bytes = c .before .before .before in let route-bytes = at-route-bytes .route-bytes in

@@ -10,25 +10,20 @@ use Rattle.cut_search.proofs.is_odd.Lts as lts
 use Rattle.board_degree.proofs.degree_of.Reads as degree-of-reads
 use Rattle.board.proofs.is_vertex.Reads as is-vertex-reads
 
--- src/lib.rt:83:8
 is-vertex-requires : tie.Need-is-vertex-requires
 is-vertex-requires c κs = search needs
 
--- src/lib.rt:84:10
 degree-of-requires : tie.Need-degree-of-requires
 degree-of-requires c κs = search needs
 
--- src/lib.rt:84:10
 add-result : tie.Need-add-result
 add-result c = search needs
 
--- src/lib.rt:80:1
 returns : tie.Need-returns
 returns c = let n = c .before .before .before .args .terminals in let d = c .degree-of .result in
     let e : (d + n % 2) % 2 ≡ (d + n) % 2 = omega arith in
     rw (← c .before .before .is-vertex .ensures .same, c .before .if1 .taken, ← c .degree-of .ensures .0, e) refl
 
--- src/lib.rt:80:1
 returns-2 : tie.Need-returns-2
 returns-2 c = rw (← c .before .is-vertex .ensures .same, c .if1 .left) refl
 

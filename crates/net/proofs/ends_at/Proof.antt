@@ -7,27 +7,21 @@ use Rattle.net.proofs.ends_at.Lts as lts
 use Rattle.board.proofs.bit.Reads as bit-reads
 use Rattle.net.proofs.same_vertex.Reads as same-vertex-reads
 
--- src/lib.rt:47:9
 same-vertex-requires : tie.Need-same-vertex-requires
 same-vertex-requires c κs = search needs
 
--- src/lib.rt:47:5
 bit-requires : tie.Need-bit-requires
 bit-requires c κs = search needs
 
--- src/lib.rt:47:38
 same-vertex-requires-2 : tie.Need-same-vertex-requires-2
 same-vertex-requires-2 c κs = search needs
 
--- src/lib.rt:47:34
 bit-requires-2 : tie.Need-bit-requires-2
 bit-requires-2 c κs = search needs
 
--- src/lib.rt:47:5
 add-result : tie.Need-add-result
 add-result c = search needs
 
--- src/lib.rt:41:1
 returns : tie.Need-returns
 returns c = (cc, omega arith)
 

@@ -5,23 +5,18 @@ use Rattle.net.proofs.held_ends.Reads as reads
 use Rattle.net.proofs.held_ends.Lts as lts
 use Rattle.net.proofs.ends_at.Reads as ends-at-reads
 
--- src/lib.rt:57:26
 enum-told : tie.Need-enum-told
 enum-told c = search needs
 
--- src/lib.rt:58:19
 enum-known-held : tie.Need-enum-known-held
 enum-known-held c = search needs
 
--- src/lib.rt:58:25
 ends-at-requires : tie.Need-ends-at-requires
 ends-at-requires c κs = search needs
 
--- src/lib.rt:51:1
 returns : tie.Need-returns
 returns c = search needs
 
--- src/lib.rt:51:1
 returns-2 : tie.Need-returns-2
 returns-2 c = (cc, c .ends-at .ensures .1)
 

@@ -19,35 +19,27 @@ Inv-loop v nets n₀ i₀ n i = (i ≤ 64) × (n ≤ 2 * i) × (n + tally (λ p.
 abbrev μ-loop : tie.MeasureT-loop
 μ-loop v nets n₀ i₀ n i = 64 - i
 
--- src/lib.rt:68:5
 loop-holds : tie.Need-loop-holds Inv-loop μ-loop
 loop-holds c = (omega arith, omega arith, rw (terminals-tally) (omega arith))
 
--- src/lib.rt:69:24
 mul-held-ends : tie.Need-mul-held-ends Inv-loop μ-loop
 mul-held-ends c = search needs
 
--- src/lib.rt:69:24
 array-copy-out-held-ends : tie.Need-array-copy-out-held-ends Inv-loop μ-loop
 array-copy-out-held-ends c = search needs
 
--- src/lib.rt:69:14
 held-ends-requires : tie.Need-held-ends-requires Inv-loop μ-loop
 held-ends-requires c κs = search needs
 
--- src/lib.rt:69:9
 add-n : tie.Need-add-n Inv-loop μ-loop
 add-n c = omega (arith, c .held-ends .ensures .1)
 
--- src/lib.rt:68:9
 add-i : tie.Need-add-i Inv-loop μ-loop
 add-i c = search needs
 
--- src/lib.rt:68:5
 loop-less : tie.Need-loop-less Inv-loop μ-loop
 loop-less c = search needs
 
--- src/lib.rt:68:5
 loop-again : tie.Need-loop-again Inv-loop μ-loop
 loop-again c =
     let nets = c .before .before .before .before .args .t1 in let v = c .before .before .before .before .args .v in
@@ -57,7 +49,6 @@ loop-again c =
       omega (arith, tally-more (λ p. ends p v) nets (at .i) (omega arith), c .held-ends .ensures .0),
     )
 
--- src/lib.rt:63:1
 returns : tie.Need-returns Inv-loop μ-loop
 returns c =
     let nets = c .before .before .args .t1 in let v = c .before .before .args .v in let at = c .before .loop in

@@ -10,35 +10,27 @@ use Rattle.net_terminals.proofs.count_at.Lts as lts
 use Rattle.net_terminals.proofs.raised.Reads as raised-reads
 use Rattle.numbers.proofs.wide.Reads as wide-reads
 
--- src/lib.rt:29:22
 wide-requires : tie.Need-wide-requires
 wide-requires c κs = search needs
 
--- src/lib.rt:29:22
 mul-at : tie.Need-mul-at
 mul-at c = search needs
 
--- src/lib.rt:29:42
 wide-requires-2 : tie.Need-wide-requires-2
 wide-requires-2 c κs = search needs
 
--- src/lib.rt:29:22
 add-at : tie.Need-add-at
 add-at c = search needs
 
--- src/lib.rt:30:33
 element-copy-out-raised : tie.Need-element-copy-out-raised
 element-copy-out-raised c = search needs
 
--- src/lib.rt:30:26
 raised-requires : tie.Need-raised-requires
 raised-requires c κs = search needs
 
--- src/lib.rt:30:13
 element-write-counts : tie.Need-element-write-counts
 element-write-counts c = search needs
 
--- src/lib.rt:24:1
 returns : tie.Need-returns
 unfolding changedAt
 returns c = rw (
@@ -49,12 +41,10 @@ returns c = rw (
   c .before .before .wide2 .ensures .0,
 ) refl
 
--- src/lib.rt:24:1
 returns-2 : tie.Need-returns-2
 unfolding changedAt
 returns-2 c = rw (lt-ltb _ _ (c .before .before .if1 .taken), le-ltb _ _ (c .if2 .left)) refl
 
--- src/lib.rt:24:1
 returns-3 : tie.Need-returns-3
 unfolding changedAt
 returns-3 c = rw (le-ltb _ _ (c .if1 .left)) refl

@@ -10,23 +10,18 @@ use Rattle.net_terminals.proofs.count_at.Reads as count-at-reads
 enum-told : tie.Need-enum-told
 enum-told c = search needs
 
--- src/lib.rt:42:20
 enum-known-held : tie.Need-enum-known-held
 enum-known-held c = search needs
 
--- src/lib.rt:43:13
 count-at-requires : tie.Need-count-at-requires
 count-at-requires c κs = search needs
 
--- src/lib.rt:44:13
 count-at-requires-2 : tie.Need-count-at-requires-2
 count-at-requires-2 c κs = search needs
 
--- src/lib.rt:36:1
 returns : tie.Need-returns
 returns c = search needs
 
--- src/lib.rt:36:1
 returns-2 : tie.Need-returns-2
 returns-2 c = rw (c .before .before .before .before .before .held .given .1, c .count-at2 .ensures, c .before .before .count-at .ensures) refl
 

@@ -17,31 +17,24 @@ Inv-loop nets counts₀ i₀ counts i = (i ≤ 64) × (length nets ≡ 64) × Co
 abbrev μ-loop : tie.MeasureT-loop
 μ-loop nets counts₀ i₀ counts i = 64 - i
 
--- src/lib.rt:54:5
 loop-holds : tie.Need-loop-holds Inv-loop μ-loop
 loop-holds c = (omega arith, search needs, counting-start (c .args .t1))
 
--- src/lib.rt:55:21
 mul-count-place : tie.Need-mul-count-place Inv-loop μ-loop
 mul-count-place c = search needs
 
--- src/lib.rt:55:21
 array-copy-out-count-place : tie.Need-array-copy-out-count-place Inv-loop μ-loop
 array-copy-out-count-place c = search needs
 
--- src/lib.rt:55:9
 count-place-requires : tie.Need-count-place-requires Inv-loop μ-loop
 count-place-requires c κs = search needs
 
--- src/lib.rt:54:9
 add-i : tie.Need-add-i Inv-loop μ-loop
 add-i c = search needs
 
--- src/lib.rt:54:5
 loop-less : tie.Need-loop-less Inv-loop μ-loop
 loop-less c = search needs
 
--- src/lib.rt:54:5
 loop-again : tie.Need-loop-again Inv-loop μ-loop
 loop-again c = (
   omega arith,
@@ -50,7 +43,6 @@ loop-again c = (
       (c .before .before .before .before .loop .inv .1)),
 )
 
--- src/lib.rt:50:1
 returns : tie.Need-returns Inv-loop μ-loop
 returns c = counting-done (c .before .loop .inv .2) (omega arith)
 

@@ -7,15 +7,12 @@ use Rattle.route_call.proofs.first_work.Lts as lts
 use Rattle.router_start.proofs.number_of.Reads as number-of-reads
 use Rattle.numbers.proofs.wide.Reads as wide-reads
 
--- src/lib.rt:39:17
 wide-requires : tie.Need-wide-requires
 wide-requires c κs = search needs
 
--- src/lib.rt:42:15
 number-of-requires : tie.Need-number-of-requires
 number-of-requires c κs = search needs
 
--- src/lib.rt:33:1
 returns : tie.Need-returns
 returns c =
     let at-wide = c .before in

@@ -14,18 +14,15 @@ use Rattle.cut_search.proofs.first_odd.Reads as first-odd-reads
 use Rattle.session.proofs.Session.sound.Reads as sound-reads
 use Rattle.route_call.proofs.route_even.Reads as route-even-reads
 
--- src/lib.rt:110:9
 sound-requires : tie.Need-sound-requires
 sound-requires c κs = search needs
 
--- src/lib.rt:111:9
 returns : tie.Need-returns
 returns c =
     let at-sound = c .before in let sound = at-sound .sound in
     let at-args = at-sound .before .before in let args = at-args .args in
     route-unsound (sessionOf (args .s)) _ (sym (sound .ensures .same) ∙ not-true (sound .result) (c .if1 .taken))
 
--- src/lib.rt:114:9
 returns-2 : tie.Need-returns-2
 returns-2 c =
     let at-if1 = c .before in let if1 = at-if1 .if1 in
@@ -33,19 +30,15 @@ returns-2 c =
     let at-args = at-sound .before .before in let args = at-args .args in
     route-short (sessionOf (args .s)) _ (sym (sound .ensures .same) ∙ not-false (sound .result) (if1 .left)) (c .if2 .taken)
 
--- src/lib.rt:118:9
 first-odd-requires : tie.Need-first-odd-requires
 first-odd-requires c κs = search needs
 
--- src/lib.rt:120:25
 enum-known-odd : tie.Need-enum-known-odd
 enum-known-odd c = search needs
 
--- src/lib.rt:121:47
 enum-told : tie.Need-enum-told
 enum-told c = search needs
 
--- src/lib.rt:121:33
 route-even-requires : tie.Need-route-even-requires
 route-even-requires c κs =
     let at-enum-told = c .before in let the-enum-told = at-enum-told .enum-told in
@@ -62,7 +55,6 @@ route-even-requires c κs =
       omega arith,
     )
 
--- src/lib.rt:107:1
 returns-3 : tie.Need-returns-3
 returns-3 c =
     let at-odd = c .before in let odd = at-odd .odd in
@@ -74,11 +66,9 @@ returns-3 c =
     route-odd (sessionOf s) _ (sym (sound .ensures .same) ∙ not-false (sound .result) (if1 .left)) (omega arith) _
     (odd-at (sessionOf s) _ (pairs-of (s .nets)) _ (sym (odd .given .1) ∙ first-odd .ensures))
 
--- src/lib.rt:107:1
 same-length : tie.Need-same-length
 same-length c = search needs
 
--- src/lib.rt:107:1
 returns-4 : tie.Need-returns-4
 returns-4 c = c .before .before .route-even .ensures
 

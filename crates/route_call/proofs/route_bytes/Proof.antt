@@ -22,25 +22,20 @@ use Rattle.route_call.proofs.written.Reads as written-reads
 abbrev words : List ℕ
 words = replicate routingLimit 0
 
--- src/lib.rt:149:9
 least-requires : tie.Need-least-requires
 least-requires c κs = search needs
 
--- src/lib.rt:150:27
 array-borrow-prefix-words : tie.Need-array-borrow-prefix-words
 array-borrow-prefix-words c = search needs
 
--- src/lib.rt:150:27
 slice-aggregate-route : tie.Need-slice-aggregate-route
 slice-aggregate-route c =
     let at-least = c .before in let least = at-least .least in
     sym (length-take-le (least .result) words (omega (arith, least .ensures, length-replicate {A = ℕ} routingLimit 0)))
 
--- src/lib.rt:150:9
 route-requires : tie.Need-route-requires
 route-requires c κs = search needs
 
--- src/lib.rt:151:23
 slice-aggregate-put-words : tie.Need-slice-aggregate-put-words
 slice-aggregate-put-words c =
     let at-route = c .before .before in let route = at-route .route in
@@ -60,11 +55,9 @@ slice-aggregate-put-words c =
     in
     g
 
--- src/lib.rt:151:31
 written-requires : tie.Need-written-requires
 written-requires c κs = search needs
 
--- src/lib.rt:151:5
 put-words-requires : tie.Need-put-words-requires
 put-words-requires c κs =
     let at-written = c .before in let written = at-written .written in
@@ -81,11 +74,9 @@ put-words-requires c κs =
     let h : 4 * written .result ≤ length (args .out .now) = omega (arith, w, e, l, least .ensures) in
     (g, h)
 
--- src/lib.rt:145:1
 same-length : tie.Need-same-length
 same-length c = search needs
 
--- src/lib.rt:145:1
 returns : tie.Need-returns
 returns c =
     let at-put-words = c .before .before in let put-words = at-put-words .put-words in

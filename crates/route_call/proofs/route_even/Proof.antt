@@ -12,19 +12,15 @@ use Rattle.route_call.proofs.route_even.Lts as lts
 use Rattle.cut_search.proofs.first_overfull.Reads as first-overfull-reads
 use Rattle.route_call.proofs.wire.Reads as wire-reads
 
--- src/lib.rt:96:9
 first-overfull-requires : tie.Need-first-overfull-requires
 first-overfull-requires c κs = search needs
 
--- src/lib.rt:98:22
 enum-known-found : tie.Need-enum-known-found
 enum-known-found c = search needs
 
--- src/lib.rt:100:33
 enum-told : tie.Need-enum-told
 enum-told c = search needs
 
--- src/lib.rt:100:17
 wire-requires : tie.Need-wire-requires
 wire-requires c κs =
     let at-enum-told = c .before in let the-enum-told = at-enum-told .enum-told in
@@ -33,7 +29,6 @@ wire-requires c κs =
     let s = args .s in
     ((pre .0, none-overfull (sessionOf s) _ (pairs-of (s .nets)) (sym (the-enum-told .given .1) ∙ first-overfull .ensures)), pre .1)
 
--- src/lib.rt:89:1
 returns : tie.Need-returns
 returns c =
     let at-found = c .before in let found = at-found .found in
@@ -43,11 +38,9 @@ returns c =
     route-overfull (sessionOf s) _ (pre .0) (pre .1) _ (overfull-at (sessionOf s) _ (pairs-of (s .nets)) _
     (sym (found .given .1) ∙ first-overfull .ensures))
 
--- src/lib.rt:89:1
 same-length : tie.Need-same-length
 same-length c = search needs
 
--- src/lib.rt:89:1
 returns-2 : tie.Need-returns-2
 returns-2 c =
     let at-wire = c .before .before in let wire = at-wire .wire in

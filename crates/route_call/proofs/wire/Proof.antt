@@ -11,11 +11,9 @@ use Rattle.route_call.proofs.wire.Lts as lts
 use Rattle.route_call.proofs.wire_table.Reads as wire-table-reads
 use Rattle.router_start.proofs.fill_table.Reads as fill-table-reads
 
--- src/lib.rt:89:9
 fill-table-requires : tie.Need-fill-table-requires
 fill-table-requires c κs = clear-zeros
 
--- src/lib.rt:90:5
 wire-table-requires : tie.Need-wire-table-requires
 wire-table-requires c κs =
     let at-fill-table = c .before .before .before .before .before .before in
@@ -25,11 +23,9 @@ wire-table-requires c κs =
     let T = at-fill-table .fill-table .ensures in
     ((even-sound (sessionOf s) E, nets-filled (sessionOf s) E (at-start .pre .0 .1) _ (pairs-of (s .nets)) (T .1) (T .0)), at-start .pre .1)
 
--- src/lib.rt:78:1
 same-length : tie.Need-same-length
 same-length c = search needs
 
--- src/lib.rt:78:1
 returns : tie.Need-returns
 returns c = search needs
 

@@ -17,7 +17,6 @@ use Rattle.router_loop.proofs.cut_all.Reads as cut-all-reads
 use Rattle.router_start.proofs.fill_lines.Reads as fill-lines-reads
 use Rattle.router_writer.proofs.write_paths.Reads as write-paths-reads
 
--- src/lib.rt:64:5
 fill-lines-requires : tie.Need-fill-lines-requires
 fill-lines-requires c κs =
     let at-start = c .before .before .before .before .before in
@@ -27,11 +26,9 @@ fill-lines-requires c κs =
       (length-replicate {A = ℕ} 32 0, length-replicate {A = ℕ} 32 0),
     )
 
--- src/lib.rt:70:9
 first-work-requires : tie.Need-first-work-requires
 first-work-requires c κs = search needs
 
--- src/lib.rt:71:5
 cut-all-requires : tie.Need-cut-all-requires
 cut-all-requires c κs =
     let at-first-work = c .before .before .before .before .before .before .before .before .before .before .before .before in
@@ -43,7 +40,6 @@ cut-all-requires c κs =
     (omega (arith, height-of (args .s .block .board), S .within .few)) (F .most) in
     (low .0, low .1, low .2, low .3, F .table .clear .low)
 
--- src/lib.rt:74:5
 write-paths-requires : tie.Need-write-paths-requires
 write-paths-requires c κs =
     let at-cut-all = c .before .before .before .before .before .before .before .before in
@@ -55,11 +51,9 @@ write-paths-requires c κs =
     (at-start .pre .0 .1) (at-first-work .first-work .result) (at-first-work .first-work .ensures) (at-cut-all .cut-all .ensures)
     (at-start .pre .1)
 
--- src/lib.rt:46:1
 same-length : tie.Need-same-length
 same-length c = search needs
 
--- src/lib.rt:46:1
 returns : tie.Need-returns
 returns c =
     let at-write-paths = c .before .before in

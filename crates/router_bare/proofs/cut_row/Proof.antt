@@ -14,74 +14,57 @@ use Rattle.router_table.proofs.divide.Reads as divide-reads
 use Rattle.router_table.proofs.part.Reads as part-reads
 use Rattle.numbers.proofs.long.Reads as long-reads
 
--- src/lib.rt:51:13
 mul-a : tie.Need-mul-a
 mul-a c = search needs
 
--- src/lib.rt:51:13
 element-copy-out-a : tie.Need-element-copy-out-a
 element-copy-out-a c = search needs
 
--- src/lib.rt:52:13
 mul-b : tie.Need-mul-b
 mul-b c = search needs
 
--- src/lib.rt:52:13
 element-copy-out-b : tie.Need-element-copy-out-b
 element-copy-out-b c = search needs
 
--- src/lib.rt:53:32
 mul-long : tie.Need-mul-long
 mul-long c = search needs
 
--- src/lib.rt:53:32
 element-copy-out-long : tie.Need-element-copy-out-long
 element-copy-out-long c = search needs
 
--- src/lib.rt:53:9
 long-requires : tie.Need-long-requires
 long-requires c κs = search needs
 
--- src/lib.rt:54:9
 pick-requires : tie.Need-pick-requires
 pick-requires c κs = search needs
 
--- src/lib.rt:55:9
 pick-requires-2 : tie.Need-pick-requires-2
 pick-requires-2 c κs = search needs
 
--- src/lib.rt:68:9
 first-dir-requires : tie.Need-first-dir-requires
 first-dir-requires c κs = search needs
 
--- src/lib.rt:69:9
 second-dir-requires : tie.Need-second-dir-requires
 second-dir-requires c κs = search needs
 
--- src/lib.rt:56:5
 part-requires : tie.Need-part-requires
 part-requires c κs =
     let at-long = c .before .before .before .before .before .before .before .before .before in
     let start = at-long .before .before .before .before in
     (omega (arith, at-long .long .ensures .0, start .pre .3 (start .args .i)), start .pre .2)
 
--- src/lib.rt:71:5
 divide-requires : tie.Need-divide-requires
 divide-requires c κs = search needs
 
--- src/lib.rt:72:29
 add-counted : tie.Need-add-counted
 add-counted c = search needs
 
--- src/lib.rt:72:36
 add-counted-2 : tie.Need-add-counted-2
 add-counted-2 c = search needs
 
--- src/lib.rt:72:5
 counted-requires : tie.Need-counted-requires
 counted-requires c κs = search needs
 
--- src/lib.rt:30:1
 returns : tie.Need-returns
 returns c =
     let at-divide = c .before in

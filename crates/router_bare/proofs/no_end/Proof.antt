@@ -22,43 +22,33 @@ use Rattle.router_table.proofs.least.Reads as least-reads
 use Rattle.router_table.proofs.leaving.Reads as leaving-reads
 use Rattle.numbers.proofs.long.Reads as long-reads
 
--- src/lib.rt:98:9
 word-requires : tie.Need-word-requires
 word-requires c κs = search needs
 
--- src/lib.rt:99:15
 add-nul : tie.Need-add-nul
 add-nul c = search needs
 
--- src/lib.rt:100:9
 below-requires : tie.Need-below-requires
 below-requires c κs = search needs
 
--- src/lib.rt:101:5
 shorten-requires : tie.Need-shorten-requires
 shorten-requires c κs = search needs
 
--- src/lib.rt:102:9
 crossing-requires : tie.Need-crossing-requires
 crossing-requires c κs = search needs
 
--- src/lib.rt:103:13
 sub-if1 : tie.Need-sub-if1
 sub-if1 c = search needs
 
--- src/lib.rt:103:13
 add-if1 : tie.Need-add-if1
 add-if1 c = search needs
 
--- src/lib.rt:104:13
 least-requires : tie.Need-least-requires
 least-requires c κs = search needs
 
--- src/lib.rt:106:13
 halted-requires : tie.Need-halted-requires
 halted-requires c κs = search needs
 
--- src/lib.rt:106:13
 returns : tie.Need-returns
 returns c =
     let at-if2 = c .before in
@@ -79,19 +69,15 @@ returns c =
       (near-halted (start .args .w) _ (c .halted .ensures) (omega (arith, start .pre .6, start .pre .7)) (start .pre .7), start .pre .5),
     )
 
--- src/lib.rt:108:36
 mul-long : tie.Need-mul-long
 mul-long c = search needs
 
--- src/lib.rt:108:36
 element-copy-out-long : tie.Need-element-copy-out-long
 element-copy-out-long c = search needs
 
--- src/lib.rt:108:17
 long-requires : tie.Need-long-requires
 long-requires c κs = search needs
 
--- src/lib.rt:109:9
 cut-row-requires : tie.Need-cut-row-requires
 cut-row-requires c κs =
     let at-if2 = c .before .before .before .before .before .before .before .before .before .before in
@@ -105,7 +91,6 @@ cut-row-requires c κs =
       start .pre .7,
     )
 
--- src/lib.rt:109:9
 returns-2 : tie.Need-returns-2
 returns-2 c =
     let at-long = c .before .before .before .before .before .before .before .before .before in
@@ -133,29 +118,23 @@ returns-2 c =
       ),
     )
 
--- src/lib.rt:111:9
 leaving-requires : tie.Need-leaving-requires
 leaving-requires c κs = search needs
 
--- src/lib.rt:112:8
 add-if3 : tie.Need-add-if3
 add-if3 c =
     let start = c .before .before .before .before .before .before .before .before .before .before .before .before in
     omega (arith, c .leaving .ensures, leave-le (start .args .la .now) (start .args .lb .now) (start .args .line) (start .args .w .n))
 
--- src/lib.rt:112:17
 add-if3-2 : tie.Need-add-if3-2
 add-if3-2 c = search needs
 
--- src/lib.rt:113:13
 first-at-requires : tie.Need-first-at-requires
 first-at-requires c κs = search needs
 
--- src/lib.rt:115:13
 halted-requires-2 : tie.Need-halted-requires-2
 halted-requires-2 c κs = search needs
 
--- src/lib.rt:115:13
 returns-3 : tie.Need-returns-3
 returns-3 c =
     let at-if4 = c .before in
@@ -180,15 +159,12 @@ returns-3 c =
       (near-halted (start .args .w) _ (c .halted2 .ensures) (omega (arith, start .pre .6, start .pre .7)) (start .pre .7), start .pre .5),
     )
 
--- src/lib.rt:117:17
 mul-a : tie.Need-mul-a
 mul-a c = search needs
 
--- src/lib.rt:117:17
 element-copy-out-a : tie.Need-element-copy-out-a
 element-copy-out-a c = search needs
 
--- src/lib.rt:118:9
 cut-row-requires-2 : tie.Need-cut-row-requires-2
 cut-row-requires-2 c κs =
     let at-if4 = c .before .before .before .before .before .before .before .before .before in
@@ -203,7 +179,6 @@ cut-row-requires-2 c κs =
       start .pre .7,
     )
 
--- src/lib.rt:118:9
 returns-4 : tie.Need-returns-4
 returns-4 c =
     let at-if4 = c .before .before .before .before .before .before .before .before .before .before in
@@ -234,23 +209,18 @@ returns-4 c =
       ),
     )
 
--- src/lib.rt:120:5
 add-requires : tie.Need-add-requires
 add-requires c κs = search needs
 
--- src/lib.rt:121:29
 add-counted : tie.Need-add-counted
 add-counted c = search needs
 
--- src/lib.rt:121:36
 add-counted-2 : tie.Need-add-counted-2
 add-counted-2 c = search needs
 
--- src/lib.rt:121:5
 counted-requires : tie.Need-counted-requires
 counted-requires c κs = search needs
 
--- src/lib.rt:76:1
 returns-5 : tie.Need-returns-5
 returns-5 c =
     let at-add = c .before .before in

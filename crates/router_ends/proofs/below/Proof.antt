@@ -6,19 +6,15 @@ use Rattle.router_ends.proofs.below.Tie as tie
 use Rattle.router_ends.proofs.below.Reads as reads
 use Rattle.router_ends.proofs.below.Lts as lts
 
--- src/lib.rt:66:9
 add-result : tie.Need-add-result
 add-result c = search needs
 
--- src/lib.rt:59:1
 returns : tie.Need-returns
 returns c = rw (c .before .if1 .taken) (omega arith)
 
--- src/lib.rt:59:1
 returns-2 : tie.Need-returns-2
 returns-2 c = rw (c .before .if1 .taken)
 
--- src/lib.rt:59:1
 returns-3 : tie.Need-returns-3
 returns-3 c = rw (c .if1 .left)
 

@@ -14,11 +14,9 @@ use Rattle.router_ends.proofs.halted.Reads as halted-reads
 use Rattle.router_ends.proofs.slide.Reads as slide-reads
 use Rattle.router_ends.proofs.word.Reads as word-reads
 
--- src/lib.rt:180:9
 halted-requires : tie.Need-halted-requires
 halted-requires c κs = search needs
 
--- src/lib.rt:180:9
 returns : tie.Need-returns
 returns c =
     let at-if1 = c .before in
@@ -29,11 +27,9 @@ returns c =
       near-halted (start .args .w) _ (c .halted .ensures) (omega (arith, start .pre .5, start .pre .6)) (start .pre .6),
     )
 
--- src/lib.rt:183:9
 halted-requires-2 : tie.Need-halted-requires-2
 halted-requires-2 c κs = search needs
 
--- src/lib.rt:183:9
 returns-2 : tie.Need-returns-2
 returns-2 c =
     let at-if2 = c .before in
@@ -46,53 +42,42 @@ returns-2 c =
       near-halted (start .args .w) _ (c .halted2 .ensures) (omega (arith, start .pre .5, start .pre .6)) (start .pre .6),
     )
 
--- src/lib.rt:185:9
 word-requires : tie.Need-word-requires
 word-requires c κs = search needs
 
--- src/lib.rt:186:9
 below-requires : tie.Need-below-requires
 below-requires c κs = search needs
 
--- src/lib.rt:187:17
 mul-v : tie.Need-mul-v
 mul-v c = search needs
 
--- src/lib.rt:187:17
 element-copy-out-v : tie.Need-element-copy-out-v
 element-copy-out-v c = search needs
 
--- src/lib.rt:187:13
 mul-v-2 : tie.Need-mul-v-2
 mul-v-2 c =
     let start = c .before .before .before .before .before in
     omega (arith, start .pre .4 (start .args .i))
 
--- src/lib.rt:187:13
 add-v : tie.Need-add-v
 add-v c =
     let start = c .before .before .before .before .before in
     omega (arith, start .pre .4 (start .args .i))
 
--- src/lib.rt:187:30
 bit-requires : tie.Need-bit-requires
 bit-requires c κs = search needs
 
--- src/lib.rt:187:13
 add-v-2 : tie.Need-add-v-2
 add-v-2 c =
     let start = c .before .before .before .before .before .before in
     omega (arith, start .pre .4 (start .args .i), c .bit .ensures)
 
--- src/lib.rt:188:5
 slide-requires : tie.Need-slide-requires
 slide-requires c κs = search needs
 
--- src/lib.rt:190:14
 add-t16 : tie.Need-add-t16
 add-t16 c = search needs
 
--- src/lib.rt:161:1
 returns-3 : tie.Need-returns-3
 returns-3 c =
     let at-slide = c .before in

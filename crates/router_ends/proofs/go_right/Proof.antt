@@ -14,11 +14,9 @@ use Rattle.router_ends.proofs.shorten.Reads as shorten-reads
 use Rattle.router_ends.proofs.slide.Reads as slide-reads
 use Rattle.router_ends.proofs.word.Reads as word-reads
 
--- src/lib.rt:220:9
 halted-requires : tie.Need-halted-requires
 halted-requires c κs = search needs
 
--- src/lib.rt:220:9
 returns : tie.Need-returns
 returns c =
     let at-if1 = c .before in
@@ -29,11 +27,9 @@ returns c =
       near-halted (start .args .w) _ (c .halted .ensures) (start .pre .5) (start .pre .6),
     )
 
--- src/lib.rt:223:9
 halted-requires-2 : tie.Need-halted-requires-2
 halted-requires-2 c κs = search needs
 
--- src/lib.rt:223:9
 returns-2 : tie.Need-returns-2
 returns-2 c =
     let at-if2 = c .before in
@@ -46,11 +42,9 @@ returns-2 c =
       near-halted (start .args .w) _ (c .halted2 .ensures) (start .pre .5) (start .pre .6),
     )
 
--- src/lib.rt:226:9
 halted-requires-3 : tie.Need-halted-requires-3
 halted-requires-3 c κs = search needs
 
--- src/lib.rt:226:9
 returns-3 : tie.Need-returns-3
 returns-3 c =
     let at-if3 = c .before in
@@ -64,41 +58,32 @@ returns-3 c =
       near-halted (start .args .w) _ (c .halted3 .ensures) (start .pre .5) (start .pre .6),
     )
 
--- src/lib.rt:228:9
 word-requires : tie.Need-word-requires
 word-requires c κs = search needs
 
--- src/lib.rt:229:13
 mul-s : tie.Need-mul-s
 mul-s c = search needs
 
--- src/lib.rt:229:13
 element-copy-out-s : tie.Need-element-copy-out-s
 element-copy-out-s c = search needs
 
--- src/lib.rt:229:13
 add-s : tie.Need-add-s
 add-s c =
     let start = c .before .before .before .before .before .before in
     omega (arith, start .pre .4 (start .args .i))
 
--- src/lib.rt:230:5
 shorten-requires : tie.Need-shorten-requires
 shorten-requires c κs = search needs
 
--- src/lib.rt:231:40
 add-slide : tie.Need-add-slide
 add-slide c = search needs
 
--- src/lib.rt:231:5
 slide-requires : tie.Need-slide-requires
 slide-requires c κs = search needs
 
--- src/lib.rt:232:5
 counted-requires : tie.Need-counted-requires
 counted-requires c κs = search needs
 
--- src/lib.rt:200:1
 returns-4 : tie.Need-returns-4
 returns-4 c =
     let at-slide = c .before in

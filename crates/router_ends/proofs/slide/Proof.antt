@@ -7,31 +7,24 @@ use Rattle.router_ends.proofs.slide.Lts as lts
 use Rattle.router_table.proofs.move_end.Reads as move-end-reads
 use Rattle.numbers.proofs.long.Reads as long-reads
 
--- src/lib.rt:106:9
 long-requires : tie.Need-long-requires
 long-requires c κs = search needs
 
--- src/lib.rt:107:5
 mul-side : tie.Need-mul-side
 mul-side c = search needs
 
--- src/lib.rt:107:5
 element-write-side : tie.Need-element-write-side
 element-write-side c = search needs
 
--- src/lib.rt:108:5
 mul-vert : tie.Need-mul-vert
 mul-vert c = search needs
 
--- src/lib.rt:108:5
 element-write-vert : tie.Need-element-write-vert
 element-write-vert c = search needs
 
--- src/lib.rt:109:5
 move-end-requires : tie.Need-move-end-requires
 move-end-requires c κs = search needs
 
--- src/lib.rt:91:1
 returns : tie.Need-returns
 returns c = (c .move-end .ensures, (rw (c .before .before .before .long .ensures .0), rw (c .before .before .before .long .ensures .0)))
 

@@ -22,23 +22,18 @@ use Rattle.router_table.proofs.split.Reads as split-reads
 use Rattle.router_table.proofs.swaps.Reads as swaps-reads
 use Rattle.numbers.proofs.long.Reads as long-reads
 
--- src/lib.rt:131:9
 word-requires : tie.Need-word-requires
 word-requires c κs = search needs
 
--- src/lib.rt:132:50
 add-first-at : tie.Need-add-first-at
 add-first-at c = search needs
 
--- src/lib.rt:132:9
 first-at-requires : tie.Need-first-at-requires
 first-at-requires c κs = search needs
 
--- src/lib.rt:134:9
 halted-requires : tie.Need-halted-requires
 halted-requires c κs = search needs
 
--- src/lib.rt:134:9
 returns : tie.Need-returns
 returns c =
     let at-if1 = c .before in
@@ -52,59 +47,45 @@ returns c =
       near-halted (start .args .w) _ (c .halted .ensures) (start .pre .5) (start .pre .6),
     )
 
--- src/lib.rt:136:9
 below-requires : tie.Need-below-requires
 below-requires c κs = search needs
 
--- src/lib.rt:137:32
 far-requires : tie.Need-far-requires
 far-requires c κs = search needs
 
--- src/lib.rt:137:9
 long-requires : tie.Need-long-requires
 long-requires c κs = search needs
 
--- src/lib.rt:138:32
 far-requires-2 : tie.Need-far-requires-2
 far-requires-2 c κs = search needs
 
--- src/lib.rt:138:9
 long-requires-2 : tie.Need-long-requires-2
 long-requires-2 c κs = search needs
 
--- src/lib.rt:139:5
 shorten-requires : tie.Need-shorten-requires
 shorten-requires c κs = search needs
 
--- src/lib.rt:140:9
 swaps-requires : tie.Need-swaps-requires
 swaps-requires c κs = search needs
 
--- src/lib.rt:141:9
 pick-requires : tie.Need-pick-requires
 pick-requires c κs = search needs
 
--- src/lib.rt:142:9
 pick-requires-2 : tie.Need-pick-requires-2
 pick-requires-2 c κs = search needs
 
--- src/lib.rt:151:9
 mul-split : tie.Need-mul-split
 mul-split c = search needs
 
--- src/lib.rt:151:9
 add-split : tie.Need-add-split
 add-split c = search needs
 
--- src/lib.rt:153:9
 add-split-2 : tie.Need-add-split-2
 add-split-2 c = search needs
 
--- src/lib.rt:155:9
 bit-requires : tie.Need-bit-requires
 bit-requires c κs = search needs
 
--- src/lib.rt:143:5
 split-requires : tie.Need-split-requires
 split-requires c κs =
     let at-pick2 = c .before .before .before .before .before in
@@ -125,11 +106,9 @@ split-requires c κs =
       omega (arith, start .pre .4 (at-pick2 .pick2 .result)),
     )
 
--- src/lib.rt:157:5
 counted-requires : tie.Need-counted-requires
 counted-requires c κs = search needs
 
--- src/lib.rt:113:1
 returns-2 : tie.Need-returns-2
 returns-2 c =
     let at-split = c .before in

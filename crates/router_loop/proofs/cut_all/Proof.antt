@@ -24,7 +24,6 @@ Inv-loop la₀ lb₀ ids₀ side₀ vert₀ half₀ s1₀ s2₀ d1₀ d2₀ lo�
 abbrev μ-loop : tie.MeasureT-loop
 μ-loop la₀ lb₀ ids₀ side₀ vert₀ half₀ s1₀ s2₀ d1₀ d2₀ lo₀ hi w₀ t₀ la lb ids side vert half s1 s2 d1 d2 lo w t = vertexLimit - t
 
--- src/lib.rt:38:5
 loop-holds : tie.Need-loop-holds Inv-loop μ-loop
 loop-holds c = (
   omega arith,
@@ -39,11 +38,9 @@ loop-holds c = (
       (c .args .d2 .now) (c .args .lo .now) (c .args .hi .now) (c .args .start)),
 )
 
--- src/lib.rt:39:13
 tidy-requires : tie.Need-tidy-requires Inv-loop μ-loop
 tidy-requires c κs = omega (arith, c .before .before .before .before .loop .inv)
 
--- src/lib.rt:41:13
 returns : tie.Need-returns Inv-loop μ-loop
 returns c =
     let at-tidy = c .before in
@@ -59,14 +56,12 @@ returns c =
     (at-loop .loop .s2) (at-loop .loop .d1) (at-loop .loop .d2) (at-loop .loop .lo) (start .args .hi .now) (at-loop .loop .w) (at-loop .loop .t)
     (at-loop .loop .inv .6) _ _ _ (at-tidy .tidy .result) (at-tidy .tidy .ensures .1) (c .if1 .taken)
 
--- src/lib.rt:43:13
 turned-requires : tie.Need-turned-requires Inv-loop μ-loop
 turned-requires c κs = (
   c .before .before .before .before .before .before .before .loop .inv .1,
   c .before .before .before .before .before .before .before .loop .inv .2,
 )
 
--- src/lib.rt:44:9
 step-requires : tie.Need-step-requires Inv-loop μ-loop
 step-requires c κs =
     let at-turned = c .before .before .before .before .before .before .before .before .before .before .before in
@@ -79,7 +74,6 @@ step-requires c κs =
       at-turned .turned .ensures .1 .1,
     )
 
--- src/lib.rt:46:13
 returns-2 : tie.Need-returns-2 Inv-loop μ-loop
 returns-2 c =
     let at-step = c .before in
@@ -103,21 +97,18 @@ returns-2 c =
     (omega (arith, at-turned .turned .ensures .1 .3, at-loop .loop .inv .4, at-loop-test .loop-test .taken)) _ (at-step .step .result .stuck)
     (at-step .step .ensures .0) s0 H Z .0))
 
--- src/lib.rt:48:9
 add-t : tie.Need-add-t Inv-loop μ-loop
 add-t c =
     let at-loop-test = c .before .before .before .before .before .before .before .before .before .before .before .before .before .before .before
     .before .before .before .before .before in
     omega (arith, at-loop-test .loop-test .taken)
 
--- src/lib.rt:38:5
 loop-less : tie.Need-loop-less Inv-loop μ-loop
 loop-less c =
     let at-loop-test = c .before .before .before .before .before .before .before .before .before .before .before .before .before .before .before
     .before .before .before .before .before in
     omega (arith, at-loop-test .loop-test .taken)
 
--- src/lib.rt:38:5
 loop-again : tie.Need-loop-again Inv-loop μ-loop
 loop-again c =
     let at-step = c .before in
@@ -150,7 +141,6 @@ loop-again c =
           (at-step .step .ensures .0) s0 H Z in (k .1, k .2, k .3),
     )
 
--- src/lib.rt:31:1
 returns-3 : tie.Need-returns-3 Inv-loop μ-loop
 returns-3 c =
     let at-loop = c .before in

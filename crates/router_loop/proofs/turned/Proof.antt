@@ -11,15 +11,12 @@ use Rattle.router_loop.proofs.turned.Lts as lts
 use Rattle.numbers.proofs.wide.Reads as wide-reads
 use Rattle.router_table.proofs.seen.Reads as seen-reads
 
--- src/lib.rt:22:9
 seen-requires : tie.Need-seen-requires
 seen-requires c κs = search needs
 
--- src/lib.rt:23:9
 seen-requires-2 : tie.Need-seen-requires-2
 seen-requires-2 c κs = search needs
 
--- src/lib.rt:24:13
 element-copy-out-wide : tie.Need-element-copy-out-wide
 element-copy-out-wide c = omega (
   arith,
@@ -27,26 +24,21 @@ element-copy-out-wide c = omega (
   seen-low (c .before .before .args .w .up) (c .before .before .args .w .bottom) (c .before .before .pre .1),
 )
 
--- src/lib.rt:24:8
 wide-requires : tie.Need-wide-requires
 wide-requires c κs = search needs
 
--- src/lib.rt:24:27
 element-copy-out-wide-2 : tie.Need-element-copy-out-wide-2
 element-copy-out-wide-2 c =
     let at-seen = c .before .before .before in
     let start = at-seen .before in
     omega (arith, at-seen .seen .ensures, seen-low (start .args .w .up) (start .args .w .top) (start .pre .0))
 
--- src/lib.rt:24:22
 wide-requires-2 : tie.Need-wide-requires-2
 wide-requires-2 c κs = search needs
 
--- src/lib.rt:24:8
 add-if1 : tie.Need-add-if1
 add-if1 c = search needs
 
--- src/lib.rt:24:41
 element-copy-out-wide-3 : tie.Need-element-copy-out-wide-3
 element-copy-out-wide-3 c =
     let at-seen2 = c .before .before .before .before in
@@ -60,11 +52,9 @@ element-copy-out-wide-3 c =
       seen-low (start .args .w .up) (start .args .w .bottom) (start .pre .1),
     )
 
--- src/lib.rt:24:36
 wide-requires-3 : tie.Need-wide-requires-3
 wide-requires-3 c κs = search needs
 
--- src/lib.rt:24:55
 element-copy-out-wide-4 : tie.Need-element-copy-out-wide-4
 element-copy-out-wide-4 c =
     let at-seen2 = c .before .before .before .before .before .before in
@@ -78,23 +68,18 @@ element-copy-out-wide-4 c =
       seen-low (start .args .w .up) (start .args .w .bottom) (start .pre .1),
     )
 
--- src/lib.rt:24:50
 wide-requires-4 : tie.Need-wide-requires-4
 wide-requires-4 c κs = search needs
 
--- src/lib.rt:24:36
 add-if1-2 : tie.Need-add-if1-2
 add-if1-2 c = search needs
 
--- src/lib.rt:25:28
 sub-t25 : tie.Need-sub-t25
 sub-t25 c = search needs
 
--- src/lib.rt:25:51
 sub-t26 : tie.Need-sub-t26
 sub-t26 c = search needs
 
--- src/lib.rt:25:9
 returns : tie.Need-returns
 returns c =
     let at-if1 = c .before .before .before in
@@ -113,7 +98,6 @@ returns c =
       (omega arith, omega arith, refl, refl),
     )
 
--- src/lib.rt:17:1
 returns-2 : tie.Need-returns-2
 returns-2 c =
     let at-wide4 = c .before in

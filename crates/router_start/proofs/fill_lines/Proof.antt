@@ -23,71 +23,54 @@ Inv-loop lo₀ hi₀ rows n l₀ l-end lo hi l = (l ≤ n + 1) × (length lo₀ 
 abbrev μ-loop : tie.MeasureT-loop
 μ-loop lo₀ hi₀ rows n l₀ l-end lo hi l = n + 1 - l
 
--- src/lib.rt:53:9
 wide-requires : tie.Need-wide-requires Inv-loop μ-loop
 wide-requires c κs = search needs
 
--- src/lib.rt:54:17
 add-l-end : tie.Need-add-l-end Inv-loop μ-loop
 add-l-end c = search needs
 
--- src/lib.rt:54:5
 loop-holds : tie.Need-loop-holds Inv-loop μ-loop
 loop-holds c = (omega arith, c .before .before .pre .1 .0, c .before .before .pre .1 .1, lined-none _ _ _)
 
--- src/lib.rt:55:26
 before-index-requires : tie.Need-before-index-requires Inv-loop μ-loop
 before-index-requires c κs = search needs
 
--- src/lib.rt:55:21
 mul-above : tie.Need-mul-above Inv-loop μ-loop
 mul-above c = omega arith
 
--- src/lib.rt:55:21
 array-copy-out-above : tie.Need-array-copy-out-above Inv-loop μ-loop
 array-copy-out-above c = omega arith
 
--- src/lib.rt:56:35
 sub-least : tie.Need-sub-least Inv-loop μ-loop
 sub-least c = omega arith
 
--- src/lib.rt:56:26
 least-requires : tie.Need-least-requires Inv-loop μ-loop
 least-requires c κs = search needs
 
--- src/lib.rt:56:21
 mul-below : tie.Need-mul-below Inv-loop μ-loop
 mul-below c = omega arith
 
--- src/lib.rt:56:21
 array-copy-out-below : tie.Need-array-copy-out-below Inv-loop μ-loop
 array-copy-out-below c = omega arith
 
--- src/lib.rt:57:17
 smaller-requires : tie.Need-smaller-requires Inv-loop μ-loop
 smaller-requires c κs = search needs
 
--- src/lib.rt:57:9
 element-write-lo : tie.Need-element-write-lo Inv-loop μ-loop
 element-write-lo c = omega arith
 
--- src/lib.rt:58:17
 larger-requires : tie.Need-larger-requires Inv-loop μ-loop
 larger-requires c κs = search needs
 
--- src/lib.rt:58:9
 element-write-hi : tie.Need-element-write-hi Inv-loop μ-loop
 element-write-hi c = omega arith
 
--- src/lib.rt:54:9
 add-l : tie.Need-add-l Inv-loop μ-loop
 add-l c = search needs
 
--- src/lib.rt:54:5
 loop-less : tie.Need-loop-less Inv-loop μ-loop
 loop-less c = search needs
 
--- src/lib.rt:54:5
 loop-again : tie.Need-loop-again Inv-loop μ-loop
 loop-again c =
     let at-smaller = c .before in let smaller = at-smaller .smaller in
@@ -103,7 +86,6 @@ loop-again c =
           (rw (← before-index .ensures, ← least .ensures) (smaller .ensures)) (rw (← before-index .ensures, ← least .ensures) (c .larger .ensures)),
     )
 
--- src/lib.rt:47:1
 returns : tie.Need-returns Inv-loop μ-loop
 returns c =
     let at-loop = c .before in let loop = at-loop .loop in

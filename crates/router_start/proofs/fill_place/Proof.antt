@@ -8,27 +8,21 @@ use Rattle.router_start.proofs.fill_place.Reads as reads
 use Rattle.router_start.proofs.fill_place.Lts as lts
 use Rattle.router_start.proofs.fill_row.Reads as fill-row-reads
 
--- src/lib.rt:113:26
 enum-told : tie.Need-enum-told
 enum-told c = search needs
 
--- src/lib.rt:114:20
 enum-known-held : tie.Need-enum-known-held
 enum-known-held c = search needs
 
--- src/lib.rt:115:13
 fill-row-requires : tie.Need-fill-row-requires
 fill-row-requires c κs = search needs
 
--- src/lib.rt:116:13
 add-result : tie.Need-add-result
 add-result c = search needs
 
--- src/lib.rt:99:1
 returns : tie.Need-returns
 returns c = rw (c .enum-told .given .1) (refl, refl, refl, refl, refl, refl)
 
--- src/lib.rt:99:1
 returns-2 : tie.Need-returns-2
 returns-2 c =
     let at-held = c .before .before .before .before .before .before .before in let held = at-held .held in

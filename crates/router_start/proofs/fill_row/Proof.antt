@@ -11,59 +11,45 @@ use Rattle.router_start.proofs.fill_row.Lts as lts
 use Rattle.router_start.proofs.number_of.Reads as number-of-reads
 use Rattle.router_start.proofs.word_of.Reads as word-of-reads
 
--- src/lib.rt:89:9
 word-of-requires : tie.Need-word-of-requires
 word-of-requires c κs = search needs
 
--- src/lib.rt:90:9
 word-of-requires-2 : tie.Need-word-of-requires-2
 word-of-requires-2 c κs = search needs
 
--- src/lib.rt:91:5
 mul-la : tie.Need-mul-la
 mul-la c = search needs
 
--- src/lib.rt:91:5
 element-write-la : tie.Need-element-write-la
 element-write-la c = search needs
 
--- src/lib.rt:92:5
 mul-lb : tie.Need-mul-lb
 mul-lb c = search needs
 
--- src/lib.rt:92:5
 element-write-lb : tie.Need-element-write-lb
 element-write-lb c = search needs
 
--- src/lib.rt:93:14
 number-of-requires : tie.Need-number-of-requires
 number-of-requires c κs = search needs
 
--- src/lib.rt:93:5
 mul-ids : tie.Need-mul-ids
 mul-ids c = search needs
 
--- src/lib.rt:93:5
 element-write-ids : tie.Need-element-write-ids
 element-write-ids c = search needs
 
--- src/lib.rt:94:5
 mul-s1 : tie.Need-mul-s1
 mul-s1 c = search needs
 
--- src/lib.rt:94:5
 element-write-s1 : tie.Need-element-write-s1
 element-write-s1 c = search needs
 
--- src/lib.rt:95:5
 mul-s2 : tie.Need-mul-s2
 mul-s2 c = search needs
 
--- src/lib.rt:95:5
 element-write-s2 : tie.Need-element-write-s2
 element-write-s2 c = search needs
 
--- src/lib.rt:77:1
 returns : tie.Need-returns
 returns c =
     let at-word-of2 = c .before in let word-of2 = at-word-of2 .word-of2 in

@@ -21,31 +21,24 @@ Inv-loop la₀ lb₀ ids₀ s1₀ s2₀ nets k₀ i₀ la lb ids s1 s2 k i = (i 
 abbrev μ-loop : tie.MeasureT-loop
 μ-loop la₀ lb₀ ids₀ s1₀ s2₀ nets k₀ i₀ la lb ids s1 s2 k i = 64 - i
 
--- src/lib.rt:135:5
 loop-holds : tie.Need-loop-holds Inv-loop μ-loop
 loop-holds c = (omega arith, search needs, omega arith, c .pre, fills-none (c .args .t1) _ _ _ _ _)
 
--- src/lib.rt:136:24
 mul-fill-place : tie.Need-mul-fill-place Inv-loop μ-loop
 mul-fill-place c = search needs
 
--- src/lib.rt:136:24
 array-copy-out-fill-place : tie.Need-array-copy-out-fill-place Inv-loop μ-loop
 array-copy-out-fill-place c = search needs
 
--- src/lib.rt:136:9
 fill-place-requires : tie.Need-fill-place-requires Inv-loop μ-loop
 fill-place-requires c κs = search needs
 
--- src/lib.rt:135:9
 add-i : tie.Need-add-i Inv-loop μ-loop
 add-i c = search needs
 
--- src/lib.rt:135:5
 loop-less : tie.Need-loop-less Inv-loop μ-loop
 loop-less c = search needs
 
--- src/lib.rt:135:5
 loop-again : tie.Need-loop-again Inv-loop μ-loop
 loop-again c =
     let at-loop = c .before .before .before .before .before .before .before .before in let loop = at-loop .loop in
@@ -54,7 +47,6 @@ loop-again c =
     let e = pairs-more (args .t1) (loop .i) (omega (arith, loop .inv .1)) in
     (omega arith, loop .inv .1, omega (arith, T .count, pairs-few (args .t1) (loop .i + 1), ap length e), loop .inv .3, rw e T)
 
--- src/lib.rt:122:1
 returns : tie.Need-returns Inv-loop μ-loop
 returns c =
     let at-loop = c .before in let loop = at-loop .loop in

@@ -17,11 +17,9 @@ use Rattle.router_step.proofs.start_of.Reads as start-of-reads
 use Rattle.router_ends.proofs.two_ends.Reads as two-ends-reads
 use Rattle.router_ends.proofs.word.Reads as word-reads
 
--- src/lib.rt:52:9
 seen-requires : tie.Need-seen-requires
 seen-requires c κs = search needs
 
--- src/lib.rt:53:9
 start-of-requires : tie.Need-start-of-requires
 start-of-requires c κs = omega (
   arith,
@@ -29,7 +27,6 @@ start-of-requires c κs = omega (
   seen-low (c .before .before .args .w .up) (c .before .before .args .w .top) (c .before .before .pre .3),
 )
 
--- src/lib.rt:54:9
 end-of-requires : tie.Need-end-of-requires
 end-of-requires c κs = omega (
   arith,
@@ -37,7 +34,6 @@ end-of-requires c κs = omega (
   seen-low (c .before .before .before .args .w .up) (c .before .before .before .args .w .top) (c .before .before .before .pre .3),
 )
 
--- src/lib.rt:55:44
 word-requires : tie.Need-word-requires
 word-requires c κs =
     let at-start-of = c .before .before .before in
@@ -45,11 +41,9 @@ word-requires c κs =
     let start = at-seen .before in
     (omega (arith, at-seen .seen .ensures, seen-low (start .args .w .up) (start .args .w .top) (start .pre .3)), at-start-of .start-of .ensures .1)
 
--- src/lib.rt:55:9
 first-at-requires : tie.Need-first-at-requires
 first-at-requires c κs = search needs
 
--- src/lib.rt:59:17
 two-ends-requires : tie.Need-two-ends-requires
 two-ends-requires c κs =
     let at-if3 = c .before .before .before .before .before .before in
@@ -65,7 +59,6 @@ two-ends-requires c κs =
       start .pre .4,
     )
 
--- src/lib.rt:59:17
 returns : tie.Need-returns
 returns c =
     let at-if2 = c .before .before .before .before .before .before .before .before .before in
@@ -89,7 +82,6 @@ returns c =
       (c .two-ends .ensures .1, start .pre .2),
     )
 
--- src/lib.rt:61:13
 no-end-requires : tie.Need-no-end-requires
 no-end-requires c κs =
     let at-if1 = c .before .before .before .before .before .before .before .before .before .before .before .before in
@@ -107,7 +99,6 @@ no-end-requires c κs =
       start .pre .4,
     )
 
--- src/lib.rt:61:13
 returns-2 : tie.Need-returns-2
 returns-2 c =
     let at-if3 = c .before .before .before .before .before .before .before .before .before .before in
@@ -131,7 +122,6 @@ returns-2 c =
       (c .no-end .ensures .1 .0, c .no-end .ensures .1 .1),
     )
 
--- src/lib.rt:63:9
 go-down-requires : tie.Need-go-down-requires
 go-down-requires c κs =
     let at-if1 = c .before .before .before .before .before .before in
@@ -148,7 +138,6 @@ go-down-requires c κs =
       start .pre .4,
     )
 
--- src/lib.rt:63:9
 returns-3 : tie.Need-returns-3
 returns-3 c =
     let at-if2 = c .before .before .before .before .before .before in
@@ -172,7 +161,6 @@ returns-3 c =
       (c .go-down .ensures .1, start .pre .2),
     )
 
--- src/lib.rt:65:5
 go-right-requires : tie.Need-go-right-requires
 go-right-requires c κs =
     let at-first-at = c .before .before .before .before .before .before .before .before in
@@ -188,7 +176,6 @@ go-right-requires c κs =
       start .pre .4,
     )
 
--- src/lib.rt:32:1
 returns-4 : tie.Need-returns-4
 returns-4 c =
     let at-if1 = c .before .before .before .before .before .before .before in

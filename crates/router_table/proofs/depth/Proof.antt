@@ -8,30 +8,24 @@ use Rattle.router_table.proofs.depth.Reads as reads
 use Rattle.router_table.proofs.depth.Lts as lts
 use Rattle.router_table.proofs.seen.Reads as seen-reads
 
--- src/lib.rt:89:13
 seen-requires : tie.Need-seen-requires
 seen-requires c κs = search needs
 
--- src/lib.rt:93:13
 seen-requires-2 : tie.Need-seen-requires-2
 seen-requires-2 c κs = search needs
 
--- src/lib.rt:82:1
 returns : tie.Need-returns
 unfolding depthD
 returns c = rw (le-leb _ _ (c .before .if1 .taken), le-leb _ _ (c .if2 .taken))
 
--- src/lib.rt:82:1
 returns-2 : tie.Need-returns-2
 unfolding depthD
 returns-2 c = rw (le-leb _ _ (c .before .before .if1 .taken), lt-leb _ _ (c .before .if2 .left)) (c .seen .ensures)
 
--- src/lib.rt:82:1
 returns-3 : tie.Need-returns-3
 unfolding depthD
 returns-3 c = rw (lt-leb _ _ (c .before .before .if1 .left), le-leb _ _ (c .before .if3 .taken)) (c .seen2 .ensures)
 
--- src/lib.rt:82:1
 returns-4 : tie.Need-returns-4
 unfolding depthD
 returns-4 c = rw (lt-leb _ _ (c .before .if1 .left), lt-leb _ _ (c .if3 .left))

@@ -16,31 +16,24 @@ Inv-loop la lb v from n i₀ i = (from ≤ i) × (i ≤ n) × Clear la lb v from
 abbrev μ-loop : tie.MeasureT-loop
 μ-loop la lb v from n i₀ i = n - i
 
--- src/lib.rt:23:5
 loop-holds : tie.Need-loop-holds Inv-loop μ-loop
 loop-holds c = (search needs, search needs, λ k l m. absurd (omega arith))
 
--- src/lib.rt:24:12
 mul-if1 : tie.Need-mul-if1 Inv-loop μ-loop
 mul-if1 c = search needs
 
--- src/lib.rt:24:12
 element-copy-out-if1 : tie.Need-element-copy-out-if1 Inv-loop μ-loop
 element-copy-out-if1 c = search needs
 
--- src/lib.rt:25:13
 returns : tie.Need-returns Inv-loop μ-loop
 returns c = record { least = search needs; most = search needs; before = c .before .before .before .loop .inv .2; found = λ h. inl (c .if1 .taken) }
 
--- src/lib.rt:27:12
 mul-if2 : tie.Need-mul-if2 Inv-loop μ-loop
 mul-if2 c = search needs
 
--- src/lib.rt:27:12
 element-copy-out-if2 : tie.Need-element-copy-out-if2 Inv-loop μ-loop
 element-copy-out-if2 c = search needs
 
--- src/lib.rt:28:13
 returns-2 : tie.Need-returns-2 Inv-loop μ-loop
 returns-2 c = record {
   least = search needs;
@@ -50,15 +43,12 @@ returns-2 c = record {
       λ h. inr (c .if2 .taken);
 }
 
--- src/lib.rt:30:9
 add-i : tie.Need-add-i Inv-loop μ-loop
 add-i c = search needs
 
--- src/lib.rt:23:5
 loop-less : tie.Need-loop-less Inv-loop μ-loop
 loop-less c = search needs
 
--- src/lib.rt:23:5
 loop-again : tie.Need-loop-again Inv-loop μ-loop
 loop-again c = (
   search needs,
@@ -69,7 +59,6 @@ loop-again c = (
       (c .before .before .before .before .before .loop .inv .2) (c .before .before .if1 .left) (c .if2 .left),
 )
 
--- src/lib.rt:18:1
 returns-3 : tie.Need-returns-3 Inv-loop μ-loop
 returns-3 c = record { least = search needs; most = search needs; before = c .before .loop .inv .2; found = λ h. absurd (omega arith) }
 

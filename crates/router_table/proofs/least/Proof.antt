@@ -19,47 +19,36 @@ Inv-loop la lb n x up best₀ line₀ i₀ best line i = (i ≤ n) × LeastSo la
 abbrev μ-loop : tie.MeasureT-loop
 μ-loop la lb n x up best₀ line₀ i₀ best line i = n - i
 
--- src/lib.rt:107:5
 loop-holds : tie.Need-loop-holds Inv-loop μ-loop
 loop-holds c = (search needs, least-none _ _ _ _ _)
 
--- src/lib.rt:108:28
 mul-long : tie.Need-mul-long Inv-loop μ-loop
 mul-long c = search needs
 
--- src/lib.rt:108:28
 element-copy-out-long : tie.Need-element-copy-out-long Inv-loop μ-loop
 element-copy-out-long c = search needs
 
--- src/lib.rt:108:23
 long-requires : tie.Need-long-requires Inv-loop μ-loop
 long-requires c κs = search needs
 
--- src/lib.rt:108:41
 mul-long-2 : tie.Need-mul-long-2 Inv-loop μ-loop
 mul-long-2 c = search needs
 
--- src/lib.rt:108:41
 element-copy-out-long-2 : tie.Need-element-copy-out-long-2 Inv-loop μ-loop
 element-copy-out-long-2 c = search needs
 
--- src/lib.rt:108:36
 long-requires-2 : tie.Need-long-requires-2 Inv-loop μ-loop
 long-requires-2 c κs = search needs
 
--- src/lib.rt:108:13
 depth-requires : tie.Need-depth-requires Inv-loop μ-loop
 depth-requires c κs = search needs
 
--- src/lib.rt:107:9
 add-i : tie.Need-add-i Inv-loop μ-loop
 add-i c = search needs
 
--- src/lib.rt:107:5
 loop-less : tie.Need-loop-less Inv-loop μ-loop
 loop-less c = search needs
 
--- src/lib.rt:107:5
 loop-again : tie.Need-loop-again Inv-loop μ-loop
 loop-again c = (
   search needs,
@@ -69,7 +58,6 @@ loop-again c = (
       (c .before .before .before .before .before .before .before .loop .inv .1),
 )
 
--- src/lib.rt:101:1
 returns : tie.Need-returns Inv-loop μ-loop
 returns c = let e : c .before .loop .i ≡ c .before .before .args .n = omega arith in least-all _ _ _ _ _ _ _ (rw e at (c .before .loop .inv .1))
 

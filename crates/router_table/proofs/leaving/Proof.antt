@@ -18,51 +18,39 @@ Inv-loop la lb n l count₀ i₀ count i = (i ≤ n) × (count ≤ i) × (count 
 abbrev μ-loop : tie.MeasureT-loop
 μ-loop la lb n l count₀ i₀ count i = n - i
 
--- src/lib.rt:64:5
 loop-holds : tie.Need-loop-holds Inv-loop μ-loop
 loop-holds c = (search needs, search needs, sym (leave-none _ _ _))
 
--- src/lib.rt:65:29
 mul-long : tie.Need-mul-long Inv-loop μ-loop
 mul-long c = search needs
 
--- src/lib.rt:65:29
 element-copy-out-long : tie.Need-element-copy-out-long Inv-loop μ-loop
 element-copy-out-long c = search needs
 
--- src/lib.rt:65:24
 long-requires : tie.Need-long-requires Inv-loop μ-loop
 long-requires c κs = search needs
 
--- src/lib.rt:65:52
 mul-long-2 : tie.Need-mul-long-2 Inv-loop μ-loop
 mul-long-2 c = search needs
 
--- src/lib.rt:65:52
 element-copy-out-long-2 : tie.Need-element-copy-out-long-2 Inv-loop μ-loop
 element-copy-out-long-2 c = search needs
 
--- src/lib.rt:65:47
 long-requires-2 : tie.Need-long-requires-2 Inv-loop μ-loop
 long-requires-2 c κs = search needs
 
--- src/lib.rt:65:18
 parts-requires : tie.Need-parts-requires Inv-loop μ-loop
 parts-requires c κs = search needs
 
--- src/lib.rt:65:9
 add-count : tie.Need-add-count Inv-loop μ-loop
 add-count c = search needs
 
--- src/lib.rt:64:9
 add-i : tie.Need-add-i Inv-loop μ-loop
 add-i c = search needs
 
--- src/lib.rt:64:5
 loop-less : tie.Need-loop-less Inv-loop μ-loop
 loop-less c = search needs
 
--- src/lib.rt:64:5
 loop-again : tie.Need-loop-again Inv-loop μ-loop
 loop-again c = (
   search needs,
@@ -75,7 +63,6 @@ loop-again c = (
   ) (omega (arith, c .parts .ensures .0)),
 )
 
--- src/lib.rt:59:1
 returns : tie.Need-returns Inv-loop μ-loop
 returns c = let e : c .before .loop .i ≡ c .before .before .args .n = omega arith in rw e at (c .before .loop .inv .2)
 

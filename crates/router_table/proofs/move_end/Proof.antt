@@ -6,35 +6,27 @@ use Rattle.router_table.proofs.move_end.Tie as tie
 use Rattle.router_table.proofs.move_end.Reads as reads
 use Rattle.router_table.proofs.move_end.Lts as lts
 
--- src/lib.rt:141:8
 mul-if1 : tie.Need-mul-if1
 mul-if1 c = search needs
 
--- src/lib.rt:141:8
 element-copy-out-if1 : tie.Need-element-copy-out-if1
 element-copy-out-if1 c = search needs
 
--- src/lib.rt:142:9
 mul-la : tie.Need-mul-la
 mul-la c = search needs
 
--- src/lib.rt:142:9
 element-write-la : tie.Need-element-write-la
 element-write-la c = search needs
 
--- src/lib.rt:144:9
 mul-lb : tie.Need-mul-lb
 mul-lb c = search needs
 
--- src/lib.rt:144:9
 element-write-lb : tie.Need-element-write-lb
 element-write-lb c = search needs
 
--- src/lib.rt:137:1
 returns : tie.Need-returns
 returns c = (rw (eq-eqb _ _ (c .if1 .taken)), rw (eq-eqb _ _ (c .if1 .taken)))
 
--- src/lib.rt:137:1
 returns-2 : tie.Need-returns-2
 returns-2 c = (rw (ne-eqb _ _ (c .if1 .left)), rw (ne-eqb _ _ (c .if1 .left)))
 

@@ -6,15 +6,12 @@ use Rattle.router_table.proofs.seen.Tie as tie
 use Rattle.router_table.proofs.seen.Reads as reads
 use Rattle.router_table.proofs.seen.Lts as lts
 
--- src/lib.rt:71:1
 returns : tie.Need-returns
 returns c = rw (c .before .if1 .taken)
 
--- src/lib.rt:71:1
 returns-2 : tie.Need-returns-2
 returns-2 c = rw (c .before .if1 .taken) (omega arith)
 
--- src/lib.rt:71:1
 returns-3 : tie.Need-returns-3
 returns-3 c = rw (c .if1 .left)
 

@@ -7,63 +7,48 @@ use Rattle.router_table.proofs.split.Reads as reads
 use Rattle.router_table.proofs.split.Lts as lts
 use Rattle.router_table.proofs.move_end.Reads as move-end-reads
 
--- src/lib.rt:154:16
 mul-side : tie.Need-mul-side
 mul-side c = search needs
 
--- src/lib.rt:154:16
 element-copy-out-side : tie.Need-element-copy-out-side
 element-copy-out-side c = search needs
 
--- src/lib.rt:154:16
 add-side : tie.Need-add-side
 add-side c = search needs
 
--- src/lib.rt:154:5
 mul-side-2 : tie.Need-mul-side-2
 mul-side-2 c = search needs
 
--- src/lib.rt:154:5
 element-write-side : tie.Need-element-write-side
 element-write-side c = search needs
 
--- src/lib.rt:155:20
 mul-vert : tie.Need-mul-vert
 mul-vert c = search needs
 
--- src/lib.rt:155:20
 element-copy-out-vert : tie.Need-element-copy-out-vert
 element-copy-out-vert c = search needs
 
--- src/lib.rt:155:16
 mul-vert-2 : tie.Need-mul-vert-2
 mul-vert-2 c = search needs
 
--- src/lib.rt:155:16
 add-vert : tie.Need-add-vert
 add-vert c = search needs
 
--- src/lib.rt:155:16
 add-vert-2 : tie.Need-add-vert-2
 add-vert-2 c = search needs
 
--- src/lib.rt:155:5
 mul-vert-3 : tie.Need-mul-vert-3
 mul-vert-3 c = search needs
 
--- src/lib.rt:155:5
 element-write-vert : tie.Need-element-write-vert
 element-write-vert c = search needs
 
--- src/lib.rt:156:5
 move-end-requires : tie.Need-move-end-requires
 move-end-requires c κs = search needs
 
--- src/lib.rt:157:5
 move-end-requires-2 : tie.Need-move-end-requires-2
 move-end-requires-2 c κs = search needs
 
--- src/lib.rt:149:1
 returns : tie.Need-returns
 returns c = split-is _ _ _ _ _ _ _ _ _ _ _ _ (c .before .before .before .move-end .ensures) (c .move-end2 .ensures)
 

@@ -6,22 +6,18 @@ use Rattle.router_table.proofs.swaps.Tie as tie
 use Rattle.router_table.proofs.swaps.Reads as reads
 use Rattle.router_table.proofs.swaps.Lts as lts
 
--- src/lib.rt:126:1
 returns : tie.Need-returns
 unfolding swapD
 returns c = rw (eq-eqb _ _ (c .before .if1 .taken), eq-eqb _ _ (c .if2 .taken))
 
--- src/lib.rt:126:1
 returns-2 : tie.Need-returns-2
 unfolding swapD
 returns-2 c = rw (eq-eqb _ _ (c .before .if1 .taken), ne-eqb _ _ (c .if2 .left))
 
--- src/lib.rt:126:1
 returns-3 : tie.Need-returns-3
 unfolding swapD
 returns-3 c = rw (ne-eqb _ _ (c .before .if1 .left), eq-eqb _ _ (c .if3 .taken))
 
--- src/lib.rt:126:1
 returns-4 : tie.Need-returns-4
 unfolding swapD
 returns-4 c = rw (ne-eqb _ _ (c .before .if1 .left), ne-eqb _ _ (c .if3 .left))

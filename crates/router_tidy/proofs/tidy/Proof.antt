@@ -17,39 +17,30 @@ Inv-loop la₀ lb₀ ids₀ n i₀ m₀ la lb ids i m = (i ≤ m) × (m ≤ n) �
 abbrev μ-loop : tie.MeasureT-loop
 μ-loop la₀ lb₀ ids₀ n i₀ m₀ la lb ids i m = m - i
 
--- src/lib.rt:14:5
 loop-holds : tie.Need-loop-holds Inv-loop μ-loop
 loop-holds c = (omega arith, omega arith, tidy-none _ _ _ _)
 
--- src/lib.rt:15:12
 mul-if1 : tie.Need-mul-if1 Inv-loop μ-loop
 mul-if1 c = search needs
 
--- src/lib.rt:15:12
 element-copy-out-if1 : tie.Need-element-copy-out-if1 Inv-loop μ-loop
 element-copy-out-if1 c = search needs
 
--- src/lib.rt:15:21
 mul-if1-2 : tie.Need-mul-if1-2 Inv-loop μ-loop
 mul-if1-2 c = search needs
 
--- src/lib.rt:15:21
 element-copy-out-if1-2 : tie.Need-element-copy-out-if1-2 Inv-loop μ-loop
 element-copy-out-if1-2 c = search needs
 
--- src/lib.rt:16:13
 sub-m : tie.Need-sub-m Inv-loop μ-loop
 sub-m c = omega arith
 
--- src/lib.rt:17:13
 drop-row-requires : tie.Need-drop-row-requires Inv-loop μ-loop
 drop-row-requires c κs = (omega arith, omega arith)
 
--- src/lib.rt:14:5
 loop-less : tie.Need-loop-less Inv-loop μ-loop
 loop-less c = omega arith
 
--- src/lib.rt:14:5
 loop-again : tie.Need-loop-again Inv-loop μ-loop
 loop-again c =
     let at-if1 = c .before .before .before .before in let if1 = at-if1 .if1 in
@@ -61,15 +52,12 @@ loop-again c =
           (loop .i) _ _ _ (loop .inv .2) (omega arith) (omega arith) (if1 .taken) (c .drop-row .ensures),
     )
 
--- src/lib.rt:19:13
 add-i : tie.Need-add-i Inv-loop μ-loop
 add-i c = omega arith
 
--- src/lib.rt:14:5
 loop-less-2 : tie.Need-loop-less-2 Inv-loop μ-loop
 loop-less-2 c = omega arith
 
--- src/lib.rt:14:5
 loop-again-2 : tie.Need-loop-again-2 Inv-loop μ-loop
 loop-again-2 c =
     let at-loop = c .before .before .before .before in let loop = at-loop .loop in
@@ -80,7 +68,6 @@ loop-again-2 c =
           (loop .i) (loop .inv .2) (c .if1 .left),
     )
 
--- src/lib.rt:7:1
 returns : tie.Need-returns Inv-loop μ-loop
 returns c = (omega arith, let e : c .before .loop .i ≡ c .before .loop .m = omega arith in rw e at (c .before .loop .inv .2))
 

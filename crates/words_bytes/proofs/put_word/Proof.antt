@@ -9,60 +9,47 @@ use Rattle.words_bytes.proofs.put_word.Tie as tie
 use Rattle.words_bytes.proofs.put_word.Reads as reads
 use Rattle.words_bytes.proofs.put_word.Lts as lts
 
--- src/lib.rt:44:15
 cast-out : tie.Need-cast-out
 cast-out c = search needs
 
--- src/lib.rt:44:5
 slice-write-out : tie.Need-slice-write-out
 slice-write-out c = search needs
 
--- src/lib.rt:45:19
 cast-out-2 : tie.Need-cast-out-2
 cast-out-2 c = search needs
 
--- src/lib.rt:45:9
 add-out : tie.Need-add-out
 add-out c = search needs
 
--- src/lib.rt:45:5
 slice-write-out-2 : tie.Need-slice-write-out-2
 slice-write-out-2 c =
     let h : c .args .at + 1 < length (c .args .out .now) = omega arith in
     subst (λ (k : ℕ). c .args .at + 1 < k) (sym (length-set (c .args .out .now) (c .args .at) (c .args .w % 256))) h
 
--- src/lib.rt:46:19
 cast-out-3 : tie.Need-cast-out-3
 cast-out-3 c = search needs
 
--- src/lib.rt:46:9
 add-out-2 : tie.Need-add-out-2
 add-out-2 c = search needs
 
--- src/lib.rt:46:5
 slice-write-out-3 : tie.Need-slice-write-out-3
 slice-write-out-3 c =
     let h : c .args .at + 2 < length (c .args .out .now) = omega arith in
     subst (λ (k : ℕ). c .args .at + 2 < k) (sym (length-set (set (c .args .out .now) (c .args .at) (c .args .w % 256)) (c .args .at + 1)
     (c .args .w / 256 % 256) ∙ length-set (c .args .out .now) (c .args .at) (c .args .w % 256))) h
 
--- src/lib.rt:47:19
 cast-out-4 : tie.Need-cast-out-4
 cast-out-4 c = search needs
 
--- src/lib.rt:47:9
 add-out-3 : tie.Need-add-out-3
 add-out-3 c = search needs
 
--- src/lib.rt:47:5
 slice-write-out-4 : tie.Need-slice-write-out-4
 slice-write-out-4 c = search needs
 
--- src/lib.rt:40:1
 same-length : tie.Need-same-length
 same-length c = search needs
 
--- src/lib.rt:40:1
 returns : tie.Need-returns
 returns c = search needs
 

@@ -18,38 +18,30 @@ Inv-loop words n out₀ at₀ i₀ out at i = (i ≤ n) × (at ≡ 4 * i) × (ou
 abbrev μ-loop : tie.MeasureT-loop
 μ-loop words n out₀ at₀ i₀ out at i = n - i
 
--- src/lib.rt:57:5
 loop-holds : tie.Need-loop-holds Inv-loop μ-loop
 loop-holds c = (omega arith, omega arith, put-none (c .before .before .args .words .now) (c .before .before .args .out .now))
 
--- src/lib.rt:58:18
 mul-put-word : tie.Need-mul-put-word Inv-loop μ-loop
 mul-put-word c = search needs
 
--- src/lib.rt:58:18
 shared-slice-read-put-word : tie.Need-shared-slice-read-put-word Inv-loop μ-loop
 shared-slice-read-put-word c = search needs
 
--- src/lib.rt:58:9
 put-word-requires : tie.Need-put-word-requires Inv-loop μ-loop
 put-word-requires c κs =
     let at-loop = c .before .before .before in let loop = at-loop .loop in
     let at-args = at-loop .before .before .before in let args = at-args .args in
     omega (arith, ap length (loop .inv .2), put-length (args .words .now) (args .out .now) (loop .i) (omega arith) (omega arith))
 
--- src/lib.rt:59:9
 add-at : tie.Need-add-at Inv-loop μ-loop
 add-at c = search needs
 
--- src/lib.rt:57:9
 add-i : tie.Need-add-i Inv-loop μ-loop
 add-i c = search needs
 
--- src/lib.rt:57:5
 loop-less : tie.Need-loop-less Inv-loop μ-loop
 loop-less c = search needs
 
--- src/lib.rt:57:5
 loop-again : tie.Need-loop-again Inv-loop μ-loop
 loop-again c =
     let at-put-word = c .before .before in let put-word = at-put-word .put-word in
@@ -61,14 +53,12 @@ loop-again c =
           (loop .inv .2) in put-word .ensures ∙ e,
     )
 
--- src/lib.rt:51:1
 same-length : tie.Need-same-length Inv-loop μ-loop
 same-length c =
     let at-loop = c .before in let loop = at-loop .loop in
     let at-args = at-loop .before .before .before in let args = at-args .args in
     ap length (loop .inv .2) ∙ put-length (args .words .now) (args .out .now) (loop .i) (omega arith) (omega arith)
 
--- src/lib.rt:51:1
 returns : tie.Need-returns Inv-loop μ-loop
 returns c = let e : c .before .loop .i ≡ c .before .before .before .before .args .n = omega arith in rw e at (c .before .loop .inv .2)
 

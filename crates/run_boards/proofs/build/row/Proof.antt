@@ -1,4 +1,4 @@
--- `cases::build::row` meets its contract, by those of its two calls. Assumes nothing.
+-- `build::row` meets its contract, by those of its two calls. Assumes nothing.
 use borrow.Author.Needs.{needs}
 use Rattle.run_boards.proofs.build.row.Statement.{statement}
 use Rattle.run_boards.proofs.build.row.Tie as tie

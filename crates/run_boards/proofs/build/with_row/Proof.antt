@@ -1,4 +1,4 @@
--- `cases::build::with_row` meets its contract, by the two cases of its test. Assumes nothing.
+-- `build::with_row` meets its contract, by the two cases of its test. Assumes nothing.
 use mathlib.Core.Path.{refl}
 use borrow.Author.Tests.{lt-ltb, le-ltb}
 use Rattle.run_boards.specs.Build.{withRow}

@@ -1,4 +1,4 @@
--- `cases::say::margin` meets its contract: it is safe and ends. Both casts and the negation fit, by Sign. Assumes nothing.
+-- `say::margin` meets its contract: it is safe and ends. Both casts and the negation fit, by Sign. Assumes nothing.
 use native.Mathlib.Omega.{arith}
 use Rattle.run_boards.proofs.Sign.{at-least-zero, below-zero, below-zero-cast}
 use borrow.Author.Needs.{needs}
