@@ -197,11 +197,11 @@ fn slowest(groups: &[Group], call: &mut dyn FnMut(&(Vec<u8>, Vec<u8>))) -> (f64,
     (board, single)
 }
 
-/// Seconds that the program `laps` takes for so many calls of a session.
-fn laps(calls: usize) -> f64 {
+/// Seconds that the program `laps` takes for so many laps of the kind that the word tells.
+fn laps(word: &str, laps: usize) -> f64 {
     let start = Instant::now();
     let mut child = Command::new("target/bin/laps").stdin(Stdio::piped()).stdout(Stdio::piped()).spawn().expect("target/bin/laps is there");
-    child.stdin.take().unwrap().write_all(calls.to_string().as_bytes()).unwrap();
+    child.stdin.take().unwrap().write_all(format!("{word}{laps}").as_bytes()).unwrap();
     let output = child.wait_with_output().unwrap();
     assert_eq!(output.stdout, b"accepted\n");
     start.elapsed().as_secs_f64()
@@ -256,7 +256,10 @@ fn times(seed: u64) {
     assert_eq!(judged(&board, &list).1[0], 1984);
     let all = median((0..ROUNDS).map(|_| seconds(20, || _ = black_box(judged(black_box(&board), black_box(&list))))).collect());
     println!("judging a list that uses all 1,984 edges: {:.3} ms", 1e3 * all);
-    let lap = median((0..11).map(|_| (laps(22_000) - laps(2_000)) / 20_000.0).collect());
+    let lap = median((0..11).map(|_| (laps("", 22_000) - laps("", 2_000)) / 20_000.0).collect());
     println!("a call of a session with 64 nets and a pile of 64 changes: {:.1} microseconds", 1e6 * lap);
+    let forty = |word| (laps(word, 1_100) - laps(word, 100)) / 1_000.0;
+    let (list, single): (Vec<f64>, Vec<f64>) = (0..11).map(|_| (forty("list "), forty("single "))).unzip();
+    println!("40 nets on a bare board: {:.1} microseconds in one call, {:.1} in 40 calls", 1e6 * median(list), 1e6 * median(single));
     println!("load over the last minute {}", load());
 }

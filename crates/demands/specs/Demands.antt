@@ -1,14 +1,15 @@
 -- OPEN THIS FILE FIRST: the three demands as statements, in the demands' own words. Laws proves them: `demand-1`, `demand-2`, `demand-3`.
 --
 -- Each statement takes a call's promise and says what it means. The promises are those of src/lib.rt beside this file, where every call stands
--- with its contract, and of crate cidrask for C; the checker holds the code to them, and to ending on every input.
+-- with its contract, of the method `add_all` of crate session, which is lent a slice of nets, and of crate cidrask for C; the checker holds the
+-- code to them, and to ending on every input.
 -- Nothing is proved in this file.
 use mathlib.Core.Path.{_≡_}
 use mathlib.Core.Bool.{Bool, true}
 use mathlib.Core.List.{List}
 use mathlib.Core.Logic.{_↔_}
 use mathlib.Core.Option.{none, some}
-use Prim.Native.Nat.{ℕ, _/_, _%_, _≤_}
+use Prim.Native.Nat.{ℕ, _+_, _/_, _%_, _≤_}
 use lib.ListN.{length, take}
 use Rattle.count.specs.Truth.{Decides}
 use Rattle.board.specs.Board.{Board, Within}
@@ -23,17 +24,19 @@ use Rattle.net.specs.declared.Net.{Net}
 use Rattle.routing_rules.specs.Routing.{Routing}
 use Rattle.session_rules.specs.Refusal.{Refusal, refusal}
 use Rattle.session_rules.specs.Machine as calls
-use Rattle.session_rules.specs.Machine.{accepted}
+use Rattle.session_rules.specs.Machine.{accepted, wentOn}
 use Rattle.session_rules.specs.Session as machine
 use Rattle.session_rules.specs.Session.{pairs}
 use Rattle.session_rules.specs.Sound.{Sound, Fresh, bare, blank, call}
+use Rattle.session_rules.specs.OneByOne.{singly, OneByOne}
 use Rattle.session.specs.declared.Session.{Session}
 use Rattle.session.specs.declared.AfterAdd.{AfterAdd}
+use Rattle.session.specs.declared.AfterAddAll.{AfterAddAll}
 use Rattle.session.specs.declared.AfterWithdraw.{AfterWithdraw}
 use Rattle.session.specs.declared.AfterTakeBack.{AfterTakeBack}
 use Rattle.session.specs.View.{sessionOf}
-use Rattle.session_answers.specs.Answers.{addAnswer, withdrawAnswer, takeBackAnswer}
-use Rattle.session.specs.Promise.{AddPromise, WithdrawPromise, TakeBackPromise, FreshPromise}
+use Rattle.session_answers.specs.Answers.{addAnswer, addAllAnswer, withdrawAnswer, takeBackAnswer}
+use Rattle.session.specs.Promise.{AddPromise, AddAllPromise, WithdrawPromise, TakeBackPromise, FreshPromise}
 use Rattle.words.specs.Bytes.{wordsIn}
 use Rattle.words.specs.RoutingWord.{routingWords}
 use Rattle.call_rules.specs.Result.{Result, no, yes, andThen}
@@ -53,7 +56,7 @@ use Rattle.route_call.specs.declared.RouteAnswer.{RouteAnswer}
 use Rattle.route_call.specs.Answers.{routeAnswer}
 use Rattle.cidrask.specs.declared.Told.{Told}
 use Rattle.cidrask.specs.Told.{tell, refusedTold, RoutePromise, JudgePromise}
-use Rattle.session_history.specs.Made.{Made, changed, Meets, Chain}
+use Rattle.session_history.specs.Made.{Made, changed, routed, routedBytes, Meets, Chain, last, callsOf}
 use Rattle.session_history.specs.Demand as history
 
 -- ── the parts of the statements ──
@@ -100,11 +103,20 @@ OfRouting s ws = (dss : List (List Direction)) × IsRouting s ws dss
 -- ── 1 ──
 -- "Every accepted call .. gives exactly what document 01 lays down for its input, or, for a routing, one of those allowed there. Every refused
 -- call gives its number and place from the table, with the session and each lent buffer the same as before."
--- In each field: the answer is the definition's, number and place included; what is handed back is the definition's; a refusal changes nothing.
+-- In each field: the answer is the definition's, number and place included; what is handed back is the definition's; a refusal changes nothing,
+-- but for a list of nets: "for this call alone a refusal leaves that much changed and no more" (document 02, §1).
 pub record Demand1 : Type 0 where
   pub add : (s : Session) (n : Net) (r : AfterAdd) → AddPromise s n r
       → (addAnswer (r .answer) ≡ call (sessionOf s) (calls.add n) .answer) × (sessionOf (r .session) ≡ call (sessionOf s) (calls.add n) .next)
       × ((addAnswer (r .answer) ≡ accepted → ⊥) → r .session ≡ s)
+  -- 02, §1: an unsound session gets 20, and none went on; else the result is that of single adds up to the first that is refused; where none went
+  -- on, the very session that was given is handed back
+  pub add-all : (s : Session) (ns : List Net) (r : AfterAddAll) → AddAllPromise s ns r
+      → (addAllAnswer (r .answer) ≡ call (sessionOf s) (calls.addAll ns) .answer)
+      × (sessionOf (r .session) ≡ call (sessionOf s) (calls.addAll ns) .next)
+      × (Unsound (sessionOf s) → addAllAnswer (r .answer) ≡ wentOn 0 (some (refusal 20 0)))
+      × (Sound (sessionOf s) → OneByOne (sessionOf s) ns (addAllAnswer (r .answer)) (sessionOf (r .session)))
+      × (r .answer .count ≡ 0 → r .session ≡ s)
   pub withdraw : (s : Session) (k : ℕ) (r : AfterWithdraw) → WithdrawPromise s k r
       → (withdrawAnswer (r .answer) ≡ call (sessionOf s) (calls.withdraw k) .answer)
       × (sessionOf (r .session) ≡ call (sessionOf s) (calls.withdraw k) .next)
@@ -169,14 +181,23 @@ pub record Demand2 : Type 0 where
 
 -- ── 3 ──
 -- "For every list of adds, withdrawals, take-backs and routing calls, refused ones included, from a fresh session on any convex board": what then
--- holds is `Demand3` of crate session_history, file Demand, in the demand's own words. A session that `fresh` hands back on a convex board is fresh.
+-- holds is `Demand3` of crate session_history, file Demand, in the demand's own words. A list of nets in one call is one of these calls (document 02,
+-- §1). A session that `fresh` hands back on a convex board is fresh.
 pub record Demand3 : Type 0 where
   pub whole : (s : Session) (calls : List Made) → Fresh (sessionOf s) → Chain s calls → history.Demand3 s calls
   pub start : (b : code-block.Block) (s : Session) → Within (blockOf b .board) → Convex (blockOf b .board) → FreshPromise b s
       → Fresh (sessionOf s) × (sessionOf s ≡ bare (blockOf b))
-  -- adds, withdrawals and take-backs that kept their promises are calls of such a list, as the machine is fed them
+  -- adds, lists of nets, withdrawals and take-backs that kept their promises are calls of such a list, as the machine is fed them
   pub add-made : (s : Session) (n : Net) (r : AfterAdd) → AddPromise s n r → Meets s (changed (calls.add n) (addAnswer (r .answer)) (r .session))
+  pub add-all-made : (s : Session) (ns : List Net) (r : AfterAddAll) → AddAllPromise s ns r
+      → Meets s (changed (calls.addAll ns) (addAllAnswer (r .answer)) (r .session))
   pub withdraw-made : (s : Session) (k : ℕ) (r : AfterWithdraw) → WithdrawPromise s k r
       → Meets s (changed (calls.withdraw k) (withdrawAnswer (r .answer)) (r .session))
   pub take-back-made : (s : Session) (r : AfterTakeBack) → TakeBackPromise s r
       → Meets s (changed calls.takeBack (takeBackAnswer (r .answer)) (r .session))
+  -- 02, §1: "A routing after such a call is given or refused as after the single adds": those of the nets that went on, and of the next, which was
+  -- refused
+  pub routed-as-singly : (s : Session) (ns : List Net) (r : AfterAddAll) (singles : List Made) → Sound (sessionOf s) → AddAllPromise s ns r
+      → Chain s singles → callsOf singles ≡ singly (take (r .answer .count + 1) ns) → (before : List ℕ) (x : RouteAnswer) (after : List ℕ)
+      → (Meets (r .session) (routed before x after) ↔ Meets (last s singles) (routed before x after))
+      × (Meets (r .session) (routedBytes before x after) ↔ Meets (last s singles) (routedBytes before x after))

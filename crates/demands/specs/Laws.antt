@@ -16,8 +16,11 @@ use Rattle.net.specs.declared.Net.{Net}
 use Rattle.session_rules.specs.Refusal.{Refusal, refusal}
 use Rattle.session_rules.specs.Session as machine
 use Rattle.session_rules.specs.Session.{pairs}
-use Rattle.session_rules.specs.Sound.{Sound, sound?}
+use Rattle.session_rules.specs.Machine.{addAll, Answer, wentOn, step}
+use Rattle.session_rules.specs.Sound.{Sound, sound?, call}
+use Rattle.session_rules.specs.OneByOne.{OneByOne}
 use Rattle.session_laws.specs.Exact.{sound-exact}
+use Rattle.session_laws.specs.OneByOne.{one-by-one}
 use Rattle.session_laws.specs.Fine.{AllGood}
 use Rattle.session_laws.specs.Stays.{sound-fine}
 use Rattle.session.specs.View.{sessionOf}
@@ -42,7 +45,9 @@ use Rattle.judge_laws.specs.Exact.{passes-exactly}
 use Rattle.board_roundtrip.specs.Parts.{unpiled}
 use Rattle.board_roundtrip.specs.Fits.{few-nets}
 use Rattle.board_roundtrip.specs.RoundTrip.{buffer-reads, read-written, read-bytes-sound}
+use Rattle.session_answers.specs.Answers.{addAnswer, refusalOf}
 use Rattle.session_history.specs.Routing as history
+use Rattle.session_history.specs.Listed as history-listed
 use Rattle.demands.specs.Demands.{Reads, WholeWords, Judges, TellsJudged, Passes, OfRouting, Demand1, Demand2, Demand3}
 
 -- ── 1 ──
@@ -167,9 +172,30 @@ c-refused : (board list : List ℕ) (q : Refusal) → readBytes board ≡ no q �
 unfolding editorJudge
 c-refused board list q e = rw e refl
 
+-- a list of nets: 20 first, else as the single adds
+unsound-list : (m : machine.Session) (ns : List Net) → (Sound m → ⊥) → call m (addAll ns) .answer ≡ wentOn 0 (some (refusal 20 0))
+unfolding call
+unsound-list m ns n = rw (not-true (sound? m) (λ e. n (sound-exact m .0 e))) refl
+
+listed : (m : machine.Session) (ns : List Net) → Sound m → {a : Answer} {t : machine.Session} → a ≡ call m (addAll ns) .answer
+    → t ≡ call m (addAll ns) .next → OneByOne m ns a t
+unfolding call
+listed m ns S {a} {t} e f =
+    let g = sound-exact m .1 S in
+    let x : a ≡ step m (addAll ns) .answer = rw g at e in
+    let y : t ≡ step m (addAll ns) .next = rw g at f in
+    rw (x, y) (one-by-one m ns)
+
 pub demand-1 : Demand1
 demand-1 = record {
   add = λ s n r P. (P .call .answers, P .call .next, P .kept);
+  add-all = λ s ns r P. (
+    P .call .answers,
+    P .call .next,
+    λ n. P .call .answers ∙ unsound-list (sessionOf s) ns n,
+    λ S. listed (sessionOf s) ns S (P .call .answers) (P .call .next),
+    P .kept,
+  );
   withdraw = λ s k r P. (P .call .answers, P .call .next, P .kept);
   take-back = λ s r P. (P .call .answers, P .call .next, P .kept);
   read-words = λ ws r P. reads (readWords ws) r P;
@@ -279,6 +305,10 @@ demand-3 = record {
   whole = λ s calls F k. history.demand-3 s calls F k;
   start = λ b s W C P. (P .fresh W C, P .bare);
   add-made = λ s n r P. P .call;
+  add-all-made = λ s ns r P. P .call;
   withdraw-made = λ s k r P. P .call;
   take-back-made = λ s r P. P .call;
+  routed-as-singly = λ s ns r singles S P k e before x after.
+      history-listed.routed-as-singly s (r .session) ns (r .answer .count) (refusalOf (addAnswer (r .answer .last))) singles S (P .call) k e
+      before x after;
 }

@@ -7,7 +7,8 @@ ghost use Rattle.board.specs.View.{boardOf};
 ghost use Rattle.board_block.specs.View.{plainOf};
 ghost use Rattle.board_convex.specs.Test.{isConvex};
 ghost use Rattle.session.specs.View.{sessionOf};
-ghost use Rattle.session.specs.Promise.{FreshPromise, AddPromise, WithdrawPromise, TakeBackPromise};
+ghost use lib.ListN.{take};
+ghost use Rattle.session.specs.Promise.{FreshPromise, AddPromise, AddAllPromise, WithdrawPromise, TakeBackPromise};
 ghost use Rattle.call_rules.specs.Reading.{readWords, readBytes};
 ghost use Rattle.call_rules.specs.Judge.{judgeWords, judgeBytes, compareWords};
 ghost use Rattle.call_rules.specs.Route.{Routes, RoutesBytes};
@@ -24,6 +25,7 @@ use judge_call::Likeness;
 use net::Net;
 use route_call::RouteAnswer;
 use session::AfterAdd;
+use session::AfterAddAll;
 use session::AfterTakeBack;
 use session::AfterWithdraw;
 use session::Session;
@@ -53,6 +55,14 @@ pub fn add(s: Session, net: Net) -> AfterAdd
     ensures { λ r. ⌜ AddPromise s net r ⌝ }
 {
     s.add(net)
+}
+
+// A list of nets in one call: the first so many of an array of 65. A slice of nets is lent to the method `add_all` of a session, with the same
+// promise.
+pub fn add_first(s: Session, nets: [Net; 65], count: usize) -> AfterAddAll
+    ensures { λ r. ⌜ AddAllPromise s (take count nets) r ⌝ }
+{
+    session_list::add_first(s, nets, count)
 }
 
 pub fn withdraw(s: Session, number: u8) -> AfterWithdraw

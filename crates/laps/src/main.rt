@@ -1,8 +1,11 @@
-// Many calls on one full session, for timing them.
+// Many calls on a session, for timing them.
 //
-// The session has 64 nets, which take every pin of a board of 31 by 31 cells, and a pile of 64 changes, half of them "withdrawn".
-// Standard input is a number in decimal, at most 6 digits of it. So many calls are made, withdraw and take back by turns, on the session that
-// the call before handed back; then the last answer is printed: "accepted", or "refused" with the number.
+// Standard input is a number in decimal, at most 6 digits of it, with a word before it or none. So many laps are made:
+//     NUMBER           one call, withdraw and take back by turns, on the session that the call before handed back. It has 64 nets, which take every
+//                      pin of a board of 31 by 31 cells, and a pile of 64 changes, half of them "withdrawn"
+//     list NUMBER      40 of these nets on the bare board, in one call
+//     single NUMBER    the same nets in 40 calls
+// Then the last answer is printed: "accepted", or "refused" with the number.
 ghost use Prim.Native.Nat.{_≤_};
 use board::Board;
 use board::Row;
@@ -54,12 +57,16 @@ fn net_of(number: u8) -> Net {
     )
 }
 
-fn full() -> Session {
+fn bare() -> Session {
     let row = Row { left: 0, right: 31 };
-    let mut session = session::fresh(board_block::plain(Board {
+    session::fresh(board_block::plain(Board {
         count: 31,
         rows: [row; 31],
-    }));
+    }))
+}
+
+fn full() -> Session {
+    let mut session = bare();
     let mut number: u8 = 1;
     while number <= 64 {
         let after = session.add(net_of(number));
@@ -133,6 +140,72 @@ fn laps(start: Session, calls: usize) -> Lap {
     lap
 }
 
+// ── 40 nets ──
+
+// The nets 1 to 40, and others behind them.
+fn listed() -> [Net; 65] {
+    let mut nets = [net_of(1); 65];
+    let mut number: u8 = 1;
+    while number <= 40 {
+        nets[wide(number) - 1] = net_of(number);
+        number += 1;
+    }
+    nets
+}
+
+fn in_one_call(session: Session, nets: [Net; 65]) -> Lap {
+    let after = session_list::add_first(session, nets, 40);
+    let answer = after.answer;
+    let last = answer.last;
+    let told = session_answers::add_told(last);
+    let next = after.session;
+    Lap {
+        told,
+        session: next,
+    }
+}
+
+fn added(session: Session, net: Net) -> Lap {
+    let after = session.add(net);
+    let answer = after.answer;
+    let told = session_answers::add_told(answer);
+    let next = after.session;
+    Lap {
+        told,
+        session: next,
+    }
+}
+
+fn in_single_calls(session: Session, nets: [Net; 65]) -> Lap {
+    let mut lap = added(session, nets[0]);
+    let mut at: usize = 1;
+    while at < 40 {
+        lap = added(lap.session, nets[at]);
+        at += 1;
+    }
+    lap
+}
+
+fn forty(one: bool, session: Session, nets: [Net; 65]) -> Lap {
+    if one {
+        in_one_call(session, nets)
+    } else {
+        in_single_calls(session, nets)
+    }
+}
+
+fn forties(one: bool, times: usize) -> Lap {
+    let start = bare();
+    let nets = listed();
+    let mut lap = forty(one, start, nets);
+    let mut left = times;
+    while 1 < left {
+        lap = forty(one, start, nets);
+        left -= 1;
+    }
+    lap
+}
+
 // ── in and out ──
 
 // The value of a digit, 0 of any other byte.
@@ -184,6 +257,13 @@ fn main() {
     let mut text = io::buffer();
     let n = io::read_full(0, &mut text);
     let calls = number(&text[..n]);
-    let last = laps(changed(full()), calls);
+    let first = text[0];
+    let last = if first == b'l' {
+        forties(true, calls)
+    } else if first == b's' {
+        forties(false, calls)
+    } else {
+        laps(changed(full()), calls)
+    };
     print_told(last.told);
 }

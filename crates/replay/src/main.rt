@@ -1,18 +1,23 @@
 // Replays a list of calls on a session.
 //
-// Standard input is text, at most 65,536 bytes of it: a line for each row of the board and for each call, told by its first letter.
+// Standard input is text, at most 65,536 bytes of it: a line for each row of the board and for each call, told by its first word.
 //     row LEFT RIGHT                        one more row of the board, from the top; starts afresh on the board so far
 //     add NUMBER LINE COLUMN LINE COLUMN    the net with its first and its second terminal
+//     adds NUMBER LINE COLUMN LINE COLUMN NUMBER LINE ..
+//                                           a list of nets in one call, as many as begin on the line; of more than 65 the first 65
 //     withdraw NUMBER
 //     back                                  takes the last change back
 //     paths                                 routes the nets
-// Numbers stand in decimal, parted by spaces; one above 249 is read as 255, and one that is missing as 0. Other lines are passed over.
+// The word stands at the line's start, whole, and ends at a space or with the line. Numbers stand in decimal, parted by spaces; one above 249 is read
+// as 255, and one that is missing as 0. Other lines are passed over.
 //
-// Each call prints a line: "accepted", or "refused", the number and the place; routing prints its words, each on a line. Then come the nets in
-// rising number, each a line "net" with what add was given, and the pile from its top, each a line "added" or "withdrawn" with the net.
+// Each call prints a line: "accepted", or "refused", the number and the place. Of a list it is "accepted" and how many nets went on, or "refused",
+// the number, the place, "after" and how many went on before. Routing prints its words, each on a line. Then come the nets in rising number, each a
+// line "net" with what add was given, and the pile from its top, each a line "added" or "withdrawn" with the net.
 ghost use Prim.Native.Nat.{_≤_};
 ghost use lib.ListN.{length};
 ghost use Rattle.text.specs.Put.{Holds};
+ghost use Rattle.session_answers.specs.Answers.{addAllAnswer};
 ghost use Rattle.replay.specs.Text.{answerLine, toldAnswer};
 use board::Board;
 use board::Row;
@@ -24,7 +29,9 @@ use net::Pair;
 use net::Place;
 use numbers::wide;
 use session::Session;
+use session_answers::AddAllAnswer;
 use session_answers::Told;
+use session_list::LISTED;
 use session_pile::Pile;
 
 // A number that was read, and where it ended.
@@ -41,6 +48,22 @@ fn byte_at(s: &[u8], at: usize) -> u8 {
 
 fn is_digit(b: u8) -> bool {
     (b'0' <= b) & (b <= b'9')
+}
+
+// Does this word, whole, stand at the index? A word ends at a space, at the line's end or at the end of the text.
+fn is_word(s: &[u8], from: usize, word: &[u8]) -> bool {
+    let mut at = from;
+    for i in 0..word.len() {
+        if s.len() <= at {
+            return false;
+        }
+        if s[at] != word[i] {
+            return false;
+        }
+        at += 1;
+    }
+    let b = byte_at(s, at);
+    (b == b' ') | (b == b'\n')
 }
 
 // The value of a digit, 0 of any other byte.
@@ -122,19 +145,60 @@ fn vertex(s: &[u8], from: usize) -> ReadVertex {
     }
 }
 
-fn net(s: &[u8], from: usize) -> Net {
+// A net that was read, and where it ended.
+struct ReadNet {
+    net: Net,
+    next: usize,
+}
+
+fn net(s: &[u8], from: usize) -> ReadNet {
     let n = number(s, from);
     let first = vertex(s, n.next);
     let second = vertex(s, first.next);
     let u = first.vertex;
     let v = second.vertex;
-    Net {
-        number: n.value,
-        ends: Pair {
-            first: u,
-            second: v,
+    ReadNet {
+        net: Net {
+            number: n.value,
+            ends: Pair {
+                first: u,
+                second: v,
+            },
         },
+        next: second.next,
     }
+}
+
+// A list of nets: the first of the array, so many.
+struct NetList {
+    nets: [Net; LISTED],
+    count: usize,
+}
+
+// The nets that begin on the line. Of a longer list the first 65 are taken: a board can hold 64, so the list has stopped at one of them.
+fn net_list(s: &[u8], from: usize) -> NetList {
+    let no_vertex = Vertex { line: 0, column: 0 };
+    let no_net = Net {
+        number: 0,
+        ends: Pair {
+            first: no_vertex,
+            second: no_vertex,
+        },
+    };
+    let mut nets = [no_net; LISTED];
+    let mut count: usize = 0;
+    let mut at = skip(s, from);
+    while count < LISTED {
+        if !is_digit(byte_at(s, at)) {
+            return NetList { nets, count };
+        }
+        let read = net(s, at);
+        let n = read.net;
+        nets[count] = n;
+        count += 1;
+        at = skip(s, read.next);
+    }
+    NetList { nets, count }
 }
 
 // ── writing ──
@@ -151,9 +215,29 @@ fn told_line(told: Told, out: &mut [u8; 128]) -> usize
     }
 }
 
+// The same of what adding a list of nets answered.
+fn list_line(answer: AddAllAnswer, out: &mut [u8; 128]) -> usize
+    ensures { λ r. ⌜ Holds (answerLine (addAllAnswer answer)) r (now (out .exit)) ⌝ }
+{
+    let last = answer.last;
+    let told = session_answers::add_told(last);
+    let number = told.number;
+    if number == 0 {
+        text::line(b"accepted", &[answer.count], out)
+    } else {
+        text::refused_after(wide(number), wide(told.place), answer.count, out)
+    }
+}
+
 fn print_told(told: Told) {
     let mut out = [0u8; 128];
     let n = told_line(told, &mut out);
+    io::write_all(1, &out[..n]);
+}
+
+fn print_list_answer(answer: AddAllAnswer) {
+    let mut out = [0u8; 128];
+    let n = list_line(answer, &mut out);
     io::write_all(1, &out[..n]);
 }
 
@@ -235,9 +319,19 @@ fn row_line(session: Session, s: &[u8], at: usize) -> Session {
 }
 
 fn add_line(session: Session, s: &[u8], at: usize) -> Session {
-    let after = session.add(net(s, at));
+    let read = net(s, at);
+    let after = session.add(read.net);
     let answer = after.answer;
     print_told(session_answers::add_told(answer));
+    after.session
+}
+
+fn adds_line(session: Session, s: &[u8], at: usize) -> Session {
+    let list = net_list(s, at);
+    let nets = list.nets;
+    let after = session_list::add_first(session, nets, list.count);
+    let answer = after.answer;
+    print_list_answer(answer);
     after.session
 }
 
@@ -264,20 +358,22 @@ fn paths_line(session: Session) -> Session {
 }
 
 fn line(session: Session, s: &[u8], at: usize) -> Session {
-    let kind = byte_at(s, at);
-    if kind == b'r' {
+    if is_word(s, at, b"row") {
         return row_line(session, s, at);
     }
-    if kind == b'a' {
+    if is_word(s, at, b"add") {
         return add_line(session, s, at);
     }
-    if kind == b'w' {
+    if is_word(s, at, b"adds") {
+        return adds_line(session, s, at);
+    }
+    if is_word(s, at, b"withdraw") {
         return withdraw_line(session, s, at);
     }
-    if kind == b'b' {
+    if is_word(s, at, b"back") {
         return back_line(session);
     }
-    if kind == b'p' {
+    if is_word(s, at, b"paths") {
         return paths_line(session);
     }
     session

@@ -23,10 +23,10 @@ use Rattle.session_answers.specs.declared.AddAnswer.the-variants.{Accepted, Uns
 use Rattle.session_answers.specs.Answers.{addAnswer, isAccepted}
 use Rattle.session_add.specs.Lines.{checkOf}
 use Rattle.session_answers.specs.Answers.{withdrawAnswer, takeBackAnswer}
-use Rattle.session.specs.View.{sessionOf}
+use Rattle.session.specs.View.{sessionOf, Sized}
 use Rattle.session.specs.Value.{addSound, withdrawHeld, withdrawSound, takeBackSound, addOf, withdrawOf, takeBackOf}
 use Rattle.session.specs.Promise.{CallPromise, AddPromise, WithdrawPromise, TakeBackPromise}
-use Rattle.session.specs.Steps.{Sized, add-answer, add-next, withdraw-answer, withdraw-next, take-back-answer, take-back-next}
+use Rattle.session.specs.Steps.{add-answer, add-next, withdraw-answer, withdraw-next, take-back-answer, take-back-next}
 
 -- ── add ──
 add-answers : (s : Session) (n : Net) → addAnswer (addOf s n .answer) ≡ call (sessionOf s) (add n) .answer
@@ -37,7 +37,7 @@ add-nexts : (s : Session) (n : Net) → Sized s → sessionOf (addOf s n .sessio
 unfolding addOf call
 add-nexts s n z = elim (bool (sound? (sessionOf s))) [ inl e ↦ rw e (add-next s n z (sound-exact (sessionOf s) .0 e)) | inr e ↦ rw e refl ]
 
-told : (a : AddAnswer) → isAccepted a ≡ true → addAnswer a ≡ accepted
+pub told : (a : AddAnswer) → isAccepted a ≡ true → addAnswer a ≡ accepted
 told Accepted e = refl
 told Unsound e = cc
 told BadNumber e = cc
@@ -46,7 +46,7 @@ told (NoVertex p) e = cc
 told SameVertex e = cc
 told (PinsTaken p) e = cc
 
-add-kept : (s : Session) (n : Net) → (addAnswer (addSound s n .answer) ≡ accepted → ⊥) → addSound s n .session ≡ s
+pub add-kept : (s : Session) (n : Net) → (addAnswer (addSound s n .answer) ≡ accepted → ⊥) → addSound s n .session ≡ s
 unfolding addSound
 add-kept s n r =
     let a = checkOf (blockOf (s .block)) (netsOf (s .nets)) n in

@@ -1,23 +1,24 @@
 -- Definitions only: what each call of the code promises. Nothing is proved here.
 -- Each promise has the value that is handed back, by a definition; `CallPromise`: what that is to the list machine; and that a refused call hands
--- back the very session that it was given.
+-- back the very session that it was given, a list of nets where none of them went on.
 use mathlib.Core.Path.{_≡_}
+use mathlib.Core.List.{List}
 use Prim.Native.Nat.{ℕ}
 use Rattle.board.specs.Board.{Within}
 use Rattle.board.specs.Path.{Convex}
 use Rattle.board_block.specs.View.{blockOf, plainOf}
 use Rattle.board_block.specs.declared.Block as code
 use Rattle.net.specs.declared.Net.{Net}
-use Rattle.session_rules.specs.Machine.{Call, add, withdraw, takeBack, Answer, accepted}
+use Rattle.session_rules.specs.Machine.{Call, add, addAll, withdraw, takeBack, Answer, accepted}
 use Rattle.session_rules.specs.Sound as machine
 use Rattle.session.specs.declared.Session.{Session}
 use Rattle.session.specs.declared.AfterAdd.{AfterAdd}
+use Rattle.session.specs.declared.AfterAddAll.{AfterAddAll}
 use Rattle.session.specs.declared.AfterWithdraw.{AfterWithdraw}
 use Rattle.session.specs.declared.AfterTakeBack.{AfterTakeBack}
-use Rattle.session_answers.specs.Answers.{addAnswer}
-use Rattle.session_answers.specs.Answers.{withdrawAnswer, takeBackAnswer}
+use Rattle.session_answers.specs.Answers.{addAnswer, addAllAnswer, withdrawAnswer, takeBackAnswer}
 use Rattle.session.specs.View.{sessionOf}
-use Rattle.session.specs.Value.{addOf, withdrawOf, takeBackOf, freshOf, blankBoard}
+use Rattle.session.specs.Value.{addOf, addAllOf, withdrawOf, takeBackOf, freshOf, blankBoard}
 
 -- Made on the session s, a call of the machine's was answered a and handed back the session t:
 pub record CallPromise (s : Session) (c : Call) (a : Answer) (t : Session) : Type 0 where
@@ -30,6 +31,12 @@ pub record AddPromise (s : Session) (n : Net) (r : AfterAdd) : Type 0 where
   pub value : r ≡ addOf s n
   pub call : CallPromise s (add n) (addAnswer (r .answer)) (r .session)
   pub kept : (addAnswer (r .answer) ≡ accepted → ⊥) → r .session ≡ s
+
+-- "for this call alone a refusal leaves that much changed and no more": what went on before it
+pub record AddAllPromise (s : Session) (ns : List Net) (r : AfterAddAll) : Type 0 where
+  pub value : r ≡ addAllOf s ns
+  pub call : CallPromise s (addAll ns) (addAllAnswer (r .answer)) (r .session)
+  pub kept : r .answer .count ≡ 0 → r .session ≡ s
 
 pub record WithdrawPromise (s : Session) (k : ℕ) (r : AfterWithdraw) : Type 0 where
   pub value : r ≡ withdrawOf s k

@@ -7,7 +7,6 @@ use mathlib.Core.Option.{Option, none, some}
 use Prim.Native.Nat.{ℕ, _≤_, _<_}
 use native.Mathlib.Omega.{arith}
 use lib.Dec.{eqb}
-use lib.ListN.{length}
 use borrow.Author.Tests.{eqb-true, eqb-false}
 use Rattle.count.specs.TruthLaws.{bool, and-true}
 use Rattle.board_block.specs.View.{blockOf}
@@ -29,15 +28,10 @@ use Rattle.session_pile.specs.Changes.{laid-pile, pile-top, pile-empty, length-
 use Rattle.session.specs.declared.Session.{Session}
 use Rattle.session_answers.specs.Answers.{addAnswer}
 use Rattle.session_answers.specs.Answers.{withdrawAnswer, takeBackAnswer}
-use Rattle.session.specs.View.{sessionOf}
+use Rattle.session.specs.View.{sessionOf, Sized}
 use Rattle.session.specs.Value.{changed, addSound, withdrawHeld, withdrawSound, takeBackSound}
 use Rattle.session_add.specs.Check.{answered, check-answer, check-accepts}
 use Rattle.session_sound.specs.Reverse.{insert-accepted, reversed-of}
-
--- DEFINITION: the arrays of the code have 64 places
-pub record Sized (s : Session) : Type 0 where
-  pub nets64 : length (s .nets) ≡ 64
-  pub pile64 : length (s .pile .changes) ≡ 64
 
 depth-short : (s : Session) → Sound (sessionOf s) → s .pile .depth ≤ 64
 depth-short s h = omega (arith, length-pile (s .pile), h .short)

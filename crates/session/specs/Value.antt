@@ -1,7 +1,7 @@
 -- Definitions only: what each call hands back, as a value of the code. Nothing is proved here:
--- `add-promise`, `withdraw-promise` and `take-back-promise` in Kept say that it is what the list machine gives.
+-- `add-promise`, `withdraw-promise` and `take-back-promise` in Kept, and `add-all-promise` in OneByOne say that it is what the list machine gives.
 use mathlib.Core.Bool.{cond}
-use mathlib.Core.List.{List}
+use mathlib.Core.List.{List, [], _∷_}
 use Prim.Native.Nat.{ℕ}
 use lib.Dec.{eqb}
 use lib.ListN.{replicate}
@@ -20,11 +20,12 @@ use Rattle.net_places.specs.Numbered.{replaced}
 use Rattle.net_places.specs.Places.{net, holding, netsOf, placeAt, reversedIn}
 use Rattle.session_pile.specs.declared.Pile.{Pile}
 use Rattle.session_pile.specs.Pile.{noSlot, topOf, lifted, laid}
-use Rattle.session_answers.specs.Answers.{isAccepted}
+use Rattle.session_answers.specs.Answers.{isAccepted, counting}
 use Rattle.session_add.specs.Lines.{checkOf}
-use Rattle.session_answers.specs.declared.AddAnswer.the-variants.{Unsound}
+use Rattle.session_answers.specs.declared.AddAnswer.the-variants.{Accepted, Unsound}
 use Rattle.session.specs.declared.Session.{Session}
 use Rattle.session.specs.declared.AfterAdd.{AfterAdd}
+use Rattle.session.specs.declared.AfterAddAll.{AfterAddAll}
 use Rattle.session.specs.declared.AfterWithdraw.{AfterWithdraw}
 use Rattle.session.specs.declared.AfterTakeBack.{AfterTakeBack}
 use Rattle.session_answers.specs.declared.WithdrawAnswer.the-variants as withdraw-is
@@ -72,6 +73,23 @@ withdrawOf s k = cond (sound? (sessionOf s)) (withdrawSound s k) (record { answe
 
 unfoldable pub takeBackOf : Session → AfterTakeBack
 takeBackOf s = cond (sound? (sessionOf s)) (takeBackSound s) (record { answer = back-is.Unsound; session = s })
+
+-- ── a list of nets ──
+-- none went on so far: the session is sound, or gets 20
+unfoldable pub noneAdded : Session → AfterAddAll
+noneAdded s = record { answer = record { count = 0; last = cond (sound? (sessionOf s)) Accepted Unsound }; session = s }
+
+-- one net more
+unfoldable pub withNet : AfterAddAll → Net → AfterAddAll
+withNet a n = record { answer = counting (a .answer) (addSound (a .session) n .answer); session = addSound (a .session) n .session }
+
+-- "adding them one by one in list order, stopping at the first that is refused"
+unfoldable pub withEach : AfterAddAll → List Net → AfterAddAll
+withEach a [] = a
+withEach a (n ∷ ns) = cond (isAccepted (a .answer .last)) (withEach (withNet a n) ns) a
+
+abbrev pub addAllOf : Session → List Net → AfterAddAll
+addAllOf s ns = withEach (noneAdded s) ns
 
 -- ── sessions to start from ──
 unfoldable pub freshOf : code.Block → Session

@@ -1,4 +1,6 @@
 -- Definitions only: the session of the list machine that a value of the code's struct stands for. Nothing is proved here.
+use mathlib.Core.Path.{_≡_}
+use lib.ListN.{length}
 use Rattle.board_block.specs.View.{blockOf}
 use Rattle.session_rules.specs.Session.{Session}
 use Rattle.net_places.specs.Places.{netsOf}
@@ -7,3 +9,8 @@ use Rattle.session.specs.declared.Session as code
 
 abbrev pub sessionOf : code.Session → Session
 sessionOf s = record { block = blockOf (s .block); nets = netsOf (s .nets); pile = pileOf (s .pile) }
+
+-- the arrays of the code have 64 places
+pub record Sized (s : code.Session) : Type 0 where
+  pub nets64 : length (s .nets) ≡ 64
+  pub pile64 : length (s .pile .changes) ≡ 64

@@ -7,6 +7,7 @@ use net::Change;
 use net::Held;
 use net::Net;
 use net::Place;
+use session_answers::AddAllAnswer;
 use session_answers::AddAnswer;
 use session_answers::TakeBackAnswer;
 use session_answers::WithdrawAnswer;
@@ -14,9 +15,11 @@ use session_pile::Pile;
 ghost use mathlib.Core.Path.{_≡_};
 ghost use Rattle.count.specs.Truth.{Decides};
 ghost use Rattle.session_rules.specs.Sound.{Sound, sound?};
-ghost use Rattle.session.specs.View.{sessionOf};
-ghost use Rattle.session.specs.Value.{withPlaces, changed, addSound, withdrawSound, takeBackSound};
-ghost use Rattle.session.specs.Promise.{AddPromise, WithdrawPromise, TakeBackPromise, FreshPromise, BlankPromise};
+ghost use Rattle.session_answers.specs.Answers.{goesOn};
+ghost use Prim.Native.Nat.{_+_, _<_, _^_};
+ghost use Rattle.session.specs.View.{sessionOf, Sized};
+ghost use Rattle.session.specs.Value.{withPlaces, changed, addSound, withdrawSound, takeBackSound, noneAdded, withNet};
+ghost use Rattle.session.specs.Promise.{AddPromise, AddAllPromise, WithdrawPromise, TakeBackPromise, FreshPromise, BlankPromise};
 
 // Net n is held at place n - 1.
 pub struct Session {
@@ -28,6 +31,11 @@ pub struct Session {
 // What each call hands back: its answer and the next session.
 pub struct AfterAdd {
     pub answer: AddAnswer,
+    pub session: Session,
+}
+
+pub struct AfterAddAll {
+    pub answer: AddAllAnswer,
     pub session: Session,
 }
 
@@ -174,6 +182,32 @@ impl Session {
         self.add_sound(net)
     }
 
+    // None of a list of nets is added so far; an unsound session is refused.
+    fn none_added(self) -> AfterAddAll
+        ensures { λ r. ⌜ (r ≡ noneAdded self) × Sized self ⌝ }
+    {
+        let last = if self.sound() {
+            AddAnswer::Accepted
+        } else {
+            AddAnswer::Unsound
+        };
+        AfterAddAll {
+            answer: AddAllAnswer { count: 0, last },
+            session: self,
+        }
+    }
+
+    // Adds the nets one by one in list order, and stops at the first that is refused; the nets before it stay on.
+    pub fn add_all(self, nets: &[Net]) -> AfterAddAll
+        ensures { λ r. ⌜ AddAllPromise self (now (nets .entry)) r ⌝ }
+    {
+        let mut after = self.none_added();
+        while after.goes_on(nets.len()) {
+            after = after.with_net(nets[after.count()]);
+        }
+        after
+    }
+
     // Takes the net of that number out and lays "withdrawn" with it on the pile.
     pub fn withdraw(self, number: u8) -> AfterWithdraw
         ensures { λ r. ⌜ WithdrawPromise self number r ⌝ }
@@ -198,5 +232,38 @@ impl Session {
             };
         }
         self.take_back_sound()
+    }
+}
+
+impl AfterAddAll {
+    // How many nets went on.
+    fn count(self) -> usize
+        ensures { λ r. ⌜ r ≡ self .answer .count ⌝ }
+    {
+        self.answer.count
+    }
+
+    // Are more nets tried, of a list of so many?
+    fn goes_on(self, length: usize) -> bool
+        ensures { λ r. ⌜ r ≡ goesOn (self .answer) length ⌝ }
+    {
+        let answer = self.answer;
+        answer.goes_on(length)
+    }
+
+    // One net more.
+    fn with_net(self, net: Net) -> AfterAddAll
+        requires { ⌜ self .answer .count + 1 < 2 ^ 64 ⌝ }
+        ensures { λ r. ⌜ r ≡ withNet self net ⌝ }
+    {
+        let session = self.session;
+        let after = session.add_sound(net);
+        let last = after.answer;
+        let answer = self.answer;
+        let next = after.session;
+        AfterAddAll {
+            answer: answer.counting(last),
+            session: next,
+        }
     }
 }

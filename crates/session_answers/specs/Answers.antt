@@ -1,14 +1,18 @@
 -- Definitions only: document 01's number and place for each answer of a call that changes a session. Nothing is proved here.
-use mathlib.Core.Bool.{Bool, true, false}
+use mathlib.Core.Bool.{Bool, true, false, cond, _&&_}
+use mathlib.Core.Option.{Option, none, some}
+use Prim.Native.Nat.{ℕ, _+_}
+use lib.Dec.{ltb}
 use lib.ListN.{getD}
-use Rattle.session_rules.specs.Refusal.{refusal}
-use Rattle.session_rules.specs.Machine.{Answer, accepted, refused}
+use Rattle.session_rules.specs.Refusal.{Refusal, refusal}
+use Rattle.session_rules.specs.Machine.{Answer, accepted, refused, wentOn}
 use Rattle.session_answers.specs.declared.AddAnswer.{AddAnswer}
 use Rattle.session_answers.specs.declared.AddAnswer.the-variants.{Accepted, Unsound, BadNumber, NumberTaken, NoVertex, SameVertex, PinsTaken}
 use Rattle.session_answers.specs.declared.WithdrawAnswer as withdraw
 use Rattle.session_answers.specs.declared.WithdrawAnswer.the-variants as withdraw-is
 use Rattle.session_answers.specs.declared.TakeBackAnswer as back
 use Rattle.session_answers.specs.declared.TakeBackAnswer.the-variants as back-is
+use Rattle.session_answers.specs.declared.AddAllAnswer.{AddAllAnswer}
 use Rattle.session_answers.specs.declared.Told.{Told}
 
 abbrev pub addAnswer : AddAnswer → Answer
@@ -30,6 +34,16 @@ takeBackAnswer back-is.Accepted = accepted
 takeBackAnswer back-is.Unsound = refused (refusal 20 0)
 takeBackAnswer back-is.PileEmpty = refused (refusal 27 0)
 
+-- the refusal that an answer tells, if it tells one
+abbrev pub refusalOf : Answer → Option Refusal
+refusalOf accepted = none
+refusalOf (refused r) = some r
+refusalOf (wentOn k r) = r
+
+-- of a list of nets: how many went on, and the refusal of the add after them, if it was refused
+abbrev pub addAllAnswer : AddAllAnswer → Answer
+addAllAnswer a = wentOn (a .count) (refusalOf (addAnswer (a .last)))
+
 abbrev pub isAccepted : AddAnswer → Bool
 isAccepted Accepted = true
 isAccepted Unsound = false
@@ -39,7 +53,19 @@ isAccepted (NoVertex p) = false
 isAccepted SameVertex = false
 isAccepted (PinsTaken p) = false
 
+-- of a list of so many nets more are tried: none after one that was refused
+abbrev pub goesOn : AddAllAnswer → (length : ℕ) → Bool
+goesOn a length = isAccepted (a .last) && ltb (a .count) length
+
+-- the answer after one add more, which counts where it was accepted
+abbrev pub counting : AddAllAnswer → AddAnswer → AddAllAnswer
+counting a last = record { count = cond (isAccepted last) (a .count + 1) (a .count); last = last }
+
+-- a refusal by its number and place; both are 0 where there is none
+abbrev pub toldRefusal : Option Refusal → Told
+toldRefusal none = record { number = 0; place = 0 }
+toldRefusal (some r) = record { number = r .number; place = getD (r .place) 0 0 }
+
 -- an answer by its number and place; both are 0 where the call is accepted
 abbrev pub told : Answer → Told
-told accepted = record { number = 0; place = 0 }
-told (refused r) = record { number = r .number; place = getD (r .place) 0 0 }
+told a = toldRefusal (refusalOf a)

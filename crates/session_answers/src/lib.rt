@@ -1,6 +1,7 @@
 // What the calls that change a session answer, and the number and place by which each answer is told.
 ghost use mathlib.Core.Path.{_≡_};
-ghost use Rattle.session_answers.specs.Answers.{isAccepted, addAnswer, withdrawAnswer, takeBackAnswer, told};
+ghost use Prim.Native.Nat.{_+_, _<_, _^_};
+ghost use Rattle.session_answers.specs.Answers.{isAccepted, goesOn, counting, addAnswer, withdrawAnswer, takeBackAnswer, told};
 
 // What add answers. The number is that of the terminal: 0 the first, 1 the second.
 pub enum AddAnswer {
@@ -11,6 +12,12 @@ pub enum AddAnswer {
     NoVertex(u8),
     SameVertex,
     PinsTaken(u8),
+}
+
+// What adding a list of nets answers: how many went on, and what the last add answered. That is Accepted where none was refused.
+pub struct AddAllAnswer {
+    pub count: usize,
+    pub last: AddAnswer,
 }
 
 pub enum WithdrawAnswer {
@@ -42,6 +49,30 @@ pub fn is_accepted(answer: AddAnswer) -> bool
         AddAnswer::NoVertex(_) => false,
         AddAnswer::SameVertex => false,
         AddAnswer::PinsTaken(_) => false,
+    }
+}
+
+impl AddAllAnswer {
+    // Are more nets tried, of a list of so many? None after one that was refused.
+    pub fn goes_on(self, length: usize) -> bool
+        ensures { λ r. ⌜ r ≡ goesOn self length ⌝ }
+    {
+        let last = self.last;
+        is_accepted(last) & (self.count < length)
+    }
+
+    // The answer after one add more, which counts where it was accepted.
+    pub fn counting(self, last: AddAnswer) -> AddAllAnswer
+        requires { ⌜ self .count + 1 < 2 ^ 64 ⌝ }
+        ensures { λ r. ⌜ r ≡ counting self last ⌝ }
+    {
+        let count = self.count;
+        let more = count + 1;
+        if is_accepted(last) {
+            AddAllAnswer { count: more, last }
+        } else {
+            AddAllAnswer { count, last }
+        }
     }
 }
 

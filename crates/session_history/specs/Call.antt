@@ -4,6 +4,7 @@ use mathlib.Core.Path.{_≡_, refl, ap}
 use mathlib.Core.Bool.{Bool, true, false, not}
 use mathlib.Core.List.{List, [], _∷_}
 use mathlib.Core.Option.{Option, none, some}
+use Prim.Native.Nat.{ℕ, _+_}
 use native.Mathlib.Omega.{arith}
 use Rattle.board.specs.Degree.{vertex?}
 use Rattle.net.specs.Terminals.{same}
@@ -11,9 +12,26 @@ use Rattle.net.specs.declared.Net.{Net}
 use Rattle.net.specs.declared.Change.{Change}
 use Rattle.session_rules.specs.Session as machine
 use Rattle.session_rules.specs.Session.{holds, netOf}
-use Rattle.session_rules.specs.Refusal.{line, firstRefusal}
+use Rattle.session_rules.specs.Refusal.{Refusal, line, firstRefusal}
 use Rattle.session_rules.specs.Add.{goodNumber, full, addLines, addRefused}
-use Rattle.session_rules.specs.Machine.{Call, add, withdraw, takeBack, Answer, step, addStep, withdrawStep, takeBackStep, after, answers}
+use Rattle.session_rules.specs.Machine.{
+  Call,
+  add,
+  addAll,
+  withdraw,
+  takeBack,
+  Answer,
+  Step,
+  step,
+  addStep,
+  stopOr,
+  addAllStep,
+  withdrawStep,
+  takeBackStep,
+  added,
+  after,
+  answers,
+}
 use Rattle.session_rules.specs.Sound.{Sound, call}
 use Rattle.session_laws.specs.Exact.{sound-exact}
 use Rattle.session_laws.specs.Stays.{stays-sound}
@@ -39,6 +57,25 @@ first-not-20 false false false false false true g n s h = omega arith
 first-not-20 false false false false false false true n s h = omega arith
 first-not-20 false false false false false false false n s h = omega arith
 
+add-not-20 : (s : machine.Session) (n : Net) → numberOf (addStep (addRefused (s .block) (s .nets) n) n s .answer) ≡ 20 → ⊥
+unfolding addRefused addLines
+add-not-20 s n =
+    first-not-20 (not (goodNumber (n .number))) (holds (n .number) (s .nets)) (not (vertex? (s .block .board) (n .ends .first)))
+    (not (vertex? (s .block .board) (n .ends .second))) (same (n .ends .first) (n .ends .second)) (full (s .block) (s .nets) (n .ends .first))
+    (full (s .block) (s .nets) (n .ends .second)) n s
+
+-- of a list, the refusal told is that of the net at which it stops
+stop-not-20 : (s : machine.Session) (n : Net) (r : Option Refusal) (k : ℕ) (x : Step) → addRefused (s .block) (s .nets) n ≡ r
+    → (numberOf (x .answer) ≡ 20 → ⊥) → numberOf (stopOr r k s x .answer) ≡ 20 → ⊥
+stop-not-20 s n none k x e f = f
+stop-not-20 s n (some r) k x e f = rw e at (add-not-20 s n)
+
+all-not-20 : (k : ℕ) (ns : List Net) (s : machine.Session) → numberOf (addAllStep k ns s .answer) ≡ 20 → ⊥
+unfolding addAllStep
+all-not-20 k [] s = λ h. omega arith
+all-not-20 k (n ∷ ns) s =
+    stop-not-20 s n (addRefused (s .block) (s .nets) n) k (addAllStep (k + 1) ns (added n s)) refl (all-not-20 (k + 1) ns (added n s))
+
 withdraw-not-20 : (m : Option Net) (s : machine.Session) → numberOf (withdrawStep m s .answer) ≡ 20 → ⊥
 withdraw-not-20 none s h = omega arith
 withdraw-not-20 (some n) s h = omega arith
@@ -48,11 +85,9 @@ back-not-20 [] s h = omega arith
 back-not-20 (c ∷ cs) s h = omega arith
 
 pub step-not-20 : (s : machine.Session) (c : Call) → numberOf (step s c .answer) ≡ 20 → ⊥
-unfolding step addRefused addLines
-step-not-20 s (add n) =
-    first-not-20 (not (goodNumber (n .number))) (holds (n .number) (s .nets)) (not (vertex? (s .block .board) (n .ends .first)))
-    (not (vertex? (s .block .board) (n .ends .second))) (same (n .ends .first) (n .ends .second)) (full (s .block) (s .nets) (n .ends .first))
-    (full (s .block) (s .nets) (n .ends .second)) n s
+unfolding step
+step-not-20 s (add n) = add-not-20 s n
+step-not-20 s (addAll ns) = all-not-20 0 ns s
 step-not-20 s (withdraw k) = withdraw-not-20 (netOf k (s .nets)) s
 step-not-20 s takeBack = back-not-20 (s .pile) s
 

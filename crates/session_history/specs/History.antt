@@ -51,7 +51,7 @@ more s m ms k r = record {
   sound = r .sound;
 }
 
-from-sound : (s : Session) (ms : List Made) → Sound (sessionOf s) → Chain s ms → AsTheMachine s ms
+pub from-sound : (s : Session) (ms : List Made) → Sound (sessionOf s) → Chain s ms → AsTheMachine s ms
 unfolding after answers
 from-sound s [] h k = record { session = refl; answer = refl; no-20 = tt; sound = h }
 from-sound s (m ∷ ms) h k =

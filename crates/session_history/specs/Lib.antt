@@ -3,3 +3,4 @@ pub mod Call
 pub mod History
 pub mod Demand
 pub mod Routing
+pub mod Listed

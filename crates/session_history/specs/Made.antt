@@ -3,9 +3,10 @@
 -- A further call that the machine takes is one more constructor of its Call, with a CallPromise, and nothing here.
 use mathlib.Core.Path.{_≡_}
 use mathlib.Core.List.{List, [], _∷_, _++_}
+use mathlib.Core.Option.{Option, none, some}
 use Prim.Native.Nat.{ℕ}
 use Rattle.session_rules.specs.Session as machine
-use Rattle.session_rules.specs.Machine.{Call, Answer, accepted, refused, after}
+use Rattle.session_rules.specs.Machine.{Call, Answer, accepted, refused, wentOn, after}
 use Rattle.session.specs.declared.Session.{Session}
 use Rattle.session.specs.View.{sessionOf}
 use Rattle.session.specs.Promise.{CallPromise}
@@ -74,6 +75,8 @@ Everywhere P s (m ∷ ms) = P s m × Everywhere P (after s (callOf m)) ms
 abbrev pub numberOf : Answer → ℕ
 numberOf accepted = 0
 numberOf (refused r) = r .number
+numberOf (wentOn k none) = 0
+numberOf (wentOn k (some r)) = r .number
 
 -- none of the answers is the refusal of this number
 abbrev pub Never : ℕ → List Answer → Type 0

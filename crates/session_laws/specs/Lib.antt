@@ -5,3 +5,4 @@ pub mod Rising
 pub mod Fine
 pub mod Addable
 pub mod Stays
+pub mod OneByOne

@@ -4,7 +4,7 @@ use mathlib.Core.Path.{_≡_, refl, ap}
 use mathlib.Core.Bool.{true, _&&_}
 use mathlib.Core.List.{List, [], _∷_}
 use mathlib.Core.Option.{Option, none, some}
-use Prim.Native.Nat.{ℕ, zero, suc, _≤_}
+use Prim.Native.Nat.{ℕ, zero, suc, _+_, _≤_}
 use native.Mathlib.Omega.{arith}
 use lib.ListN.{length, take, length-take}
 use Rattle.count.specs.TruthLaws.{and-true, and-yes}
@@ -20,9 +20,13 @@ use Rattle.session_rules.specs.Refusal.{Refusal}
 use Rattle.session_rules.specs.Machine.{
   Call,
   add,
+  addAll,
   withdraw,
   takeBack,
+  Step,
+  stopOr,
   addStep,
+  addAllStep,
   withdrawStep,
   takeBackStep,
   step,
@@ -114,6 +118,18 @@ unfolding accepts
 add-stays s n none e h = sound-added s n h (rw e refl)
 add-stays s n (some r) e h = h
 
+-- a net that is refused changes nothing, and after one that is accepted the others go on
+stop-stays : (s : Session) (n : Net) (r : Option Refusal) (k : ℕ) (x : Step) → addRefused (s .block) (s .nets) n ≡ r → Sound s
+    → (Sound (added n s) → Sound (x .next)) → Sound (stopOr r k s x .next)
+stop-stays s n none k x e h f = f (add-stays s n none e h)
+stop-stays s n (some r) k x e h f = h
+
+all-stays : (k : ℕ) (ns : List Net) (s : Session) → Sound s → Sound (addAllStep k ns s .next)
+unfolding addAllStep
+all-stays k [] s h = h
+all-stays k (n ∷ ns) s h =
+    stop-stays s n (addRefused (s .block) (s .nets) n) k (addAllStep (k + 1) ns (added n s)) refl h (λ g. all-stays (k + 1) ns (added n s) g)
+
 withdraw-stays : (s : Session) (k : ℕ) (m : Option Net) → netOf k (s .nets) ≡ m → Sound s → Sound (withdrawStep m s .next)
 withdraw-stays s k none e h = h
 withdraw-stays s k (some n) e h = sound-withdrawn s k n h e
@@ -126,6 +142,7 @@ back-stays s (c ∷ cs) e h = sound-back s c cs h e
 pub stays-sound : (s : Session) (c : Call) → Sound s → Sound (step s c .next)
 unfolding step
 stays-sound s (add n) h = add-stays s n (addRefused (s .block) (s .nets) n) refl h
+stays-sound s (addAll ns) h = all-stays 0 ns s h
 stays-sound s (withdraw k) h = withdraw-stays s k (netOf k (s .nets)) refl h
 stays-sound s takeBack h = back-stays s (s .pile) refl h
 

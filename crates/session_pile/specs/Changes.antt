@@ -1,13 +1,15 @@
--- The pile of a value: its length, its top, and the pile after a change is laid on.
+-- The pile of a value: its length, its top, and the pile and the array after a change is laid on.
 -- Assumes nothing.
 use mathlib.Core.Path.{_≡_, refl, ap, sym, _∙_}
 use mathlib.Core.List.{List, [], _∷_, _++_}
+use mathlib.Core.Bool.{Bool, true, false, cond}
 use mathlib.Core.Logic.{inl, inr}
 use Prim.Native.Nat.{ℕ, zero, suc, _+_, _-_, _<_, _≤_}
 use native.Mathlib.Omega.{arith}
 use native.Mathlib.Numerals.{add-one}
-use lib.ListN.{length, getD, set, take, drop, length-drop, List·getD-append}
+use lib.ListN.{length, getD, set, take, drop, length-append, length-drop, length-set, List·getD-append}
 use lib.Seq.{getD-set-same, getD-set-other, getD-drop, getD-at, take-all}
+use lib.Dec.{ltb}
 use borrow.Author.Tests.{lt-ltb, le-ltb}
 use Rattle.count.specs.TruthLaws.{le-or-lt}
 use Rattle.net.specs.declared.Change.{Change}
@@ -101,3 +103,14 @@ laid-pile p c l d = elim (le-or-lt 64 (p .depth)) [
   | inl h ↦ full-pile p c (p .depth - 1) (omega arith) (omega arith) (omega arith)
   | inr h ↦ rw (laid-less c p h) (laid-more (p .changes) (p .depth) c (omega arith) h)
 ]
+
+-- the array stays as long as it was
+pub length-laid : (p : Pile) (c : Change) → 0 < length (p .changes) → length (laid c p .changes) ≡ length (p .changes)
+unfolding laid
+length-laid p c l = either (ltb (p .depth) 64)
+  where
+    either : (b : Bool)
+        → length (cond {A = Pile} b (record { depth = p .depth + 1; changes = set (p .changes) (p .depth) (slot c) })
+        (record { depth = 64; changes = drop 1 (p .changes) ++ (slot c ∷ []) }) .changes) ≡ length (p .changes)
+    either true = length-set (p .changes) (p .depth) (slot c)
+    either false = simp (length-append, length-drop) (omega arith)

@@ -3,3 +3,4 @@ pub mod Session
 pub mod Add
 pub mod Machine
 pub mod Sound
+pub mod OneByOne

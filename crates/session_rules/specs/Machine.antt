@@ -1,7 +1,8 @@
--- Definitions only: the list machine (document 01, "The session and its list machine"). Nothing is proved here.
+-- Definitions only: the list machine (document 01, "The session and its list machine"; a list of nets in one call: document 02, §1).
+-- Nothing is proved here.
 use mathlib.Core.List.{List, [], _∷_}
 use mathlib.Core.Option.{Option, none, some}
-use Prim.Native.Nat.{ℕ}
+use Prim.Native.Nat.{ℕ, _+_}
 use lib.ListN.{take}
 use Rattle.net.specs.declared.Net.{Net}
 use Rattle.net.specs.declared.Change.{Change}
@@ -13,13 +14,16 @@ use Rattle.session_rules.specs.Add.{addRefused}
 -- the calls that change a session, with their arguments
 pub data Call : Type 0 where
   add : Net → Call
+  addAll : List Net → Call
   withdraw : ℕ → Call
   takeBack : Call
 
--- "It answers that a call is accepted, or refuses it with number and place"
+-- "It answers that a call is accepted, or refuses it with number and place"; of a list of nets (02, §1) "The answer says how many went on, and on
+-- a refusal the number and place of that add."
 pub data Answer : Type 0 where
   accepted : Answer
   refused : Refusal → Answer
+  wentOn : ℕ → Option Refusal → Answer
 
 -- what a call hands back: its answer and the next session
 pub record Step : Type 0 where
@@ -62,6 +66,17 @@ abbrev pub addStep : Option Refusal → Net → Session → Step
 addStep none n s = accept (added n s)
 addStep (some r) n s = refuse r s
 
+-- 02, §1: "stopping at the first that is refused": a net that is refused ends the list, and the session stays as the k nets before it left it
+abbrev pub stopOr : Option Refusal → (k : ℕ) → Session → Step → Step
+stopOr none k s goesOn = goesOn
+stopOr (some r) k s goesOn = record { answer = wentOn k (some r); next = s }
+
+-- "The result is that of adding them one by one in list order .. The nets before it stay on and each is a change on the pile"; "An empty list goes
+-- on with 0". k nets of the list went on before these. Laws: `one-by-one`, `one-by-one-only`
+unfoldable pub addAllStep : (k : ℕ) → List Net → Session → Step
+addAllStep k [] s = record { answer = wentOn k none; next = s }
+addAllStep k (n ∷ ns) s = stopOr (addRefused (s .block) (s .nets) n) k s (addAllStep (k + 1) ns (added n s))
+
 -- refusal 26: "number not on the board"
 abbrev pub withdrawStep : Option Net → Session → Step
 withdrawStep none s = refuse (refusal 26 0) s
@@ -75,6 +90,7 @@ takeBackStep (c ∷ cs) s = accept (takenBack c cs s)
 -- one call, read against the machine's own board, nets and pile
 unfoldable pub step : Session → Call → Step
 step s (add n) = addStep (addRefused (s .block) (s .nets) n) n s
+step s (addAll ns) = addAllStep 0 ns s
 step s (withdraw k) = withdrawStep (netOf k (s .nets)) s
 step s takeBack = takeBackStep (s .pile) s
 

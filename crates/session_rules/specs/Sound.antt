@@ -2,6 +2,7 @@
 use mathlib.Core.Path.{_≡_}
 use mathlib.Core.Bool.{Bool, true, cond, _&&_}
 use mathlib.Core.List.{List, [], _∷_}
+use mathlib.Core.Option.{some}
 use Prim.Native.Nat.{_≤_}
 use lib.Dec.{leb, ltb}
 use lib.ListN.{length}
@@ -12,10 +13,23 @@ use Rattle.board_convex.specs.Test.{isConvex}
 use Rattle.net.specs.declared.Net.{Net}
 use Rattle.net.specs.declared.Change.{Change}
 use Rattle.net.specs.declared.Change.the-variants.{Added, Withdrawn}
-use Rattle.session_rules.specs.Refusal.{refusal}
+use Rattle.session_rules.specs.Refusal.{Refusal, refusal}
 use Rattle.session_rules.specs.Session.{Session, insert, recorded}
 use Rattle.session_rules.specs.Add.{accepts}
-use Rattle.session_rules.specs.Machine.{Call, Step, refuse, step, pileLimit, reversed}
+use Rattle.session_rules.specs.Machine.{
+  Call,
+  add,
+  addAll,
+  withdraw,
+  takeBack,
+  Answer,
+  refused,
+  wentOn,
+  Step,
+  step,
+  pileLimit,
+  reversed,
+}
 
 -- The nets stand "in rising number".
 unfoldable pub rising? : List Net → Bool
@@ -57,9 +71,16 @@ sound? s =
     && ((rising? (s .nets) && addable? (s .block) [] (s .nets))
     && (leb (length (s .pile)) pileLimit && lifts? (s .block) (s .nets) (s .pile)))
 
+-- how a call answers that is refused before anything is done: of a list of nets none went on
+abbrev pub refusedWhole : Call → Refusal → Answer
+refusedWhole (add n) r = refused r
+refusedWhole (addAll ns) r = wentOn 0 (some r)
+refusedWhole (withdraw k) r = refused r
+refusedWhole takeBack r = refused r
+
 -- "Every call that takes a session refuses an unsound one first, with 20."
 unfoldable pub call : Session → Call → Step
-call s c = cond (sound? s) (step s c) (refuse (refusal 20 0) s)
+call s c = cond (sound? s) (step s c) (record { answer = refusedWhole c (refusal 20 0); next = s })
 
 -- "A session is fresh when it is sound, with no nets and an empty pile."
 pub record Fresh (s : Session) : Type 0 where

@@ -114,8 +114,8 @@ put-spaced {n} {k} F e P Q = put-then P (rw (e ∙ decimal-is n k F) at Q)
 pub whole : {t : List ℕ} {k : ℕ} {b e : List ℕ} → Put t 0 b k e → k ≤ length e → Holds t k e
 whole {k = k} {e = e} P h = ((h, sym (length-take-le k e h)), P .bytes)
 
-pub put-line : {name : List ℕ} (ns : List ℕ) {i j k : ℕ} {b c d e : List ℕ} → Put name 0 b i c → Put (flatMap spaced ns) i c j d
-    → Put (10 ∷ []) j d k e → Put (lineOf name ns) 0 b k e
+pub put-line : {name : List ℕ} (ns : List ℕ) {at i j k : ℕ} {b c d e : List ℕ} → Put name at b i c → Put (flatMap spaced ns) i c j d
+    → Put (10 ∷ []) j d k e → Put (lineOf name ns) at b k e
 unfolding lineOf
 put-line ns P Q R = put-then P (put-then Q R)
 

@@ -35,3 +35,11 @@ passedName = 112 ∷ 97 ∷ 115 ∷ 115 ∷ 101 ∷ 100 ∷ []
 -- ""refused", the number and the place numbers"
 abbrev pub refusedLine : ℕ → List ℕ → List ℕ
 refusedLine number place = lineOf refusedName (number ∷ place)
+
+-- a space and "after"
+abbrev pub afterName : List ℕ
+afterName = 32 ∷ 97 ∷ 102 ∷ 116 ∷ 101 ∷ 114 ∷ []
+
+-- the refusal at which a list stopped: the same, then "after" and how many went on before it
+abbrev pub refusedAfterLine : ℕ → List ℕ → ℕ → List ℕ
+refusedAfterLine number place count = refusedName ++ (flatMap spaced (number ∷ place) ++ lineOf afterName (count ∷ []))

@@ -4,7 +4,7 @@ ghost use mathlib.Core.List.{[], _∷_, flatMap};
 ghost use Prim.Native.Nat.{_+_, _*_, _≤_, _<_};
 ghost use lib.ListN.{length, take};
 ghost use Rattle.text.specs.Hex.{digitAt, hexLine, hexLines};
-ghost use Rattle.text.specs.Line.{spaced, lineOf, refusedLine};
+ghost use Rattle.text.specs.Line.{spaced, lineOf, refusedLine, refusedAfterLine};
 ghost use Rattle.text.specs.Put.{Put, Holds};
 use numbers::least;
 
@@ -69,14 +69,23 @@ fn put_numbers(numbers: &[usize], out: &mut [u8], at: usize) -> usize
     end
 }
 
+// A name, numbers and a line feed, from this index of the buffer on; where they end.
+fn put_line(name: &[u8], numbers: &[usize], out: &mut [u8], at: usize) -> usize
+    requires { ⌜ at + length (now name) + 21 * length (now numbers) < length (now out) ⌝ }
+    ensures { λ r. ⌜ Put (lineOf (now (name .entry)) (now (numbers .entry))) at (now (out .entry)) r (now (out .exit)) ⌝ }
+    ensures { λ r. ⌜ r ≤ length (now (out .exit)) ⌝ }
+{
+    let named = put(name, out, at);
+    let numbered = put_numbers(numbers, out, named);
+    put(b"\n", out, numbered)
+}
+
 // A name, numbers and a line feed, at the start of the buffer; how many bytes they are.
 pub fn line(name: &[u8], numbers: &[usize], out: &mut [u8]) -> usize
     requires { ⌜ length (now name) + 21 * length (now numbers) < length (now out) ⌝ }
     ensures { λ r. ⌜ Holds (lineOf (now (name .entry)) (now (numbers .entry))) r (now (out .exit)) ⌝ }
 {
-    let named = put(name, out, 0);
-    let numbered = put_numbers(numbers, out, named);
-    put(b"\n", out, numbered)
+    put_line(name, numbers, out, 0)
 }
 
 // The line of a refusal with a place of one number.
@@ -93,6 +102,16 @@ pub fn refused_at(number: usize, first: usize, second: usize, out: &mut [u8]) ->
     ensures { λ r. ⌜ Holds (refusedLine number (first ∷ second ∷ [])) r (now (out .exit)) ⌝ }
 {
     line(b"refused", &[number, first, second], out)
+}
+
+// The line of a refusal with a place of one number, and how many of a list went on before it.
+pub fn refused_after(number: usize, place: usize, count: usize, out: &mut [u8]) -> usize
+    requires { ⌜ 76 < length (now out) ⌝ }
+    ensures { λ r. ⌜ Holds (refusedAfterLine number (place ∷ []) count) r (now (out .exit)) ⌝ }
+{
+    let named = put(b"refused", out, 0);
+    let numbered = put_numbers(&[number, place], out, named);
+    put_line(b" after", &[count], out, numbered)
 }
 
 // The first n words, or all where there are fewer, each on a line, at the start of the buffer; how many bytes they are.

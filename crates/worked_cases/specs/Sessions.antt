@@ -2,29 +2,32 @@
 -- Assumes nothing.
 use mathlib.Core.Path.{_≡_, refl}
 use mathlib.Core.Bool.{true}
-use mathlib.Core.List.{List, [], _∷_, map}
+use mathlib.Core.List.{List, [], _∷_, _++_, map}
 use mathlib.Core.Option.{Option, none, some}
 use Prim.Native.Nat.{ℕ, zero, suc}
-use lib.ListN.{length}
-use Rattle.net.specs.declared.Change.the-variants.{Added}
+use lib.ListN.{length, take}
+use Rattle.net.specs.declared.Net.{Net}
+use Rattle.net.specs.declared.Change.the-variants.{Added, Withdrawn}
 use Rattle.board_block.specs.Block.{plain}
 use Rattle.session_rules.specs.Refusal.{Refusal}
 use Rattle.session_rules.specs.Session.{withNets}
-use Rattle.session_rules.specs.Machine.{Call, add, withdraw, takeBack, Answer, accepted, refused, after, answers}
+use Rattle.session_rules.specs.Machine.{Call, add, addAll, withdraw, takeBack, Answer, accepted, refused, wentOn, after, answers}
 use Rattle.session_rules.specs.Sound.{sound?, call, bare, blank}
 use Rattle.call_rules.specs.Writing.{writeBoard}
 use Rattle.call_rules.specs.Route.{routeRefused}
 use Rattle.worked_cases.specs.Everything.{everything}
 use Rattle.worked_cases.specs.Boards.{row, board, net, session, ring, why}
 
--- an answer as one list: a refusal's number and place; nothing where the call is accepted
-abbrev answerList : Answer → List ℕ
-answerList accepted = []
-answerList (refused r) = r .number ∷ r .place
-
+-- a refusal as one list, its number and place; nothing where there is none
 abbrev refusalList : Option Refusal → List ℕ
 refusalList none = []
 refusalList (some r) = r .number ∷ r .place
+
+-- the same of an answer; of a list of nets, how many went on stands before it
+abbrev answerList : Answer → List ℕ
+answerList accepted = []
+answerList (refused r) = r .number ∷ r .place
+answerList (wentOn k r) = k ∷ refusalList r
 
 -- one cell; each call meets the session that the calls before it left
 calls : map answerList (answers (bare (plain (board (row 0 1 ∷ [])))) (
@@ -74,6 +77,46 @@ upAndDown (suc k) = add (net 1 0 0 1 1) ∷ withdraw 1 ∷ upAndDown k
 long-pile : length (after (bare (plain (board (row 0 1 ∷ [])))) (upAndDown 33) .pile) ≡ 64
 unfolding everything
 long-pile = refl
+
+-- ── lists of nets (document 02, §1), on one cell ──
+lists : map answerList (answers (bare (plain (board (row 0 1 ∷ [])))) (
+    -- "An empty list goes on with 0."
+    addAll []
+    -- a refusal in the middle: net 3 is not tried
+    ∷ addAll (net 1 0 0 1 1 ∷ net 2 0 0 0 2 ∷ net 3 0 1 1 0 ∷ [])
+    ∷ withdraw 3
+    -- a refusal at the first; a net of the list takes the pins of a later one; a number twice in one list
+    ∷ addAll (net 1 0 1 1 0 ∷ net 2 0 1 1 0 ∷ [])
+    ∷ addAll (net 2 0 0 1 1 ∷ net 3 0 1 0 0 ∷ [])
+    ∷ addAll (net 3 0 1 1 0 ∷ net 3 0 1 1 0 ∷ [])
+    -- each net that went on is a change of its own
+    ∷ takeBack ∷ takeBack ∷ takeBack ∷ takeBack ∷ []))
+    ≡ (0 ∷ []) ∷ (1 ∷ 23 ∷ 1 ∷ []) ∷ (26 ∷ 0 ∷ []) ∷ (0 ∷ 22 ∷ 0 ∷ []) ∷ (1 ∷ 25 ∷ 1 ∷ []) ∷ (1 ∷ 22 ∷ 0 ∷ [])
+    ∷ [] ∷ [] ∷ [] ∷ (27 ∷ 0 ∷ []) ∷ []
+unfolding everything
+lists = refl
+
+-- what a list leaves that was refused at its third net
+list-history : after (bare (plain (board (row 0 1 ∷ [])))) (addAll (net 2 0 0 1 1 ∷ net 1 1 0 0 1 ∷ net 0 0 0 1 1 ∷ net 3 0 0 1 1 ∷ []) ∷ [])
+    ≡ record {
+      block = plain (board (row 0 1 ∷ []));
+      nets = net 1 1 0 0 1 ∷ net 2 0 0 1 1 ∷ [];
+      pile = Added (net 1 1 0 0 1) ∷ Added (net 2 0 0 1 1) ∷ [];
+    }
+unfolding everything
+list-history = refl
+
+-- a full pile loses its lowest change at every net: after a list of two its top are these, and 64 changes are left
+list-pile : let t = after (bare (plain (board (row 0 1 ∷ [])))) (upAndDown 32 ++ (addAll (net 1 0 0 1 1 ∷ net 2 0 1 1 0 ∷ []) ∷ [])) in
+    (length (t .pile) ≡ 64) × (take 3 (t .pile) ≡ Added (net 2 0 1 1 0) ∷ Added (net 1 0 0 1 1) ∷ Withdrawn (net 1 0 0 1 1) ∷ [])
+unfolding everything
+list-pile = (refl, refl)
+
+-- 20 for any list, the empty one too, and none went on
+unsound-lists : map (λ (ns : List Net). answerList (call (bare (plain (board []))) (addAll ns) .answer)) ([] ∷ (net 1 0 0 1 1 ∷ []) ∷ [])
+    ≡ (0 ∷ 20 ∷ 0 ∷ []) ∷ (0 ∷ 20 ∷ 0 ∷ []) ∷ []
+unfolding everything
+unsound-lists = refl
 
 -- 20 before 21: a pile with an added net that is not on the board
 unsound : answerList (call (withNets (bare (plain (board (row 0 1 ∷ [])))) [] (Added (net 1 0 0 1 1) ∷ [])) (add (net 0 0 0 1 1)) .answer)

@@ -10,11 +10,8 @@ Inv-loop session₀ number₀ session number = number ≤ 65
 abbrev μ-loop : tie.MeasureT-loop
 μ-loop session₀ number₀ session number = 65 - number
 
-plain-requires : tie.Need-plain-requires Inv-loop μ-loop
-plain-requires c κs = search needs
-
-fresh-requires : tie.Need-fresh-requires Inv-loop μ-loop
-fresh-requires c κs = search needs
+bare-requires : tie.Need-bare-requires Inv-loop μ-loop
+bare-requires c κs = search needs
 
 loop-holds : tie.Need-loop-holds Inv-loop μ-loop
 loop-holds c = search needs
@@ -43,8 +40,7 @@ full-spec =
     (tie.spec
     Inv-loop
     μ-loop
-    plain-requires
-    fresh-requires
+    bare-requires
     loop-holds
     net-of-requires
     add-requires

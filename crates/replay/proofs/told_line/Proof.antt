@@ -9,37 +9,29 @@ use Rattle.numbers.proofs.wide.Reads as wide-reads
 use Rattle.text.proofs.line.Reads as line-reads
 use Rattle.text.proofs.refused.Reads as refused-reads
 
--- src/main.rt:149:20
 slice-aggregate-line : tie.Need-slice-aggregate-line
 slice-aggregate-line c = search needs
 
--- src/main.rt:149:33
 slice-aggregate-line-2 : tie.Need-slice-aggregate-line-2
 slice-aggregate-line-2 c = search needs
 
--- src/main.rt:149:9
 line-requires : tie.Need-line-requires
 line-requires c κs = search needs
 
--- src/main.rt:151:23
 wide-requires : tie.Need-wide-requires
 wide-requires c κs = search needs
 
--- src/main.rt:151:37
 wide-requires-2 : tie.Need-wide-requires-2
 wide-requires-2 c κs = search needs
 
--- src/main.rt:151:9
 refused-requires : tie.Need-refused-requires
 refused-requires c κs = search needs
 
--- src/main.rt:144:1
 returns : tie.Need-returns
 returns c =
     let at-if1 = c .before .before .before .before in
     rw (eq-eqb (at-if1 .before .args .told .number) 0 (at-if1 .if1 .taken)) (c .line .ensures)
 
--- src/main.rt:144:1
 returns-2 : tie.Need-returns-2
 returns-2 c =
     let at-wide = c .before .before .before in let at-if1 = at-wide .before in
