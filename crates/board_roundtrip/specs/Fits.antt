@@ -1,9 +1,9 @@
--- What a sound session holds fits the fields of its words, and it has at most 64 nets.
+-- What a sound session holds fits the fields of its words.
 -- Assumes that the session is sound, law by law as far as it is needed.
 use mathlib.Core.Path.{_≡_}
 use mathlib.Core.Bool.{true}
 use mathlib.Core.List.{List, [], _∷_}
-use Prim.Native.Nat.{ℕ, suc, _+_, _≤_, _<_}
+use Prim.Native.Nat.{ℕ, suc, _≤_, _<_}
 use native.Mathlib.Omega.{arith}
 use lib.ListN.{length, getD}
 use Rattle.board.specs.Board.{Board, Within, noRow}
@@ -14,7 +14,6 @@ use Rattle.board.specs.declared.Vertex.{Vertex}
 use Rattle.board_convex.specs.Places.{vertex-in-row}
 use Rattle.board_block.specs.Block.{Block}
 use Rattle.net.specs.declared.Net.{Net}
-use Rattle.session_laws.specs.Rising.{From}
 use Rattle.session_laws.specs.Fine.{AllGood}
 use Rattle.words.specs.Inverse.{VertexFits}
 use Rattle.board_roundtrip.specs.Parts.{RowsFit, NetsFit}
@@ -39,14 +38,3 @@ nets-fit b (n ∷ ns) w g =
       (omega (arith, k .high), vertex-fits (b .board) (n .ends .first) w (k .first), vertex-fits (b .board) (n .ends .second) w (k .second)),
       nets-fit b ns w (g .1),
     )
-
--- numbers that rise from k on and end by 64
-rising-few : (b : Block) (k : ℕ) (ns : List Net) → k ≤ 65 → From k ns → AllGood b ns → length ns + k ≤ 65
-rising-few b k [] h f g = omega arith
-rising-few b k (n ∷ ns) h f g =
-    let l = f .0 in let m = g .0 .high in
-    omega (arith, rising-few b (suc (n .number)) ns (omega arith) (f .1) (g .1))
-
-pub few-nets : (b : Block) (ns : List Net) → From 0 ns → AllGood b ns → length ns ≤ 64
-few-nets b [] f g = omega arith
-few-nets b (n ∷ ns) f g = omega (arith, rising-few b 1 (n ∷ ns) (omega arith) (g .0 .low, f .1) g)

@@ -22,7 +22,8 @@ use Rattle.call_rules.specs.Reading.{readWords, readBytes}
 use Rattle.call_rules.specs.Writing.{boardWords}
 use Rattle.board_roundtrip.specs.Parts.{RowsFit, NetsFit, Words, Bytes}
 use Rattle.call_rules.specs.Results.{passed, line-passed}
-use Rattle.board_roundtrip.specs.Fits.{rows-fit, nets-fit, few-nets}
+use Rattle.session_laws.specs.Few.{few-nets}
+use Rattle.board_roundtrip.specs.Fits.{rows-fit, nets-fit}
 
 -- ── from words to bytes and back ──
 -- the lowest byte, and the others

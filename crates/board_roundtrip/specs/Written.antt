@@ -20,7 +20,8 @@ use Rattle.call_rules.specs.Writing.{boardWords}
 use Rattle.board_roundtrip.specs.Parts.{taken, netsIn, listedFrom, listedOnto, unpiled}
 use Rattle.board_roundtrip.specs.Adds.{addable-listed}
 use Rattle.board_roundtrip.specs.Packed.{take-rows, take-nets, take-end, length-onto, reverse-onto, nets-from}
-use Rattle.board_roundtrip.specs.Fits.{rows-fit, nets-fit, few-nets}
+use Rattle.session_laws.specs.Few.{few-nets}
+use Rattle.board_roundtrip.specs.Fits.{rows-fit, nets-fit}
 
 -- ── their count ──
 pub words-length : (s : Session) → length (boardWords s) ≡ length (s .block .board .rows) + length (s .nets) + 1

@@ -35,6 +35,7 @@ use Rattle.session.specs.declared.AfterAddAll.{AfterAddAll}
 use Rattle.session.specs.declared.AfterWithdraw.{AfterWithdraw}
 use Rattle.session.specs.declared.AfterTakeBack.{AfterTakeBack}
 use Rattle.session.specs.View.{sessionOf}
+use Rattle.session.specs.Value.{addAllOf}
 use Rattle.session_answers.specs.Answers.{addAnswer, addAllAnswer, withdrawAnswer, takeBackAnswer}
 use Rattle.session.specs.Promise.{AddPromise, AddAllPromise, WithdrawPromise, TakeBackPromise, FreshPromise}
 use Rattle.words.specs.Bytes.{wordsIn}
@@ -109,13 +110,14 @@ pub record Demand1 : Type 0 where
   pub add : (s : Session) (n : Net) (r : AfterAdd) → AddPromise s n r
       → (addAnswer (r .answer) ≡ call (sessionOf s) (calls.add n) .answer) × (sessionOf (r .session) ≡ call (sessionOf s) (calls.add n) .next)
       × ((addAnswer (r .answer) ≡ accepted → ⊥) → r .session ≡ s)
-  -- 02, §1: an unsound session gets 20, and none went on; else the result is that of single adds up to the first that is refused; where none went
-  -- on, the very session that was given is handed back
+  -- 02, §1: an unsound session gets 20, and none went on; else the result is that of single adds up to the first that is refused. Changed is what
+  -- the nets left that went on, and no more: with none, the very session that was given is handed back
   pub add-all : (s : Session) (ns : List Net) (r : AfterAddAll) → AddAllPromise s ns r
       → (addAllAnswer (r .answer) ≡ call (sessionOf s) (calls.addAll ns) .answer)
       × (sessionOf (r .session) ≡ call (sessionOf s) (calls.addAll ns) .next)
       × (Unsound (sessionOf s) → addAllAnswer (r .answer) ≡ wentOn 0 (some (refusal 20 0)))
       × (Sound (sessionOf s) → OneByOne (sessionOf s) ns (addAllAnswer (r .answer)) (sessionOf (r .session)))
+      × (r .session ≡ addAllOf s (take (r .answer .count) ns) .session)
       × (r .answer .count ≡ 0 → r .session ≡ s)
   pub withdraw : (s : Session) (k : ℕ) (r : AfterWithdraw) → WithdrawPromise s k r
       → (withdrawAnswer (r .answer) ≡ call (sessionOf s) (calls.withdraw k) .answer)
@@ -195,9 +197,11 @@ pub record Demand3 : Type 0 where
       → Meets s (changed (calls.withdraw k) (withdrawAnswer (r .answer)) (r .session))
   pub take-back-made : (s : Session) (r : AfterTakeBack) → TakeBackPromise s r
       → Meets s (changed calls.takeBack (takeBackAnswer (r .answer)) (r .session))
-  -- 02, §1: "A routing after such a call is given or refused as after the single adds": those of the nets that went on, and of the next, which was
-  -- refused
-  pub routed-as-singly : (s : Session) (ns : List Net) (r : AfterAddAll) (singles : List Made) → Sound (sessionOf s) → AddAllPromise s ns r
-      → Chain s singles → callsOf singles ≡ singly (take (r .answer .count + 1) ns) → (before : List ℕ) (x : RouteAnswer) (after : List ℕ)
-      → (Meets (r .session) (routed before x after) ↔ Meets (last s singles) (routed before x after))
-      × (Meets (r .session) (routedBytes before x after) ↔ Meets (last s singles) (routedBytes before x after))
+  -- 02, §1: "A routing after such a call is given or refused as after the single adds": those of the nets that went on, and of the next, if one was
+  -- refused. The sessions stand for the same, and two routing calls with the same buffer are refused alike, so also given alike
+  pub as-singly : (s : Session) (ns : List Net) (r : AfterAddAll) (singles : List Made) → AddAllPromise s ns r → Chain s singles
+      → callsOf singles ≡ singly (take (r .answer .count + 1) ns)
+      → (sessionOf (last s singles) ≡ sessionOf (r .session))
+      × ((before : List ℕ) (x y : RouteAnswer) (after after′ : List ℕ)
+      → (Meets (r .session) (routed before x after) → Meets (last s singles) (routed before y after′) → history.RefusedAlike x y)
+      × (Meets (r .session) (routedBytes before x after) → Meets (last s singles) (routedBytes before y after′) → history.RefusedAlike x y))

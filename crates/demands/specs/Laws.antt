@@ -16,14 +16,16 @@ use Rattle.net.specs.declared.Net.{Net}
 use Rattle.session_rules.specs.Refusal.{Refusal, refusal}
 use Rattle.session_rules.specs.Session as machine
 use Rattle.session_rules.specs.Session.{pairs}
-use Rattle.session_rules.specs.Machine.{addAll, Answer, wentOn, step}
+use Rattle.session_rules.specs.Machine.{addAll, Answer, wentOn, refusalOf, step}
 use Rattle.session_rules.specs.Sound.{Sound, sound?, call}
 use Rattle.session_rules.specs.OneByOne.{OneByOne}
 use Rattle.session_laws.specs.Exact.{sound-exact}
 use Rattle.session_laws.specs.OneByOne.{one-by-one}
+use Rattle.session_laws.specs.Few.{few-nets}
 use Rattle.session_laws.specs.Fine.{AllGood}
 use Rattle.session_laws.specs.Stays.{sound-fine}
 use Rattle.session.specs.View.{sessionOf}
+use Rattle.session.specs.Value.{withEach, noneAdded, addAllOf}
 use Rattle.session.specs.declared.Session.{Session}
 use Rattle.words.specs.Bytes.{wordsIn}
 use Rattle.call_rules.specs.Result.{Result, no, yes, andThen}
@@ -43,9 +45,8 @@ use Rattle.judge_call.specs.Answers.{judgementOf}
 use Rattle.judge_laws.specs.Passing.{Numbered}
 use Rattle.judge_laws.specs.Exact.{passes-exactly}
 use Rattle.board_roundtrip.specs.Parts.{unpiled}
-use Rattle.board_roundtrip.specs.Fits.{few-nets}
 use Rattle.board_roundtrip.specs.RoundTrip.{buffer-reads, read-written, read-bytes-sound}
-use Rattle.session_answers.specs.Answers.{addAnswer, refusalOf}
+use Rattle.session_answers.specs.Answers.{addAnswer}
 use Rattle.session_history.specs.Routing as history
 use Rattle.session_history.specs.Listed as history-listed
 use Rattle.demands.specs.Demands.{Reads, WholeWords, Judges, TellsJudged, Passes, OfRouting, Demand1, Demand2, Demand3}
@@ -186,6 +187,10 @@ listed m ns S {a} {t} e f =
     let y : t ≡ step m (addAll ns) .next = rw g at f in
     rw (x, y) (one-by-one m ns)
 
+none-on : (s : Session) (ns : List Net) (t : Session) (k : ℕ) → t ≡ addAllOf s (take k ns) .session → k ≡ 0 → t ≡ s
+unfolding withEach noneAdded
+none-on s ns t k e z = e ∙ ap (λ (i : ℕ). addAllOf s (take i ns) .session) z
+
 pub demand-1 : Demand1
 demand-1 = record {
   add = λ s n r P. (P .call .answers, P .call .next, P .kept);
@@ -195,6 +200,7 @@ demand-1 = record {
     λ n. P .call .answers ∙ unsound-list (sessionOf s) ns n,
     λ S. listed (sessionOf s) ns S (P .call .answers) (P .call .next),
     P .kept,
+    λ z. none-on s ns (r .session) (r .answer .count) (P .kept) z,
   );
   withdraw = λ s k r P. (P .call .answers, P .call .next, P .kept);
   take-back = λ s r P. (P .call .answers, P .call .next, P .kept);
@@ -308,7 +314,9 @@ demand-3 = record {
   add-all-made = λ s ns r P. P .call;
   withdraw-made = λ s k r P. P .call;
   take-back-made = λ s r P. P .call;
-  routed-as-singly = λ s ns r singles S P k e before x after.
-      history-listed.routed-as-singly s (r .session) ns (r .answer .count) (refusalOf (addAnswer (r .answer .last))) singles S (P .call) k e
-      before x after;
+  as-singly = λ s ns r singles P k e.
+      let why = refusalOf (addAnswer (r .answer .last)) in (
+        history-listed.as-singly s (r .session) ns (r .answer .count) why singles (P .call) k e,
+        history-listed.routed-as-singly s (r .session) ns (r .answer .count) why singles (P .call) k e,
+      );
 }

@@ -57,8 +57,8 @@ pub fn add(s: Session, net: Net) -> AfterAdd
     s.add(net)
 }
 
-// A list of nets in one call: the first so many of an array of 65. A slice of nets is lent to the method `add_all` of a session, with the same
-// promise.
+// A list of nets in one call: the first so many of an array of 65, all of them where the count is greater. A slice of nets is lent to the method
+// `add_all` of a session, with the same promise.
 pub fn add_first(s: Session, nets: [Net; 65], count: usize) -> AfterAddAll
     ensures { λ r. ⌜ AddAllPromise s (take count nets) r ⌝ }
 {

@@ -4,5 +4,5 @@ pub mod Promise
 pub mod Steps
 pub mod Kept
 pub mod Starts
-pub mod OneByOne
+pub mod AllKept
 pub mod Turns

@@ -1,9 +1,10 @@
 -- Definitions only: what each call of the code promises. Nothing is proved here.
 -- Each promise has the value that is handed back, by a definition; `CallPromise`: what that is to the list machine; and that a refused call hands
--- back the very session that it was given, a list of nets where none of them went on.
+-- back the very session that it was given, or of a list of nets what those left that went on.
 use mathlib.Core.Path.{_≡_}
 use mathlib.Core.List.{List}
 use Prim.Native.Nat.{ℕ}
+use lib.ListN.{take}
 use Rattle.board.specs.Board.{Within}
 use Rattle.board.specs.Path.{Convex}
 use Rattle.board_block.specs.View.{blockOf, plainOf}
@@ -32,11 +33,11 @@ pub record AddPromise (s : Session) (n : Net) (r : AfterAdd) : Type 0 where
   pub call : CallPromise s (add n) (addAnswer (r .answer)) (r .session)
   pub kept : (addAnswer (r .answer) ≡ accepted → ⊥) → r .session ≡ s
 
--- "for this call alone a refusal leaves that much changed and no more": what went on before it
+-- "for this call alone a refusal leaves that much changed and no more": the nets that went on alone would have left the same
 pub record AddAllPromise (s : Session) (ns : List Net) (r : AfterAddAll) : Type 0 where
   pub value : r ≡ addAllOf s ns
   pub call : CallPromise s (addAll ns) (addAllAnswer (r .answer)) (r .session)
-  pub kept : r .answer .count ≡ 0 → r .session ≡ s
+  pub kept : r .session ≡ addAllOf s (take (r .answer .count) ns) .session
 
 pub record WithdrawPromise (s : Session) (k : ℕ) (r : AfterWithdraw) : Type 0 where
   pub value : r ≡ withdrawOf s k

@@ -17,7 +17,7 @@ use Rattle.session_answers.specs.Answers.{isAccepted, goesOn}
 use Rattle.session.specs.declared.Session.{Session}
 use Rattle.session.specs.declared.AfterAddAll.{AfterAddAll}
 use Rattle.session.specs.Value.{addSound, noneAdded, withNet, withEach, addAllOf}
-use Rattle.session.specs.OneByOne.{each-refused}
+use Rattle.session.specs.AllKept.{each-refused}
 
 -- DEFINITION: the nets from the next one on lead from a to what the whole list comes to
 pub record Turn (s : Session) (ns : List Net) (a : AfterAddAll) : Type 0 where

@@ -1,5 +1,5 @@
 -- Definitions only: what each call hands back, as a value of the code. Nothing is proved here:
--- `add-promise`, `withdraw-promise` and `take-back-promise` in Kept, and `add-all-promise` in OneByOne say that it is what the list machine gives.
+-- `add-promise`, `withdraw-promise` and `take-back-promise` in Kept, and `add-all-promise` in AllKept say that it is what the list machine gives.
 use mathlib.Core.Bool.{cond}
 use mathlib.Core.List.{List, [], _∷_}
 use Prim.Native.Nat.{ℕ}

@@ -1,5 +1,6 @@
 // Sessions: a block, the nets on its board, and the pile of changes that can be taken back.
-// Each call takes a session and hands back the next. A refused call hands back the session that it was given.
+// Each call takes a session and hands back the next. A refused call hands back the session that it was given; `add_all` hands back the one that the
+// nets before the refused one left.
 use board::Board;
 use board::Row;
 use board_block::Block;
@@ -105,6 +106,7 @@ impl Session {
         self.with_places(nets, pile.lay(change))
     }
 
+    // The single add, on a sound session: `add` calls it after its test, and `add_all` for each net after one test.
     fn add_sound(self, net: Net) -> AfterAdd
         ensures { λ r. ⌜ r ≡ addSound self net ⌝ }
     {
@@ -182,7 +184,7 @@ impl Session {
         self.add_sound(net)
     }
 
-    // None of a list of nets is added so far; an unsound session is refused.
+    // None of a list of nets is added so far; an unsound session is refused. That the arrays have 64 places is told to the walk of `add_all`.
     fn none_added(self) -> AfterAddAll
         ensures { λ r. ⌜ (r ≡ noneAdded self) × Sized self ⌝ }
     {

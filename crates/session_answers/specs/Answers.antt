@@ -5,7 +5,7 @@ use Prim.Native.Nat.{ℕ, _+_}
 use lib.Dec.{ltb}
 use lib.ListN.{getD}
 use Rattle.session_rules.specs.Refusal.{Refusal, refusal}
-use Rattle.session_rules.specs.Machine.{Answer, accepted, refused, wentOn}
+use Rattle.session_rules.specs.Machine.{Answer, accepted, refused, wentOn, refusalOf}
 use Rattle.session_answers.specs.declared.AddAnswer.{AddAnswer}
 use Rattle.session_answers.specs.declared.AddAnswer.the-variants.{Accepted, Unsound, BadNumber, NumberTaken, NoVertex, SameVertex, PinsTaken}
 use Rattle.session_answers.specs.declared.WithdrawAnswer as withdraw
@@ -34,13 +34,7 @@ takeBackAnswer back-is.Accepted = accepted
 takeBackAnswer back-is.Unsound = refused (refusal 20 0)
 takeBackAnswer back-is.PileEmpty = refused (refusal 27 0)
 
--- the refusal that an answer tells, if it tells one
-abbrev pub refusalOf : Answer → Option Refusal
-refusalOf accepted = none
-refusalOf (refused r) = some r
-refusalOf (wentOn k r) = r
-
--- of a list of nets: how many went on, and the refusal of the add after them, if it was refused
+-- of a list of nets: how many went on, and the refusal that stopped it, if one did
 abbrev pub addAllAnswer : AddAllAnswer → Answer
 addAllAnswer a = wentOn (a .count) (refusalOf (addAnswer (a .last)))
 

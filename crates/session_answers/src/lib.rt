@@ -14,7 +14,8 @@ pub enum AddAnswer {
     PinsTaken(u8),
 }
 
-// What adding a list of nets answers: how many went on, and what the last add answered. That is Accepted where none was refused.
+// What adding a list of nets answers: how many went on, and why no more did. That is Accepted where none was refused, Unsound where the session was
+// unsound, and else what the add of the next net answered.
 pub struct AddAllAnswer {
     pub count: usize,
     pub last: AddAnswer,

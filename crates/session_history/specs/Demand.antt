@@ -9,6 +9,7 @@ use Rattle.board.specs.declared.Vertex.{Vertex}
 use Rattle.cut.specs.Order.{Even, FirstOverfull}
 use Rattle.cut.specs.declared.Cut.{Cut}
 use Rattle.routing_rules.specs.Routing.{Routable}
+use Rattle.session_rules.specs.Refusal.{Refusal}
 use Rattle.session_rules.specs.Session.{Session, pairs}
 use Rattle.session_rules.specs.Machine.{after, answers}
 use Rattle.session_rules.specs.Sound.{bare}
@@ -16,6 +17,7 @@ use Rattle.session.specs.declared.Session as code
 use Rattle.session.specs.View.{sessionOf}
 use Rattle.call_rules.specs.Result.{Result, no, yes}
 use Rattle.call_rules.specs.Route.{routeRoom, overfullRefusal, HandsBack, HandsBackBytes}
+use Rattle.route_call.specs.declared.RouteAnswer.{RouteAnswer}
 use Rattle.route_call.specs.Answers.{routeAnswer}
 use Rattle.session_history.specs.Made.{Made, changed, routed, routedBytes, last, callsOf, answersOf, Everywhere}
 
@@ -37,10 +39,14 @@ RoutedRightly m (routed before r after) = routeRoom m ≤ length before → AllE
 RoutedRightly m (routedBytes before r after) = routeRoom m ≤ length before / 4 → AllEven m → Rightly m (routeAnswer r) (HandsBackBytes m before after)
 RoutedRightly m (changed c a t) = Unit {0}
 
+-- two routing calls are "given or refused" alike: each refusal of the one is that of the other
+abbrev pub RefusedAlike : RouteAnswer → RouteAnswer → Type 0
+RefusedAlike x y = (q : Refusal) → (routeAnswer x ≡ no q) ↔ (routeAnswer y ≡ no q)
+
 -- the whole of demand 3, for the calls ms from the fresh session s: the machine starts with its board, no nets and an empty pile
 pub record Demand3 (s : code.Session) (ms : List Made) : Type 0 where
   -- "after it the board, nets and pile are those of 01's list machine,
   pub session : sessionOf (last s ms) ≡ after (bare (sessionOf s .block)) (callsOf ms)
-  -- and each add, withdrawal and take-back was answered as the machine answers."
+  -- and each add, withdrawal and take-back", and each list of nets, "was answered as the machine answers."
   pub answered : answersOf ms ≡ answers (bare (sessionOf s .block)) (callsOf ms)
   pub routings : Everywhere RoutedRightly (bare (sessionOf s .block)) ms

@@ -1,39 +1,95 @@
 -- A list of nets added in one call, beside the same nets in calls of their own, up to the one refused: the sessions handed back stand for the same
 -- (`as-singly`), so that "A routing after such a call is given or refused as after the single adds" (document 02, §1): `routed-as-singly`.
 -- Assumes of each call only its promise.
-use mathlib.Core.Path.{_≡_, sym, _∙_, ap, subst}
-use mathlib.Core.List.{List}
-use mathlib.Core.Logic.{_↔_}
-use mathlib.Core.Option.{Option}
-use Prim.Native.Nat.{ℕ, _+_}
-use lib.ListN.{take}
+use mathlib.Core.Path.{_≡_, refl, sym, _∙_, ap}
+use mathlib.Core.Bool.{false}
+use mathlib.Core.List.{List, [], _∷_}
+use mathlib.Core.Logic.{_↔_, inl, inr}
+use mathlib.Core.Option.{Option, none, some}
+use Prim.Native.Nat.{ℕ, _+_, _/_}
+use native.Mathlib.Omega.{arith}
+use lib.ListN.{length, take}
+use Rattle.count.specs.TruthLaws.{bool}
 use Rattle.net.specs.declared.Net.{Net}
 use Rattle.session_rules.specs.Session as machine
 use Rattle.session_rules.specs.Refusal.{Refusal}
 use Rattle.session_rules.specs.Machine.{Call, addAll, wentOn, step, after}
-use Rattle.session_rules.specs.Sound.{Sound}
+use Rattle.session_rules.specs.Sound.{Sound, sound?, call}
 use Rattle.session_rules.specs.OneByOne.{singly}
+use Rattle.session_laws.specs.Exact.{sound-exact}
 use Rattle.session_laws.specs.OneByOne.{tried-next}
 use Rattle.session.specs.declared.Session.{Session}
 use Rattle.session.specs.View.{sessionOf}
 use Rattle.session.specs.Promise.{CallPromise}
+use Rattle.call_rules.specs.Result.{Result, no, yes}
+use Rattle.call_rules.specs.Route.{routeRefused, Routes, RoutesBytes, refused, given}
 use Rattle.route_call.specs.declared.RouteAnswer.{RouteAnswer}
-use Rattle.session_history.specs.Made.{Made, routed, routedBytes, Meets, Chain, last, callsOf}
+use Rattle.route_call.specs.Answers.{routeAnswer}
+use Rattle.session_history.specs.Made.{Made, changed, routed, routedBytes, Meets, Chain, last, callsOf}
+use Rattle.session_history.specs.Demand.{RefusedAlike}
 use Rattle.session_history.specs.Call.{call-step}
 use Rattle.session_history.specs.History.{from-sound}
 
+-- ── an unsound session stays as it is ──
+unsound-same : (m : machine.Session) (c : Call) → sound? m ≡ false → call m c .next ≡ m
+unfolding call
+unsound-same m c e = rw e refl
+
+unsound-chain : (s : Session) (ms : List Made) → sound? (sessionOf s) ≡ false → Chain s ms → sessionOf (last s ms) ≡ sessionOf s
+unsound-chain s [] e k = refl
+unsound-chain s (changed c a t ∷ ms) e k =
+    let y : sessionOf t ≡ sessionOf s = k .0 .next ∙ unsound-same (sessionOf s) c e in
+    unsound-chain t ms (ap sound? y ∙ e) (k .1) ∙ y
+unsound-chain s (routed before r after ∷ ms) e k = unsound-chain s ms e (k .1)
+unsound-chain s (routedBytes before r after ∷ ms) e k = unsound-chain s ms e (k .1)
+
+-- ── a routing call is refused exactly where the definition refuses it ──
+-- DEFINITION: an answer is a refusal exactly where o is that refusal
+abbrev Refuses : Option Refusal → Result ℕ → Type 0
+Refuses o a = (q : Refusal) → (a ≡ no q) ↔ (o ≡ some q)
+
+when-refused : (o : Option Refusal) (r : Refusal) → o ≡ some r → Refuses o (no r)
+when-refused o r e q = (λ f. e ∙ ap some (cc), λ f. ap no (let g : some r ≡ some q = sym e ∙ f in cc))
+
+when-given : (o : Option Refusal) (n : ℕ) → o ≡ none → Refuses o (yes n)
+when-given o n e q = (
+  λ f. absurd (let z : _≡_ {A = ℕ} 0 1 = cc in omega arith),
+  λ f. absurd (let g : none ≡ some q = sym e ∙ f in let z : _≡_ {A = ℕ} 0 1 = cc in omega arith),
+)
+
+refuses : (m : machine.Session) {before after : List ℕ} {a : Result ℕ} → Routes m before a after → Refuses (routeRefused m (length before)) a
+refuses m (refused {r} e) = when-refused _ r e
+refuses m (given {count = n} e H) = when-given _ n e
+
+refuses-bytes : (m : machine.Session) {before after : List ℕ} {a : Result ℕ} → RoutesBytes m before a after
+    → Refuses (routeRefused m (length before / 4)) a
+refuses-bytes m (refused {r} e) = when-refused _ r e
+refuses-bytes m (given {count = n} e H) = when-given _ n e
+
+alike : {o : Option Refusal} {a b : Result ℕ} → Refuses o a → Refuses o b → (q : Refusal) → (a ≡ no q) ↔ (b ≡ no q)
+alike f g q = (λ e. g q .1 (f q .0 e), λ e. f q .1 (g q .0 e))
+
+-- ── the one call, and the single adds ──
 -- t is handed back by the one call, where k nets went on; ms are single adds of these and of the one after them, if there is one
-module _ (s t : Session) (ns : List Net) (k : ℕ) (r : Option Refusal) (ms : List Made) (h : Sound (sessionOf s))
-    (one : CallPromise s (addAll ns) (wentOn k r) t) (each : Chain s ms) (single : callsOf ms ≡ singly (take (k + 1) ns)) where
-  pub as-singly : sessionOf (last s ms) ≡ sessionOf t
-  as-singly =
+module _ (s t : Session) (ns : List Net) (k : ℕ) (r : Option Refusal) (ms : List Made) (one : CallPromise s (addAll ns) (wentOn k r) t)
+    (each : Chain s ms) (single : callsOf ms ≡ singly (take (k + 1) ns)) where
+  when-sound : Sound (sessionOf s) → sessionOf (last s ms) ≡ sessionOf t
+  when-sound h =
       let g = call-step (sessionOf s) (addAll ns) h in
       let answer : step (sessionOf s) (addAll ns) .answer ≡ wentOn k r = sym (rw g at (one .answers)) in
       let next : sessionOf t ≡ step (sessionOf s) (addAll ns) .next = rw g at (one .next) in
       from-sound s ms h each .session ∙ ap (λ (cs : List Call). after (sessionOf s) cs) single ∙ tried-next (sessionOf s) ns k r answer ∙ sym next
 
-  pub routed-as-singly : (before : List ℕ) (x : RouteAnswer) (after : List ℕ)
-      → (Meets t (routed before x after) ↔ Meets (last s ms) (routed before x after))
-      × (Meets t (routedBytes before x after) ↔ Meets (last s ms) (routedBytes before x after))
-  routed-as-singly before x after =
-      ((λ m. rw as-singly m, λ m. rw as-singly at m), (λ m. rw as-singly m, λ m. rw as-singly at m))
+  pub as-singly : sessionOf (last s ms) ≡ sessionOf t
+  as-singly = elim (bool (sound? (sessionOf s))) [
+    | inl e ↦ when-sound (sound-exact (sessionOf s) .0 e)
+    | inr e ↦ unsound-chain s ms e each ∙ sym (one .next ∙ unsound-same (sessionOf s) (addAll ns) e)
+  ]
+
+  pub routed-as-singly : (before : List ℕ) (x y : RouteAnswer) (after after′ : List ℕ)
+      → (Meets t (routed before x after) → Meets (last s ms) (routed before y after′) → RefusedAlike x y)
+      × (Meets t (routedBytes before x after) → Meets (last s ms) (routedBytes before y after′) → RefusedAlike x y)
+  routed-as-singly before x y after after′ = (
+    λ m n. alike (refuses (sessionOf t) m) (refuses (sessionOf t) (rw as-singly at n)),
+    λ m n. alike (refuses-bytes (sessionOf t) m) (refuses-bytes (sessionOf t) (rw as-singly at n)),
+  )

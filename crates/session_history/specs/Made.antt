@@ -5,8 +5,9 @@ use mathlib.Core.Path.{_≡_}
 use mathlib.Core.List.{List, [], _∷_, _++_}
 use mathlib.Core.Option.{Option, none, some}
 use Prim.Native.Nat.{ℕ}
+use Rattle.session_rules.specs.Refusal.{Refusal}
 use Rattle.session_rules.specs.Session as machine
-use Rattle.session_rules.specs.Machine.{Call, Answer, accepted, refused, wentOn, after}
+use Rattle.session_rules.specs.Machine.{Call, Answer, refusalOf, after}
 use Rattle.session.specs.declared.Session.{Session}
 use Rattle.session.specs.View.{sessionOf}
 use Rattle.session.specs.Promise.{CallPromise}
@@ -16,13 +17,13 @@ use Rattle.route_call.specs.Answers.{routeAnswer}
 
 -- a call that was made, with its arguments, and what it handed back
 pub data Made : Type 0 where
-  -- one that the machine takes, as an add, a withdrawal or a take-back: its answer, and the session handed back
+  -- one that the machine takes, as an add, a list of nets, a withdrawal or a take-back: its answer, and the session handed back
   changed : Call → Answer → Session → Made
   -- routing: the lent buffer of words, or of bytes, before; the answer; the buffer after
   routed : (before : List ℕ) → RouteAnswer → (after : List ℕ) → Made
   routedBytes : (before : List ℕ) → RouteAnswer → (after : List ℕ) → Made
 
--- made on the session s, it met the promise of its kind; AddPromise, WithdrawPromise and TakeBackPromise each have a CallPromise
+-- made on the session s, it met the promise of its kind; AddPromise, AddAllPromise, WithdrawPromise and TakeBackPromise each have a CallPromise
 abbrev pub Meets : Session → Made → Type 0
 Meets s (changed c a t) = CallPromise s c a t
 Meets s (routed before r after) = Routes (sessionOf s) before (routeAnswer r) after
@@ -71,12 +72,13 @@ Everywhere P s [] = Unit {0}
 Everywhere P s (m ∷ ms) = P s m × Everywhere P (after s (callOf m)) ms
 
 -- ── the numbers of answers ──
--- the number of a refusal, 0 where the call is accepted
+-- the number of a refusal, 0 where there is none
+abbrev pub numberIn : Option Refusal → ℕ
+numberIn none = 0
+numberIn (some r) = r .number
+
 abbrev pub numberOf : Answer → ℕ
-numberOf accepted = 0
-numberOf (refused r) = r .number
-numberOf (wentOn k none) = 0
-numberOf (wentOn k (some r)) = r .number
+numberOf a = numberIn (refusalOf a)
 
 -- none of the answers is the refusal of this number
 abbrev pub Never : ℕ → List Answer → Type 0

@@ -6,3 +6,4 @@ pub mod Fine
 pub mod Addable
 pub mod Stays
 pub mod OneByOne
+pub mod Few

@@ -63,49 +63,47 @@ module _ (s : Session) (n : Net) where
   refused-same r e = rw (refused-only r e) refl
 
 -- ── the call is the single adds ──
--- DEFINITION: the same with k nets of the list on already
-record From (k : ℕ) (s : Session) (ns : List Net) (x : Step) : Type 0 where
-  on : List Net
-  left : List Net
-  in-order : ns ≡ on ++ left
-  went : answers s (singly on) ≡ replicate (length on) accepted
-  stay : x .next ≡ after s (singly on)
-  refusal : Option Refusal
-  stops : StopsAt (x .next) left refusal
-  told : x .answer ≡ wentOn (k + length on) refusal
+-- DEFINITION: what is handed back where i nets went on
+abbrev stopped : (i : ℕ) → Option Refusal → Session → Step
+stopped i r t = record { answer = wentOn i r; next = t }
 
-from-none : (k : ℕ) (s : Session) (ns : List Net) (refusal : Option Refusal) → StopsAt s ns refusal
-    → From k s ns (record { answer = wentOn k refusal; next = s })
+-- DEFINITION: x is handed back where k nets of the list were on already
+record Resumed (k : ℕ) (s : Session) (ns : List Net) (x : Step) : Type 0 where
+  answer : Answer
+  these : OneByOne s ns answer (x .next)
+  told : x .answer ≡ wentOn (k + length (these .on)) (these .refusal)
+
+from-none : (k : ℕ) (s : Session) (ns : List Net) (r : Option Refusal) → StopsAt s ns r → Resumed k s ns (stopped k r s)
 unfolding after answers
 from-none k s ns r e = record {
-  on = [];
-  left = ns;
-  in-order = refl;
-  went = refl;
-  stay = refl;
-  refusal = r;
-  stops = e;
+  answer = wentOn 0 r;
+  these = record { on = []; left = ns; in-order = refl; went = refl; stay = refl; refusal = r; stops = e; told = refl };
   told = rw (add-zero k) refl;
 }
 
 from-one : (k : ℕ) (s : Session) (n : Net) (ns : List Net) (r : Option Refusal) (x : Step) → addRefused (s .block) (s .nets) n ≡ r
-    → From (k + 1) (added n s) ns x → From k s (n ∷ ns) (stopOr r k s x)
+    → Resumed (k + 1) (added n s) ns x → Resumed k s (n ∷ ns) (stopOr r k s x)
 unfolding after answers
 from-one k s n ns none x e f =
     let a = add-accepted s n e in
+    let o = f .these in
     record {
-      on = n ∷ f .on;
-      left = f .left;
-      in-order = ap (λ (l : List Net). n ∷ l) (f .in-order);
-      went = rw (a .0, a .1) (ap (λ (l : List Answer). accepted ∷ l) (f .went));
-      stay = f .stay ∙ ap (λ (t : Session). after t (singly (f .on))) (sym (a .1));
-      refusal = f .refusal;
-      stops = f .stops;
-      told = f .told ∙ ap (λ (i : ℕ). wentOn i (f .refusal)) (omega arith);
+      answer = wentOn (suc (length (o .on))) (o .refusal);
+      these = record {
+        on = n ∷ o .on;
+        left = o .left;
+        in-order = ap (λ (l : List Net). n ∷ l) (o .in-order);
+        went = rw (a .0, a .1) (ap (λ (l : List Answer). accepted ∷ l) (o .went));
+        stay = o .stay ∙ ap (λ (t : Session). after t (singly (o .on))) (sym (a .1));
+        refusal = o .refusal;
+        stops = o .stops;
+        told = refl;
+      };
+      told = f .told ∙ ap (λ (i : ℕ). wentOn i (o .refusal)) (omega arith);
     }
 from-one k s n ns (some r) x e f = from-none k s (n ∷ ns) (some r) (add-refused s n r e)
 
-all-from : (k : ℕ) (ns : List Net) (s : Session) → From k s ns (addAllStep k ns s)
+all-from : (k : ℕ) (ns : List Net) (s : Session) → Resumed k s ns (addAllStep k ns s)
 unfolding addAllStep
 all-from k [] s = from-none k s [] none refl
 all-from k (n ∷ ns) s =
@@ -114,23 +112,13 @@ all-from k (n ∷ ns) s =
 pub one-by-one : (s : Session) (ns : List Net) → OneByOne s ns (step s (addAll ns) .answer) (step s (addAll ns) .next)
 unfolding step
 one-by-one s ns =
-    let f = all-from 0 ns s in record {
-      on = f .on;
-      left = f .left;
-      in-order = f .in-order;
-      went = f .went;
-      stay = f .stay;
-      refusal = f .refusal;
-      stops = f .stops;
-      told = f .told ∙ ap (λ (i : ℕ). wentOn i (f .refusal)) (zero-add (length (f .on)));
-    }
+    let f = all-from 0 ns s in
+    let o = f .these in
+    let e : addAllStep 0 ns s .answer ≡ f .answer = f .told ∙ ap (λ (i : ℕ). wentOn i (o .refusal)) (zero-add (length (o .on))) ∙ sym (o .told) in
+    subst (λ (a : Answer). OneByOne s ns a (addAllStep 0 ns s .next)) (sym e) o
 
 -- ── what is the single adds is the call ──
--- DEFINITION: what is handed back where i nets went on
-abbrev stopped : (i : ℕ) → Option Refusal → Session → Step
-stopped i r t = record { answer = wentOn i r; next = t }
-
--- DEFINITION: the same where these nets went on, after k others
+-- DEFINITION: what is handed back where these nets went on, after k others
 abbrev ended : (k : ℕ) → Session → (on : List Net) → Option Refusal → Step
 ended k s on r = stopped (k + length on) r (after s (singly on))
 

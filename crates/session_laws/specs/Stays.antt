@@ -113,7 +113,7 @@ sound-back s c cs h e =
     let n : suc (length cs) ≤ pileLimit = rw e at (h .short) in
     fine-sound s (takenBack c cs s) h refl (fine-reversed (s .block) (s .nets) c (sound-fine s h) (t .0)) (omega arith) (t .1)
 
-add-stays : (s : Session) (n : Net) (r : Option Refusal) → addRefused (s .block) (s .nets) n ≡ r → Sound s → Sound (addStep r n s .next)
+pub add-stays : (s : Session) (n : Net) (r : Option Refusal) → addRefused (s .block) (s .nets) n ≡ r → Sound s → Sound (addStep r n s .next)
 unfolding accepts
 add-stays s n none e h = sound-added s n h (rw e refl)
 add-stays s n (some r) e h = h

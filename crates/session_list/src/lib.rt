@@ -7,7 +7,7 @@ use numbers::least;
 use session::AfterAddAll;
 use session::Session;
 
-// The places of such an array: one more than a board can hold, so that a longer list has stopped at one of these nets.
+// The places of such an array: one more than the nets that a board can hold, so that a longer list has stopped at one of these (law `enough`).
 pub const LISTED: usize = 65;
 
 // Lends the first n nets.
@@ -18,7 +18,7 @@ fn lent(s: Session, nets: [Net; LISTED], n: usize) -> AfterAddAll
     s.add_all(&nets[..n])
 }
 
-// Adds the first nets, so many, in list order, and stops at the first that is refused; all 65 where there are fewer.
+// Adds the first nets, so many, in list order, and stops at the first that is refused; all 65 are tried where the count is greater.
 pub fn add_first(s: Session, nets: [Net; LISTED], count: usize) -> AfterAddAll
     ensures { λ r. ⌜ AddAllPromise s (take count nets) r ⌝ }
 {

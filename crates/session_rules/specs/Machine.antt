@@ -25,6 +25,12 @@ pub data Answer : Type 0 where
   refused : Refusal → Answer
   wentOn : ℕ → Option Refusal → Answer
 
+-- the refusal that an answer tells, if it tells one
+abbrev pub refusalOf : Answer → Option Refusal
+refusalOf accepted = none
+refusalOf (refused r) = some r
+refusalOf (wentOn k r) = r
+
 -- what a call hands back: its answer and the next session
 pub record Step : Type 0 where
   pub answer : Answer
@@ -68,8 +74,8 @@ addStep (some r) n s = refuse r s
 
 -- 02, §1: "stopping at the first that is refused": a net that is refused ends the list, and the session stays as the k nets before it left it
 abbrev pub stopOr : Option Refusal → (k : ℕ) → Session → Step → Step
-stopOr none k s goesOn = goesOn
-stopOr (some r) k s goesOn = record { answer = wentOn k (some r); next = s }
+stopOr none k s rest = rest
+stopOr (some r) k s rest = record { answer = wentOn k (some r); next = s }
 
 -- "The result is that of adding them one by one in list order .. The nets before it stay on and each is a change on the pile"; "An empty list goes
 -- on with 0". k nets of the list went on before these. Laws: `one-by-one`, `one-by-one-only`

@@ -5,7 +5,7 @@ use mathlib.Core.Bool.{true}
 use mathlib.Core.List.{List, [], _∷_, _++_, map}
 use mathlib.Core.Option.{Option, none, some}
 use Prim.Native.Nat.{ℕ, zero, suc}
-use lib.ListN.{length, take}
+use lib.ListN.{length, take, drop}
 use Rattle.net.specs.declared.Net.{Net}
 use Rattle.net.specs.declared.Change.the-variants.{Added, Withdrawn}
 use Rattle.board_block.specs.Block.{plain}
@@ -96,21 +96,26 @@ lists : map answerList (answers (bare (plain (board (row 0 1 ∷ [])))) (
 unfolding everything
 lists = refl
 
--- what a list leaves that was refused at its third net
-list-history : after (bare (plain (board (row 0 1 ∷ [])))) (addAll (net 2 0 0 1 1 ∷ net 1 1 0 0 1 ∷ net 0 0 0 1 1 ∷ net 3 0 0 1 1 ∷ []) ∷ [])
+-- what a list leaves that was refused at its third net: the two before it, each with its change
+list-history : after (bare (plain (board (row 0 1 ∷ [])))) (addAll (net 4 0 0 1 1 ∷ net 3 1 0 0 1 ∷ net 0 0 0 1 1 ∷ net 2 0 0 1 1 ∷ []) ∷ [])
     ≡ record {
       block = plain (board (row 0 1 ∷ []));
-      nets = net 1 1 0 0 1 ∷ net 2 0 0 1 1 ∷ [];
-      pile = Added (net 1 1 0 0 1) ∷ Added (net 2 0 0 1 1) ∷ [];
+      nets = net 3 1 0 0 1 ∷ net 4 0 0 1 1 ∷ [];
+      pile = Added (net 3 1 0 0 1) ∷ Added (net 4 0 0 1 1) ∷ [];
     }
 unfolding everything
 list-history = refl
 
--- a full pile loses its lowest change at every net: after a list of two its top are these, and 64 changes are left
-list-pile : let t = after (bare (plain (board (row 0 1 ∷ [])))) (upAndDown 32 ++ (addAll (net 1 0 0 1 1 ∷ net 2 0 1 1 0 ∷ []) ∷ [])) in
-    (length (t .pile) ≡ 64) × (take 3 (t .pile) ≡ Added (net 2 0 1 1 0) ∷ Added (net 1 0 0 1 1) ∷ Withdrawn (net 1 0 0 1 1) ∷ [])
+-- a full pile loses its lowest change at every net: of 64 changes, a list of two takes the place of the lowest two, which are net 3's
+abbrev crowded : List Call
+crowded = add (net 3 0 0 1 1) ∷ withdraw 3 ∷ upAndDown 31
+
+list-pile : let t = after (bare (plain (board (row 0 1 ∷ [])))) (crowded ++ (addAll (net 1 0 0 1 1 ∷ net 2 0 1 1 0 ∷ []) ∷ [])) in
+    (length (t .pile) ≡ 64)
+    × (take 3 (t .pile) ≡ Added (net 2 0 1 1 0) ∷ Added (net 1 0 0 1 1) ∷ Withdrawn (net 1 0 0 1 1) ∷ [])
+    × (drop 63 (t .pile) ≡ Added (net 1 0 0 1 1) ∷ [])
 unfolding everything
-list-pile = (refl, refl)
+list-pile = (refl, refl, refl)
 
 -- 20 for any list, the empty one too, and none went on
 unsound-lists : map (λ (ns : List Net). answerList (call (bare (plain (board []))) (addAll ns) .answer)) ([] ∷ (net 1 0 0 1 1 ∷ []) ∷ [])

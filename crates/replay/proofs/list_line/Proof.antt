@@ -5,8 +5,8 @@ use mathlib.Core.Path.{_≡_, refl}
 use mathlib.Core.List.{[], _∷_}
 use Prim.Native.Nat.{ℕ}
 use Rattle.text.specs.Line.{lineOf, acceptedName, refusedAfterLine}
-use Rattle.session_rules.specs.Machine.{wentOn}
-use Rattle.session_answers.specs.Answers.{addAnswer, refusalOf, told}
+use Rattle.session_rules.specs.Machine.{wentOn, refusalOf}
+use Rattle.session_answers.specs.Answers.{addAnswer, told}
 use Rattle.session_answers.specs.declared.AddAnswer.{AddAnswer}
 use Rattle.session_answers.specs.declared.AddAnswer.the-variants.{Accepted, Unsound, BadNumber, NumberTaken, NoVertex, SameVertex, PinsTaken}
 use Rattle.replay.specs.Text.{answerLine}

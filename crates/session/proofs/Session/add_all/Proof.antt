@@ -123,7 +123,7 @@ use Rattle.session.specs.declared.Session.{Session}
 use Rattle.session.specs.declared.AfterAddAll.{AfterAddAll}
 use Rattle.session.specs.View.{Sized}
 use Rattle.session.specs.Value.{noneAdded, withNet, addAllOf}
-use Rattle.session.specs.OneByOne.{add-all-promise}
+use Rattle.session.specs.AllKept.{add-all-promise}
 use Rattle.session.specs.Turns.{Turn, left, turn-first, turn-more, turn-next, turn-last}
 use Rattle.net.proofs.Net as N
 use Rattle.net.proofs.Net.Laws as N′

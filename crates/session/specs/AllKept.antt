@@ -5,16 +5,16 @@ use mathlib.Core.Bool.{Bool, true, false, cond}
 use mathlib.Core.List.{List, [], _∷_}
 use mathlib.Core.Logic.{inl, inr}
 use mathlib.Core.Option.{Option, none, some}
-use Prim.Native.Nat.{ℕ, _+_, _≤_, _<_}
+use Prim.Native.Nat.{ℕ, zero, suc, _+_, _≤_}
 use native.Mathlib.Omega.{arith}
-use lib.ListN.{length}
+use lib.ListN.{take}
 use Rattle.count.specs.TruthLaws.{bool}
 use Rattle.board_block.specs.View.{blockOf}
 use Rattle.net.specs.declared.Net.{Net}
 use Rattle.net.specs.declared.Change.the-variants.{Added}
 use Rattle.session_rules.specs.Refusal.{Refusal}
 use Rattle.session_rules.specs.Add.{addRefused}
-use Rattle.session_rules.specs.Machine.{add, addAll, Answer, accepted, refused, wentOn, Step, addStep, stopOr, addAllStep, step, added}
+use Rattle.session_rules.specs.Machine.{add, addAll, accepted, refused, wentOn, Step, stopOr, addAllStep, step, added}
 use Rattle.session_rules.specs.Sound.{Sound, sound?, call}
 use Rattle.session_laws.specs.Exact.{sound-exact}
 use Rattle.session_laws.specs.Stays.{stays-sound}
@@ -23,7 +23,7 @@ use Rattle.net_places.specs.Places.{netsOf, holding}
 use Rattle.session_pile.specs.Changes.{length-laid}
 use Rattle.session_answers.specs.declared.AddAnswer.{AddAnswer}
 use Rattle.session_answers.specs.declared.AddAnswer.the-variants.{Accepted, Unsound, BadNumber, NumberTaken, NoVertex, SameVertex, PinsTaken}
-use Rattle.session_answers.specs.Answers.{addAnswer, isAccepted, refusalOf, addAllAnswer}
+use Rattle.session_answers.specs.Answers.{addAnswer, isAccepted, addAllAnswer}
 use Rattle.session_add.specs.Lines.{checkOf}
 use Rattle.session.specs.declared.Session.{Session}
 use Rattle.session.specs.declared.AfterAddAll.{AfterAddAll}
@@ -156,21 +156,42 @@ one-kept a n c = elim (bool (isAccepted (addSound (a .session) n .answer))) [
       absurd (let z : _≡_ {A = ℕ} 0 1 = cc in omega arith))
 ]
 
-each-kept : (ns : List Net) (a : AfterAddAll) → withEach a ns .answer .count ≡ a .answer .count → withEach a ns .session ≡ a .session
+each-none : (ns : List Net) (a : AfterAddAll) → withEach a ns .answer .count ≡ a .answer .count → withEach a ns .session ≡ a .session
 unfolding withEach
-each-kept [] a c = refl
-each-kept (n ∷ ns) a c = elim (bool (isAccepted (a .answer .last))) [
+each-none [] a c = refl
+each-none (n ∷ ns) a c = elim (bool (isAccepted (a .answer .last))) [
   | inl e ↦
       let d : withEach (withNet a n) ns .answer .count ≡ a .answer .count = rw e at c in
       let l = count-one a n in
       let m = count-each ns (withNet a n) in
-      rw e (each-kept ns (withNet a n) (omega arith) ∙ one-kept a n (omega arith))
+      rw e (each-none ns (withNet a n) (omega arith) ∙ one-kept a n (omega arith))
   | inr e ↦ rw e refl
 ]
 
-all-kept : (s : Session) (ns : List Net) → addAllOf s ns .answer .count ≡ 0 → addAllOf s ns .session ≡ s
+-- ── the nets that went on would have left the same by themselves ──
+one-counted : (a : AfterAddAll) (n : Net) → isAccepted (withNet a n .answer .last) ≡ true → withNet a n .answer .count ≡ a .answer .count + 1
+unfolding withNet
+one-counted a n e = rw e refl
+
+each-kept : (ns : List Net) (a : AfterAddAll) (k : ℕ) → withEach a ns .answer .count ≡ a .answer .count + k
+    → withEach a ns .session ≡ withEach a (take k ns) .session
+unfolding withEach
+each-kept ns a zero c = each-none ns a (omega arith)
+each-kept [] a (suc k) c = refl
+each-kept (n ∷ ns) a (suc k) c = elim (bool (isAccepted (a .answer .last))) [
+  | inl e ↦
+      let b = withNet a n in
+      let d : withEach b ns .answer .count ≡ a .answer .count + suc k = rw e at c in
+      rw e (elim (bool (isAccepted (b .answer .last))) [
+        | inl f ↦ let g = one-counted a n f in each-kept ns b k (omega arith)
+        | inr f ↦ rw (each-refused ns b f, each-refused (take k ns) b f) refl
+      ])
+  | inr e ↦ rw e refl
+]
+
+all-kept : (s : Session) (ns : List Net) → addAllOf s ns .session ≡ addAllOf s (take (addAllOf s ns .answer .count) ns) .session
 unfolding noneAdded
-all-kept s ns c = each-kept ns (noneAdded s) c
+all-kept s ns = each-kept ns (noneAdded s) (addAllOf s ns .answer .count) (omega arith)
 
 pub add-all-promise : (s : Session) (ns : List Net) (r : AfterAddAll) → Sized s → r ≡ addAllOf s ns → AddAllPromise s ns r
 add-all-promise s ns r z e = rw e (record { value = refl; call = all-call s ns z; kept = all-kept s ns })

@@ -1,0 +1,1175 @@
+//! Holds the program replay, run on random texts of calls, against a list machine written from the requirements alone.
+//!
+//!     sessions [SEED]          all cases
+//!     sessions SEED s CASE     one case again
+//!
+//! The first difference ends the run with status 1 and prints seed, case, the text and both outputs. So does a run whose texts reach too little.
+//! With SESSIONS_COUNTS set in the environment, all that was reached is printed with its count.
+
+#[allow(dead_code)]
+mod generate;
+mod independent;
+
+use generate::{convex_rows, Random};
+use independent::{Board, Net, Vertex};
+use std::collections::{BTreeMap, VecDeque};
+use std::io::Write;
+use std::process::{Command, Stdio};
+use std::time::Instant;
+
+const PROGRAM: &str = "target/bin/replay";
+const CASES: u64 = 3_000;
+/// The longest text that the program reads.
+const MOST_BYTES: usize = 65_536;
+/// The most changes on a pile.
+const PILE: usize = 64;
+
+/// A refusal's number and place.
+type Refused = (u32, u32);
+type Rows = Vec<(usize, usize)>;
+type Counts = BTreeMap<String, u64>;
+
+// ---------------------------------------------------------------- the list machine
+
+#[derive(Clone, Debug, PartialEq, Eq)]
+enum Change {
+    Added(Net),
+    Withdrawn(Net),
+}
+
+/// The board with its nets in rising number, and the pile, its lowest change first. Besides, the answers so far and what was reached.
+#[derive(Clone)]
+struct Machine {
+    board: Board,
+    pile: VecDeque<Change>,
+    /// What makes the board unsound, once it was looked for.
+    flaw: Option<Option<&'static str>>,
+    /// How many changes full piles have lost.
+    lost: u64,
+    output: String,
+    counts: Counts,
+}
+
+/// What keeps a session on these rows from being sound.
+fn flaw(rows: &[(usize, usize)]) -> Option<&'static str> {
+    if rows.is_empty() {
+        return Some("no rows");
+    }
+    if rows.len() > 31 {
+        return Some(match rows.len() {
+            32 => "32 rows",
+            33..=255 => "33 rows or more",
+            _ => "256 rows or more",
+        });
+    }
+    if rows.iter().any(|row| row.0 >= row.1 || row.1 > 31) {
+        return Some("a row out of bounds");
+    }
+    if !Board::bare(rows).convex() {
+        return Some("not convex");
+    }
+    None
+}
+
+/// The refusal that an add of this net gets on a sound session: the table's lines in their order, at each the first terminal before the second.
+fn add_refused(board: &Board, net: &Net) -> Option<Refused> {
+    let ends = [net.first, net.second];
+    let full = |v: Vertex| board.terminals(v) >= board.pins(v);
+    let refused = if net.number == 0 || net.number > 64 {
+        Some((21, 0))
+    } else if board.nets.iter().any(|n| n.number == net.number) {
+        Some((22, 0))
+    } else if let Some(end) = ends.iter().position(|&v| !board.vertex(v)) {
+        Some((23, end as u32))
+    } else if net.first == net.second {
+        Some((24, 0))
+    } else {
+        ends.iter().position(|&v| full(v)).map(|end| (25, end as u32))
+    };
+    // The reader of board words has the same check without the place.
+    assert_eq!(refused.map(|r| r.0), board.add_refused(net));
+    refused
+}
+
+/// Puts a net in, by its number.
+fn put(board: &mut Board, net: &Net) {
+    let at = board.nets.iter().position(|n| n.number > net.number).unwrap_or(board.nets.len());
+    board.nets.insert(at, net.clone());
+}
+
+/// Takes the net of that number out.
+fn take(board: &mut Board, number: u32) -> Option<Net> {
+    let at = board.nets.iter().position(|n| n.number == number)?;
+    Some(board.nets.remove(at))
+}
+
+impl Machine {
+    fn new() -> Machine {
+        Machine { board: Board::bare(&[]), pile: VecDeque::new(), flaw: None, lost: 0, output: String::new(), counts: Counts::new() }
+    }
+
+    /// A row more; the session starts afresh.
+    fn row(&mut self, left: usize, right: usize) {
+        if !self.pile.is_empty() {
+            self.count("a row dropped a session with changes");
+        }
+        self.board.rows.push((left, right));
+        self.board.nets.clear();
+        self.pile.clear();
+        self.flaw = None;
+    }
+
+    /// 20 where the session is not sound. From a fresh session on, calls keep nets and pile sound (see `lifts`), so the board decides.
+    fn unsound(&mut self) -> Result<(), Refused> {
+        if self.flaw.is_none() {
+            let found = flaw(&self.board.rows);
+            let rows = self.board.rows.len();
+            self.count(&format!("session: {}", found.unwrap_or("sound")));
+            if found.is_none() && (rows == 1 || rows == 31) {
+                self.count(&format!("session: sound, rows: {rows}"));
+            }
+            self.flaw = Some(found);
+        }
+        match self.flaw {
+            Some(Some(_)) => Err((20, 0)),
+            _ => Ok(()),
+        }
+    }
+
+    /// Lays a change on the pile; a full pile loses its lowest.
+    fn lay(&mut self, change: Change) {
+        if self.pile.len() == PILE {
+            self.pile.pop_front();
+            self.lost += 1;
+        }
+        self.pile.push_back(change);
+    }
+
+    fn add(&mut self, net: &Net) -> Result<(), Refused> {
+        self.unsound()?;
+        if let Some(refused) = add_refused(&self.board, net) {
+            return Err(refused);
+        }
+        put(&mut self.board, net);
+        self.lay(Change::Added(net.clone()));
+        Ok(())
+    }
+
+    /// The nets one by one up to the first that is refused. Answers with how many went on.
+    fn adds(&mut self, nets: &[Net]) -> (usize, Result<(), Refused>) {
+        // An unsound session is refused first, by an empty list too.
+        if let Err(refused) = self.unsound() {
+            return (0, Err(refused));
+        }
+        for (count, net) in nets.iter().enumerate() {
+            if let Err(refused) = self.add(net) {
+                return (count, Err(refused));
+            }
+        }
+        (nets.len(), Ok(()))
+    }
+
+    fn withdraw(&mut self, number: u32) -> Result<(), Refused> {
+        self.unsound()?;
+        let net = take(&mut self.board, number).ok_or((26, 0))?;
+        self.lay(Change::Withdrawn(net));
+        Ok(())
+    }
+
+    fn take_back(&mut self) -> Result<(), Refused> {
+        self.unsound()?;
+        match self.pile.pop_back().ok_or((27, 0))? {
+            Change::Added(net) => {
+                assert_eq!(take(&mut self.board, net.number), Some(net));
+                self.count("back: an added net left");
+            }
+            Change::Withdrawn(net) => {
+                put(&mut self.board, &net);
+                self.count("back: a withdrawn net returned");
+            }
+        }
+        Ok(())
+    }
+
+    /// The rest of soundness by its definition: the nets could all be added to the bare board, and the pile can be lifted to the bottom.
+    fn lifts(&self) -> bool {
+        let mut board = Board::bare(&self.board.rows);
+        for net in &self.board.nets {
+            if add_refused(&board, net).is_some() {
+                return false;
+            }
+            put(&mut board, net);
+        }
+        self.pile.len() <= PILE
+            && self.pile.iter().rev().all(|change| match change {
+                Change::Added(net) => take(&mut board, net.number).as_ref() == Some(net),
+                Change::Withdrawn(net) => {
+                    let accepted = add_refused(&board, net).is_none();
+                    put(&mut board, net);
+                    accepted
+                }
+            })
+    }
+}
+
+// ---------------------------------------------------------------- the text and its answers
+
+/// A word in decimal; above 249 it is read as 255.
+fn number(word: &str) -> usize {
+    let value = word.bytes().fold(0, |value, digit| (10 * value + (digit - b'0') as usize).min(1000));
+    if value > 249 {
+        255
+    } else {
+        value
+    }
+}
+
+/// A net from five numbers, 0 for each that is missing.
+fn net_of(numbers: &[usize]) -> Net {
+    let n = |i: usize| numbers.get(i).copied().unwrap_or(0);
+    Net { number: n(0) as u32, first: (n(1), n(2)), second: (n(3), n(4)) }
+}
+
+fn net_text(net: &Net) -> String {
+    format!("{} {} {} {} {}", net.number, net.first.0, net.first.1, net.second.0, net.second.1)
+}
+
+impl Machine {
+    /// One line of the text: its first word, whole, tells the call; other lines are passed over.
+    fn line(&mut self, line: &str) {
+        let mut words = line.split(' ').filter(|word| !word.is_empty());
+        let call = words.next().unwrap_or("");
+        if !["row", "add", "adds", "withdraw", "back"].contains(&call) {
+            return self.count_passed_over(call);
+        }
+        let numbers: Vec<usize> = words.map(number).collect();
+        if call != "row" {
+            self.count("call");
+        }
+        self.count_numbers(call, &numbers);
+        let lost = self.lost;
+        match call {
+            "row" => self.row(numbers.first().copied().unwrap_or(0), numbers.get(1).copied().unwrap_or(0)),
+            "adds" => self.list(&numbers),
+            _ => {
+                let result = match call {
+                    "add" => self.add(&net_of(&numbers)),
+                    "withdraw" => self.withdraw(numbers.first().copied().unwrap_or(0) as u32),
+                    _ => self.take_back(),
+                };
+                self.count_result(call, result);
+                self.output += &match result {
+                    Ok(()) => "accepted\n".to_string(),
+                    Err((number, place)) => format!("refused {number} {place}\n"),
+                };
+            }
+        }
+        if self.lost > lost {
+            self.count(&format!("{call}: a pile of 64 lost changes"));
+        }
+    }
+
+    /// The call adds and its answer.
+    fn list(&mut self, numbers: &[usize]) {
+        let nets: Vec<Net> = numbers.chunks(5).map(net_of).collect();
+        let (count, result) = self.adds(&nets);
+        self.count_result("adds", result);
+        self.count_list(&nets, count, result);
+        self.output += &match result {
+            Ok(()) => format!("accepted {count}\n"),
+            Err((number, place)) => format!("refused {number} {place} after {count}\n"),
+        };
+    }
+
+    /// After the text: the nets, then the pile from its top.
+    fn finish(&mut self) {
+        assert!(self.lifts(), "the machine's own session became unsound");
+        for net in &self.board.nets {
+            self.output += &format!("net {}\n", net_text(net));
+        }
+        for change in self.pile.iter().rev() {
+            self.output += &match change {
+                Change::Added(net) => format!("added {}\n", net_text(net)),
+                Change::Withdrawn(net) => format!("withdrawn {}\n", net_text(net)),
+            };
+        }
+    }
+}
+
+/// What the text's calls are answered.
+fn answered(text: &str) -> (String, Counts) {
+    let mut machine = Machine::new();
+    text.split('\n').for_each(|line| machine.line(line));
+    machine.finish();
+    (machine.output, machine.counts)
+}
+
+// ---------------------------------------------------------------- what was reached
+
+impl Machine {
+    fn count(&mut self, what: &str) {
+        match self.counts.get_mut(what) {
+            Some(count) => *count += 1,
+            None => drop(self.counts.insert(what.to_string(), 1)),
+        }
+    }
+
+    fn count_result(&mut self, call: &str, result: Result<(), Refused>) {
+        if result == Err((27, 0)) && !self.board.nets.is_empty() {
+            self.count("back: pile empty, nets left, since changes were lost");
+        }
+        match result {
+            Ok(()) => self.count(&format!("{call} accepted")),
+            Err((number, place)) => self.count(&format!("{call} refused {number} at {place}")),
+        }
+    }
+
+    fn count_passed_over(&mut self, word: &str) {
+        let like_a_call = ["row", "add", "withdraw", "back"].iter().any(|call| word.starts_with(call));
+        self.count(match word {
+            "" => "line without a word",
+            _ if like_a_call => "line passed over that begins as a call does",
+            _ => "line passed over",
+        });
+    }
+
+    fn count_numbers(&mut self, call: &str, numbers: &[usize]) {
+        if numbers.contains(&255) {
+            self.count(&format!("{call}: a number above 249"));
+        }
+        let missing = match call {
+            "row" => numbers.len() < 2,
+            "add" => numbers.len() < 5,
+            "adds" => numbers.len() % 5 > 0,
+            "withdraw" => numbers.is_empty(),
+            _ => false,
+        };
+        if missing {
+            self.count(&format!("{call}: a number missing"));
+        }
+    }
+
+    /// How a list ended; `count` nets of it are on the board now.
+    fn count_list(&mut self, nets: &[Net], count: usize, result: Result<(), Refused>) {
+        let Err((number, place)) = result else {
+            self.count(if nets.is_empty() { "list: empty" } else { "list: whole" });
+            if count >= 40 {
+                self.count("list: whole, 40 nets or more");
+            }
+            return;
+        };
+        if number == 20 {
+            return self.count(if nets.is_empty() { "list: empty, session unsound" } else { "list: session unsound" });
+        }
+        self.count(match count {
+            0 => "list: stopped at the first",
+            _ if count + 1 == nets.len() => "list: stopped at the last",
+            _ => "list: stopped in the middle",
+        });
+        let (on, stop) = (&nets[..count], &nets[count]);
+        let end = if place == 0 { stop.first } else { stop.second };
+        let here = on.iter().map(|n| (n.first == end) as usize + (n.second == end) as usize).sum::<usize>();
+        if number == 22 && on.iter().any(|n| n.number == stop.number) {
+            self.count("list: a number twice");
+        }
+        if number == 25 && here > 0 && self.board.terminals(end) - here < self.board.pins(end) {
+            self.count("list: a pin used up within it");
+        }
+        if count == 64 {
+            self.count("list: stopped at the 65th");
+        }
+    }
+}
+
+/// What has to be reached in a whole run, and how often at least. Each bound is two thirds or less of what each of the seeds 1985, 1 to 5 reaches.
+const FLOORS: [(&str, u64); 62] = [
+    ("call", 150_000),
+    ("add accepted", 20_000),
+    ("add refused 20 at 0", 2_000),
+    ("add refused 21 at 0", 1_500),
+    ("add refused 22 at 0", 2_000),
+    ("add refused 23 at 0", 2_000),
+    ("add refused 23 at 1", 1_000),
+    ("add refused 24 at 0", 2_000),
+    ("add refused 25 at 0", 6_000),
+    ("add refused 25 at 1", 700),
+    ("adds accepted", 6_500),
+    ("adds refused 20 at 0", 1_500),
+    ("adds refused 21 at 0", 1_500),
+    ("adds refused 22 at 0", 3_500),
+    ("adds refused 23 at 0", 2_000),
+    ("adds refused 23 at 1", 1_000),
+    ("adds refused 24 at 0", 2_000),
+    ("adds refused 25 at 0", 2_500),
+    ("adds refused 25 at 1", 1_000),
+    ("withdraw accepted", 35_000),
+    ("withdraw refused 20 at 0", 2_000),
+    ("withdraw refused 26 at 0", 10_000),
+    ("back accepted", 25_000),
+    ("back refused 20 at 0", 2_000),
+    ("back refused 27 at 0", 5_500),
+    ("add: a number above 249", 400),
+    ("add: a number missing", 900),
+    ("add: a pile of 64 lost changes", 4_000),
+    ("adds: a number above 249", 500),
+    ("adds: a number missing", 350),
+    ("adds: a pile of 64 lost changes", 1_500),
+    ("withdraw: a number above 249", 1_000),
+    ("withdraw: a number missing", 650),
+    ("withdraw: a pile of 64 lost changes", 10_000),
+    ("back: a withdrawn net returned", 10_000),
+    ("back: an added net left", 15_000),
+    ("back: pile empty, nets left, since changes were lost", 200),
+    ("list: a number twice", 1_000),
+    ("list: a pin used up within it", 1_000),
+    ("list: empty", 1_500),
+    ("list: empty, session unsound", 150),
+    ("list: session unsound", 1_500),
+    ("list: stopped at the 65th", 25),
+    ("list: stopped at the first", 9_500),
+    ("list: stopped at the last", 1_500),
+    ("list: stopped in the middle", 4_000),
+    ("list: whole", 5_000),
+    ("list: whole, 40 nets or more", 65),
+    ("session: 256 rows or more", 8),
+    ("session: 32 rows", 40),
+    ("session: 33 rows or more", 12),
+    ("session: a row out of bounds", 60),
+    ("session: no rows", 100),
+    ("session: not convex", 100),
+    ("session: sound", 1_500),
+    ("session: sound, rows: 1", 200),
+    ("session: sound, rows: 31", 200),
+    ("row: a number above 249", 15),
+    ("row: a number missing", 10),
+    ("a row dropped a session with changes", 100),
+    ("line passed over", 3_500),
+    ("line passed over that begins as a call does", 3_000),
+];
+
+fn too_little(counts: &Counts) -> Vec<String> {
+    let seen = |what: &str| counts.get(what).copied().unwrap_or(0);
+    let short = FLOORS.iter().filter(|(what, least)| seen(what) < *least);
+    short.map(|(what, least)| format!("{what}: {}, at least {least} are due", seen(what))).collect()
+}
+
+// ---------------------------------------------------------------- boards
+
+/// Rows of a convex board: spans, each within the last, laid on top or below, with steps of any width.
+fn stepped_rows(random: &mut Random, count: usize, width: usize) -> Rows {
+    let left = random.below(32 - width);
+    let mut span = (left, left + width);
+    let mut rows = VecDeque::from([span]);
+    let steep = random.pick(&[1, 2, 5, 20]);
+    while rows.len() < count {
+        if random.one_in(steep) {
+            let width = 1 + random.below(span.1 - span.0);
+            let left = span.0 + random.below(span.1 - span.0 - width + 1);
+            span = (left, left + width);
+        }
+        if random.one_in(2) {
+            rows.push_front(span);
+        } else {
+            rows.push_back(span);
+        }
+    }
+    rows.into()
+}
+
+/// Convex rows of many shapes and sizes.
+fn shape(random: &mut Random) -> Rows {
+    let most = random.pick(&[2, 4, 8, 16, 31, 31]);
+    match random.below(4) {
+        0 => convex_rows(random, most, most),
+        1 => vec![(0, 1 + random.below(most)); 1 + random.below(most)],
+        _ => {
+            let (count, width) = (1 + random.below(most), 1 + random.below(most));
+            stepped_rows(random, count, width)
+        }
+    }
+}
+
+/// Convex rows as tall and as wide as can be, which alone have pins for 64 nets.
+fn full_shape(random: &mut Random) -> Rows {
+    if random.one_in(3) {
+        return vec![(0, 31); 31];
+    }
+    stepped_rows(random, 31, 31)
+}
+
+/// Rows that are seldom convex: one or two of a convex board changed, a row laid in, or all at random.
+fn bent_rows(random: &mut Random) -> Rows {
+    let span = |random: &mut Random| {
+        let left = random.below(31);
+        (left, left + 1 + random.below(31 - left))
+    };
+    if random.one_in(4) {
+        return (0..2 + random.below(6)).map(|_| span(random)).collect();
+    }
+    let mut rows = shape(random);
+    for _ in 0..1 + random.below(2) {
+        let at = random.below(rows.len());
+        match random.below(4) {
+            0 => rows[at] = span(random),
+            1 if rows.len() < 31 => rows.insert(at, span(random)),
+            2 if rows[at].1 < 31 => rows[at].1 += 1,
+            _ if rows[at].0 > 0 => rows[at].0 -= 1,
+            _ => rows[at].1 = rows[at].0 + 1,
+        }
+    }
+    rows
+}
+
+/// Rows at and beyond the limits: none, 31, 32 and more of them, ends out of bounds or the wrong way round.
+fn limit_rows(random: &mut Random) -> Rows {
+    let count = match random.below(12) {
+        0 | 1 => 0,
+        2 => 31,
+        3..=5 => 32,
+        6 => 33 + random.below(32),
+        7 => random.pick(&[255, 256, 257, 258, 260, 287, 288]),
+        _ => {
+            let mut rows = shape(random);
+            let at = random.pick(&[0, rows.len() / 2, rows.len() - 1]);
+            let (left, right) = rows[at];
+            rows[at] = random.pick(&[(left, left), (right, left), (left, 32), (left, 255), (255, right), (left, 0), (0, 0)]);
+            return rows;
+        }
+    };
+    let width = random.pick(&[1, 2, 31]);
+    vec![(0, width); count]
+}
+
+// ---------------------------------------------------------------- texts
+
+/// Numbers above 249, all read as 255. Some would be small ones in 8, 16, 32 or 64 bits.
+const LARGE: [&str; 16] = [
+    "250", "251", "255", "256", "257", "258", "260", "512", "513", "1000", "65536", "65537", "4294967297", "18446744073709551616",
+    "18446744073709551617", "99999999999999999999999999999999999999999",
+];
+
+/// Lines that are passed over, whatever numbers follow.
+const PASSED_OVER: [&str; 34] = [
+    "", "", "#", "a", "ad", "addsx", "addx", "adds1", "add1", "added", "addadd", "addss", "Add", "ADDS", "xadd", "r", "ro", "rows", "row0", "Row",
+    "b", "bac", "backs", "back1", "Back", "backback", "w", "withdra", "withdraws", "withdrawn", "net", "path", "accepted", "7",
+];
+
+/// Writes a text line by line. Its own machine tells what would be right or wrong next.
+struct Writer {
+    random: Random,
+    machine: Machine,
+    text: String,
+    calls: usize,
+    /// The board's vertices with a pin, in reading order and each as often as it has pins, and those without.
+    pins: Vec<Vertex>,
+    inner: Vec<Vertex>,
+    /// Net numbers up to this one come first.
+    low: usize,
+}
+
+impl Writer {
+    fn new(mut random: Random) -> Writer {
+        let low = random.pick(&[4, 12, 64]);
+        Writer { random, machine: Machine::new(), text: String::new(), calls: 0, pins: Vec::new(), inner: Vec::new(), low }
+    }
+
+    /// Whether there is room for another line, however long.
+    fn room(&self) -> bool {
+        self.text.len() < MOST_BYTES - 5_000
+    }
+
+    fn line(&mut self, line: &str) {
+        self.machine.line(line);
+        self.text += line;
+        self.text += "\n";
+        self.calls += 1;
+    }
+
+    /// A call with its numbers, at times with the last ones missing, with zeros before a number or more spaces than one.
+    fn say(&mut self, call: &str, numbers: &[usize]) {
+        let mut shown = numbers.len();
+        if self.random.one_in(40) {
+            shown -= self.random.below(shown.min(5) + 1);
+        }
+        let mut line = call.to_string();
+        for &number in &numbers[..shown] {
+            line += if self.random.one_in(60) { "   " } else { " " };
+            line += &self.numeral(number);
+        }
+        if self.random.one_in(30) {
+            line += " ";
+        }
+        self.line(&line);
+    }
+
+    fn numeral(&mut self, number: usize) -> String {
+        if number > 249 {
+            return self.random.pick(&LARGE).to_string();
+        }
+        if self.random.one_in(60) {
+            return format!("{number:04}");
+        }
+        number.to_string()
+    }
+
+    /// More rows; looks up the pins of the board so far.
+    fn rows(&mut self, rows: &[(usize, usize)]) {
+        for &(left, right) in rows {
+            // A 0 at the end may be left out, for a number that is missing is 0.
+            let missing = if right > 0 || self.random.one_in(4) { 0 } else { 1 + (left == 0) as usize };
+            let numbers = [self.numeral(left), self.numeral(right)];
+            self.line(&format!("row {}", numbers[..2 - missing].join(" ")));
+        }
+        let bare = Board::bare(&self.machine.board.rows);
+        let (pins, inner) = bare.vertices().into_iter().partition(|&v| bare.pins(v) > 0);
+        self.inner = inner;
+        let pins: Vec<Vertex> = pins;
+        self.pins = pins.into_iter().flat_map(|v| vec![v; bare.pins(v)]).collect();
+    }
+}
+
+// ---------------------------------------------------------------- nets, right and wrong
+
+/// What can be wrong with a net; the last two are 25.
+const FAULTS: [&str; 8] = ["number", "number on the board", "first no vertex", "second no vertex", "same", "same", "first full", "second full"];
+
+impl Writer {
+    /// The vertices with a pin that is not taken, each as often as it has such pins.
+    fn free_pins(&self, board: &Board) -> Vec<Vertex> {
+        let mut taken: Vec<Vertex> = board.nets.iter().flat_map(|n| [n.first, n.second]).collect();
+        taken.sort_unstable();
+        let mut taken = taken.into_iter().peekable();
+        let mut free = self.pins.clone();
+        free.retain(|v| {
+            while taken.next_if(|t| t < v).is_some() {}
+            taken.next_if_eq(v).is_none()
+        });
+        free
+    }
+
+    /// A net that an add accepts on this board, where there is one.
+    fn right(&mut self, board: &Board) -> [usize; 5] {
+        let number = self.free_number(board);
+        let free = self.free_pins(board);
+        let first = self.pin(&free);
+        let others: Vec<Vertex> = free.into_iter().filter(|&v| v != first).collect();
+        let second = self.pin(&others);
+        [number, first.0, first.1, second.0, second.1]
+    }
+
+    /// A number that is not on the board, mostly a low one, so that numbers come again.
+    fn free_number(&mut self, board: &Board) -> usize {
+        let used = board.nets.iter().fold(0u64, |used, n| used | 1 << (n.number - 1));
+        let free = |most: usize| (1..=most).filter(|i| used >> (i - 1) & 1 == 0).collect::<Vec<_>>();
+        let (low, all) = (free(self.low), free(64));
+        match (low.is_empty(), all.is_empty()) {
+            (false, _) => self.random.pick(&low),
+            (_, false) => self.random.pick(&all),
+            _ => 1 + self.random.below(64),
+        }
+    }
+
+    /// One of these vertices; where there is none, any vertex with a pin, taken or not.
+    fn pin(&mut self, free: &[Vertex]) -> Vertex {
+        match (free.is_empty(), self.pins.is_empty()) {
+            (false, _) => self.random.pick(free),
+            (_, false) => self.random.pick(&self.pins),
+            _ => (self.random.below(3), self.random.below(3)),
+        }
+    }
+
+    /// Five numbers at random.
+    fn any(&mut self) -> [usize; 5] {
+        let most = self.random.pick(&[3, 9, 34]);
+        let mut n = || self.random.below(most);
+        let ends = [n(), n(), n(), n()];
+        [self.random.below(67), ends[0], ends[1], ends[2], ends[3]]
+    }
+
+    /// A net with one fault or several.
+    fn wrong(&mut self, board: &Board) -> [usize; 5] {
+        let mut net = self.right(board);
+        let count = self.random.pick(&[1, 1, 1, 2, 3]);
+        for _ in 0..count {
+            let fault = self.random.pick(&FAULTS);
+            self.damage(board, &mut net, fault);
+        }
+        net
+    }
+
+    fn damage(&mut self, board: &Board, net: &mut [usize; 5], fault: &str) {
+        let at = if fault.starts_with("first") { 1 } else { 3 };
+        let end = match fault {
+            "number" => {
+                net[0] = self.random.pick(&[0, 0, 65, 65, 66, 100, 128, 129, 249, 255]);
+                return;
+            }
+            "number on the board" => {
+                if !board.nets.is_empty() {
+                    net[0] = board.nets[self.random.below(board.nets.len())].number as usize;
+                }
+                return;
+            }
+            "same" => (net[1], net[2]),
+            "first full" | "second full" => self.full_vertex(board),
+            _ => self.no_vertex(board),
+        };
+        (net[at], net[at + 1]) = end;
+        if fault == "same" && self.random.one_in(4) && !self.inner.is_empty() {
+            // The same vertex twice, and one without pins: 24 comes before 25.
+            let v = self.random.pick(&self.inner);
+            (net[1], net[2], net[3], net[4]) = (v.0, v.1, v.0, v.1);
+        }
+    }
+
+    /// A vertex without pins or one where a net ends.
+    fn full_vertex(&mut self, board: &Board) -> Vertex {
+        if !self.inner.is_empty() && (board.nets.is_empty() || self.random.one_in(2)) {
+            return self.random.pick(&self.inner);
+        }
+        if board.nets.is_empty() {
+            return (0, 0);
+        }
+        let net = &board.nets[self.random.below(board.nets.len())];
+        if self.random.one_in(2) { net.first } else { net.second }
+    }
+
+    /// Lines and columns that are no vertex, where they are found: one step off the board, within its bounds, or far away.
+    fn no_vertex(&mut self, board: &Board) -> Vertex {
+        let far = self.random.pick(&[31, 32, 33, 63, 64, 128, 249, 255]);
+        let near = if self.pins.is_empty() { (0, 0) } else { self.random.pick(&self.pins) };
+        for _ in 0..20 {
+            let v = match self.random.below(6) {
+                0 => (near.0 + 1, near.1),
+                1 => (near.0, near.1 + 1),
+                2 => (near.0.saturating_sub(1), near.1.saturating_sub(1)),
+                3 => (self.random.below(33), self.random.below(33)),
+                4 => (far, near.1),
+                _ => (near.0, far),
+            };
+            if !board.vertex(v) {
+                return v;
+            }
+        }
+        (255, 255)
+    }
+}
+
+// ---------------------------------------------------------------- lists of nets
+
+impl Writer {
+    /// A list of nets of one kind or another, as its numbers.
+    fn list(&mut self) -> Vec<usize> {
+        let length = match self.random.below(10) {
+            0..=5 => 1 + self.random.below(8),
+            6..=7 => 1 + self.random.below(30),
+            _ => 1 + self.random.below(80),
+        };
+        let board = &self.machine.board;
+        let fits = (self.free_pins(board).len() / 2).min(64 - board.nets.len()).max(1);
+        let fitting = length.min(fits);
+        match self.random.below(14) {
+            0 => Vec::new(),
+            1..=3 => self.list_of(fitting, None, ""),
+            4 => self.list_of(length, None, ""),
+            5 => self.list_of(length, Some(0), "wrong"),
+            6 => self.list_of(fitting, Some(fitting / 2), "wrong"),
+            7 => self.list_of(fitting, Some(fitting - 1), "wrong"),
+            8..=9 => {
+                let stop = self.random.below(fitting);
+                self.list_of(length, Some(stop), "number twice")
+            }
+            10..=11 => {
+                let stop = self.random.below(fitting);
+                self.list_of(length, Some(stop), "pin used up")
+            }
+            12 => {
+                let stop = self.random.below(fitting);
+                self.list_of(length, Some(stop), "wrong")
+            }
+            _ => (0..length).flat_map(|_| self.any()).collect(),
+        }
+    }
+
+    /// Right nets one after the other, but at `stop` one that is wrong in that way.
+    fn list_of(&mut self, length: usize, stop: Option<usize>, way: &str) -> Vec<usize> {
+        let mut board = self.machine.board.clone();
+        let mut numbers: Vec<usize> = Vec::new();
+        for i in 0..length {
+            let mut net = self.right(&board);
+            let earlier = if i == 0 { [0; 5] } else { net_at(&numbers, self.random.below(i)) };
+            if stop == Some(i) {
+                match way {
+                    "number twice" if i > 0 => net[0] = earlier[0],
+                    "pin used up" if i > 0 => {
+                        let (from, to) = (self.random.pick(&[1, 3]), self.random.pick(&[1, 3]));
+                        (net[to], net[to + 1]) = (earlier[from], earlier[from + 1]);
+                    }
+                    _ => net = self.wrong(&board),
+                }
+            }
+            if add_refused(&board, &net_of(&net)).is_none() {
+                put(&mut board, &net_of(&net));
+            }
+            numbers.extend(net);
+        }
+        numbers
+    }
+}
+
+fn net_at(numbers: &[usize], index: usize) -> [usize; 5] {
+    numbers[5 * index..5 * index + 5].try_into().unwrap()
+}
+
+// ---------------------------------------------------------------- calls
+
+impl Writer {
+    fn say_add(&mut self) {
+        let board = self.machine.board.clone();
+        let net = match self.random.below(20) {
+            0 => self.any(),
+            1..=7 => self.wrong(&board),
+            _ => self.right(&board),
+        };
+        self.say("add", &net);
+    }
+
+    fn say_right_add(&mut self) {
+        let board = self.machine.board.clone();
+        let net = self.right(&board);
+        self.say("add", &net);
+    }
+
+    fn say_adds(&mut self) {
+        let list = self.list();
+        self.say("adds", &list);
+    }
+
+    fn say_withdraw(&mut self) {
+        let nets = self.machine.board.nets.len();
+        let number = match self.random.below(6) {
+            0 => self.random.pick(&[0, 1, 2, 63, 64, 65, 128, 255]),
+            _ if nets == 0 => 1 + self.random.below(64),
+            _ => self.machine.board.nets[self.random.below(nets)].number as usize,
+        };
+        self.say("withdraw", &[number]);
+    }
+
+    fn say_back(&mut self) {
+        self.say("back", &[]);
+    }
+
+    /// A line that is passed over, with numbers as a call would have them.
+    fn say_nothing(&mut self) {
+        let word = self.random.pick(&PASSED_OVER);
+        let board = self.machine.board.clone();
+        let net = self.right(&board);
+        let count = self.random.pick(&[0, 1, 2, 5]);
+        let numbers: Vec<String> = net[..count].iter().map(|n| format!(" {n}")).collect();
+        self.line(&format!("{word}{}", if word.is_empty() { String::new() } else { numbers.concat() }));
+    }
+
+    /// Calls of all kinds; each text has its own mixture.
+    fn mixture(&mut self, count: usize) {
+        let weights: Vec<usize> = (0..4).map(|_| self.random.pick(&[1, 2, 4, 8])).collect();
+        let kinds: Vec<usize> = (0..4).flat_map(|kind| vec![kind; weights[kind]]).collect();
+        for _ in 0..count {
+            if !self.room() {
+                return;
+            }
+            if self.random.one_in(15) {
+                self.say_nothing();
+            }
+            match self.random.pick(&kinds) {
+                0 => self.say_add(),
+                1 if self.full() && self.random.below(5) > 0 => self.say_withdraw(),
+                1 => self.say_adds(),
+                2 => self.say_withdraw(),
+                _ => self.say_back(),
+            }
+        }
+    }
+
+    /// Whether no net more fits on the board.
+    fn full(&self) -> bool {
+        self.free_pins(&self.machine.board).len() < 2
+    }
+
+    /// The same call many times in a row, then another, so that the pile fills up, loses changes and is lifted.
+    fn bursts(&mut self, count: usize) {
+        let last = self.calls + count;
+        while self.calls < last {
+            let kind = self.random.below(6);
+            let times = self.random.pick(&[1, 3, 8, 20, 70]);
+            for _ in 0..times {
+                if self.calls >= last || !self.room() {
+                    return;
+                }
+                match kind {
+                    0 => self.say_right_add(),
+                    1 => self.say_withdraw(),
+                    2 => self.say_back(),
+                    3 if self.full() => self.say_withdraw(),
+                    3 if self.random.one_in(3) => self.say_adds(),
+                    _ => {
+                        // A net that comes and goes.
+                        self.say_right_add();
+                        self.say_withdraw();
+                    }
+                }
+            }
+        }
+    }
+
+    /// Up to 64 nets in one list, and more; then some leave, some are taken back, and another list comes.
+    fn full_board(&mut self) {
+        for _ in 0..self.random.pick(&[0, 0, 2, 10, 35]) {
+            self.say_right_add();
+            self.say_withdraw();
+        }
+        for _ in 0..2 + self.random.below(3) {
+            let length = self.random.pick(&[40, 63, 64, 64, 65, 65, 66, 80]);
+            let list = self.list_of(length, None, "");
+            self.say("adds", &list);
+            let (withdrawals, backs) = (self.random.pick(&[0, 1, 5, 64]), self.random.pick(&[0, 1, 5, 66]));
+            (0..withdrawals).for_each(|_| self.say_withdraw());
+            (0..backs).for_each(|_| self.say_back());
+        }
+        self.mixture(10);
+    }
+
+    /// Calls between rows: each row starts the session afresh.
+    fn restarts(&mut self) {
+        if self.random.one_in(2) {
+            self.mixture(5);
+        }
+        let rows = if self.random.one_in(4) { bent_rows(&mut self.random) } else { shape(&mut self.random) };
+        let mut from = 0;
+        while from < rows.len() {
+            let to = (from + 1 + self.random.below(6)).min(rows.len());
+            self.rows(&rows[from..to]);
+            from = to;
+            let count = 5 + self.random.below(20);
+            self.mixture(count);
+        }
+    }
+
+    /// One list of very many nets, the first of them right.
+    fn long_list(&mut self) {
+        let (right, length) = (self.random.below(70), 81 + self.random.below(2_500));
+        let mut list = self.list_of(right, None, "");
+        while list.len() < 5 * length {
+            list.extend(self.any());
+        }
+        self.say("adds", &list);
+    }
+
+    /// A line before all others that makes the text as long as can be.
+    fn fill(&mut self) {
+        let room = MOST_BYTES - self.text.len();
+        let line = match self.random.below(3) {
+            0 => "\n".repeat(room),
+            1 => format!("{}\n", "x".repeat(room - 1)),
+            _ => format!("adds{}\n", " ".repeat(room - 5)),
+        };
+        self.text.insert_str(0, &line);
+    }
+}
+
+/// A text of calls.
+fn text(random: Random) -> String {
+    let mut writer = Writer::new(random);
+    let count = 20 + writer.random.below(181);
+    let kind = writer.random.below(17);
+    let rows = match kind {
+        10 | 11 => full_shape(&mut writer.random),
+        12 => bent_rows(&mut writer.random),
+        13 | 16 => limit_rows(&mut writer.random),
+        14 => Vec::new(),
+        _ => shape(&mut writer.random),
+    };
+    writer.rows(&rows);
+    match kind {
+        7..=9 => writer.bursts(count),
+        10 => writer.full_board(),
+        12 | 13 | 16 => writer.mixture(20 + count / 10),
+        14 => writer.restarts(),
+        15 => {
+            writer.long_list();
+            writer.mixture(count / 2);
+        }
+        _ => writer.mixture(count),
+    }
+    if writer.random.one_in(4) {
+        // The last line without a line feed.
+        writer.text.pop();
+    }
+    if writer.random.one_in(20) {
+        writer.fill();
+    }
+    writer.text
+}
+
+// ---------------------------------------------------------------- texts answered by hand
+
+/// Texts and their answers, worked out from the requirements.
+const BY_HAND: [(&str, &str); 12] = [
+    // Each refusal of an add in turn; a vertex of degree 2 has two pins.
+    (
+        "row 0 1\nadd 1 0 0 1 1\nadd 1 0 0 1 1\nadd 0 0 0 1 1\nadd 65 0 0 1 1\nadd 2 0 2 1 1\nadd 2 0 0 2 0\nadd 2 0 0 0 0\nadd 2 0 0 1 1\n\
+         add 3 0 0 0 1\nadd 3 0 1 1 1\nwithdraw 3\nback\nback\nback\n",
+        "accepted\nrefused 22 0\nrefused 21 0\nrefused 21 0\nrefused 23 0\nrefused 23 1\nrefused 24 0\naccepted\n\
+         refused 25 0\nrefused 25 1\nrefused 26 0\naccepted\naccepted\nrefused 27 0\n",
+    ),
+    // A list stopped at its third net, whose first terminal lost its only pin to the second.
+    (
+        "row 0 2\nadds\nadds 5 0 0 1 1 2 0 1 1 0 7 0 1 0 2 8 0 0 1 0\nwithdraw 5\nback\n",
+        "accepted 0\nrefused 25 0 after 2\naccepted\naccepted\nnet 2 0 1 1 0\nnet 5 0 0 1 1\nadded 2 0 1 1 0\nadded 5 0 0 1 1\n",
+    ),
+    // The same number twice in one list, and a list that goes on whole after it.
+    (
+        "row 0 1\nadds 9 0 0 0 1 9 1 0 1 1\nadds 8 1 1 1 0 10 0 1 1 1\nwithdraw 9\n",
+        "refused 22 0 after 1\naccepted 2\naccepted\nnet 8 1 1 1 0\nnet 10 0 1 1 1\n\
+         withdrawn 9 0 0 0 1\nadded 10 0 1 1 1\nadded 8 1 1 1 0\nadded 9 0 0 0 1\n",
+    ),
+    // No rows.
+    (
+        "add 1 0 0 1 1\nadds\nadds 1 0 0 1 1\nwithdraw 1\nback\n",
+        "refused 20 0\nrefused 20 0 after 0\nrefused 20 0 after 0\nrefused 20 0\nrefused 20 0\n",
+    ),
+    // Boards f and g.
+    ("row 0 1\nadd 1 0 0 1 1\nrow 1 2\nadd 1 0 0 1 1\nback\n", "accepted\nrefused 20 0\nrefused 20 0\n"),
+    ("row 0 2\nrow 0 1\nback\nrow 0 2\nback\n", "refused 27 0\nrefused 20 0\n"),
+    // Board h: the concave corners have no pin.
+    (
+        "row 1 2\nrow 0 3\nrow 1 2\nadd 1 1 1 0 1\nadd 1 0 1 1 2\nadd 1 1 0 2 3\nadd 2 0 0 2 3\n",
+        "refused 25 0\nrefused 25 1\naccepted\nrefused 23 0\nnet 1 1 0 2 3\nadded 1 1 0 2 3\n",
+    ),
+    // Only whole words are calls.
+    (
+        "row 0 1\nrows 0 1\naddsx 1 0 0 1 1\nad 1 0 0 1 1\nadd1 0 0 1 1\nbacks\n\n#\nwithdrawn 1\nadd 1 0 0 1 1\nback",
+        "accepted\naccepted\n",
+    ),
+    // Numbers missing, and too large.
+    (
+        "row 0 1\nadd 257 0 0 1 1\nadd 1 256 0 1 1\nadd 1 0 0 1\nwithdraw\nadds 2 0 0 1 1 3\nwithdraw 257\nadd\n",
+        "refused 21 0\nrefused 23 0\naccepted\nrefused 26 0\nrefused 24 0 after 1\nrefused 26 0\nrefused 21 0\n\
+         net 1 0 0 1 0\nnet 2 0 0 1 1\nadded 2 0 0 1 1\nadded 1 0 0 1 0\n",
+    ),
+    // A row starts afresh.
+    ("row 0 1\nadd 1 0 0 1 1\nrow 0 1\nback\nwithdraw 1\nadd 1 0 0 2 1\n", "accepted\nrefused 27 0\nrefused 26 0\naccepted\n\
+         net 1 0 0 2 1\nadded 1 0 0 2 1\n"),
+    // Rows out of bounds.
+    ("row 1 1\nback\n", "refused 20 0\n"),
+    ("row 0 32\nadds\n", "refused 20 0 after 0\n"),
+];
+
+/// A net that comes and goes: of 65 changes the first is lost, and when 64 are taken back the net is there still.
+fn lost_by_hand() -> (String, String) {
+    let comes_and_goes = "add 1 0 0 1 1\nwithdraw 1\n".repeat(32);
+    let text = format!("row 0 1\n{comes_and_goes}adds 1 0 0 1 1\n{}", "back\n".repeat(65));
+    let answers = format!("{}accepted 1\n{}refused 27 0\nnet 1 0 0 1 1\n", "accepted\n".repeat(64), "accepted\n".repeat(64));
+    (text, answers)
+}
+
+/// The machine's answers, and the program's, to the texts above.
+fn by_hand() {
+    let mut all: Vec<(String, String)> = BY_HAND.iter().map(|(text, answers)| (text.to_string(), answers.to_string())).collect();
+    all.push(lost_by_hand());
+    for (text, answers) in all {
+        assert_eq!(answered(&text).0, answers, "the machine on a text answered by hand:\n{text}");
+        compare("a text answered by hand", &text, &answers);
+    }
+}
+
+// ---------------------------------------------------------------- the program held against the machine
+
+fn no_program(error: std::io::Error) -> ! {
+    eprintln!("compare: {PROGRAM} does not run ({error}); rt check replay makes it");
+    std::process::exit(2)
+}
+
+/// Runs the program on a text. Answers with its output and whether it ended well.
+fn replayed(text: &str) -> (String, bool) {
+    let run = Command::new(PROGRAM).stdin(Stdio::piped()).stdout(Stdio::piped()).spawn();
+    let mut child = run.unwrap_or_else(|error| no_program(error));
+    let mut input = child.stdin.take().unwrap();
+    let bytes = text.as_bytes().to_vec();
+    // A program that stops reading shows in its answers.
+    let writing = std::thread::spawn(move || input.write_all(&bytes).is_ok());
+    let output = child.wait_with_output().unwrap_or_else(|error| no_program(error));
+    let _ = writing.join();
+    (String::from_utf8_lossy(&output.stdout).into_owned(), output.status.success())
+}
+
+fn difference(what: &str, text: &str, program: &str, machine: &str) -> ! {
+    let same = program.lines().zip(machine.lines()).take_while(|(a, b)| a == b).count();
+    println!("DIFFERENCE: {what}, line {} of the answers", same + 1);
+    println!("---- the text\n{text}\n---- {PROGRAM}\n{program}\n---- independent\n{machine}\n----");
+    std::process::exit(1)
+}
+
+fn compare(what: &str, text: &str, answers: &str) {
+    assert!(text.len() <= MOST_BYTES);
+    let (output, well) = replayed(text);
+    if output != answers {
+        difference(what, text, &output, answers);
+    }
+    if !well {
+        difference(&format!("{what}: the program ended badly"), text, &output, answers);
+    }
+}
+
+/// One case. Answers with what it reached.
+fn case(seed: u64, case: u64) -> Counts {
+    let text = text(Random::of_case(seed, 's', case));
+    let (answers, counts) = answered(&text);
+    compare(&format!("seed {seed} part s case {case}"), &text, &answers);
+    counts
+}
+
+fn whole(seed: u64) {
+    let start = Instant::now();
+    by_hand();
+    let mut counts = Counts::new();
+    for number in 0..CASES {
+        for (what, count) in case(seed, number) {
+            *counts.entry(what).or_insert(0) += count;
+        }
+    }
+    if std::env::var_os("SESSIONS_COUNTS").is_some() {
+        counts.iter().for_each(|(what, count)| println!("{count:8} {what}"));
+    }
+    let short = too_little(&counts);
+    if !short.is_empty() {
+        println!("FAILED: sessions reach too little\n{}", short.join("\n"));
+        std::process::exit(1);
+    }
+    let seen = |what: &str| counts.get(what).copied().unwrap_or(0);
+    let lists = seen("list: stopped at the first") + seen("list: stopped in the middle") + seen("list: stopped at the last");
+    let time = start.elapsed().as_secs_f64();
+    println!(
+        "sessions: {CASES} texts with {} calls, {} lists of nets that went on whole and {lists} that were stopped; {time:.1} s; no difference",
+        seen("call"),
+        seen("list: whole"),
+    );
+}
+
+fn usage() -> ! {
+    eprintln!("usage: compare/run [SEED [s CASE]]");
+    std::process::exit(2)
+}
+
+fn main() {
+    let args: Vec<String> = std::env::args().skip(1).collect();
+    let number = |text: &String| text.parse().unwrap_or_else(|_| usage());
+    let seed = args.first().map_or(1985, number);
+    match &args[..] {
+        [] | [_] => whole(seed),
+        [_, part, one] if part == "s" => {
+            case(seed, number(one));
+            println!("no difference in this case");
+        }
+        _ => usage(),
+    }
+}
