@@ -175,7 +175,8 @@ struct NetList {
     count: usize,
 }
 
-// The nets that begin on the line. Of a longer list the first 65 are taken: a board can hold 64, so the list has stopped at one of them.
+// The nets that begin on the line. Of a longer list the first 65 are taken: a board can hold 64, so the list has stopped at one of them (law
+// `enough`).
 fn net_list(s: &[u8], from: usize) -> NetList {
     let no_vertex = Vertex { line: 0, column: 0 };
     let no_net = Net {
