@@ -24,7 +24,6 @@ use Rattle.session.specs.Promise.{CallPromise}
 use Rattle.call_rules.specs.Result.{Result, no, yes}
 use Rattle.call_rules.specs.Route.{routeRefused, Routes, RoutesBytes, refused, given}
 use Rattle.route_call.specs.declared.RouteAnswer.{RouteAnswer}
-use Rattle.route_call.specs.Answers.{routeAnswer}
 use Rattle.session_history.specs.Made.{Made, changed, routed, routedBytes, Meets, Chain, last, callsOf}
 use Rattle.session_history.specs.Demand.{RefusedAlike}
 use Rattle.session_history.specs.Call.{call-step}

@@ -1,7 +1,7 @@
 -- A sound session has at most 64 nets (`few-nets`). So a list of nets has stopped after 65 at the latest: what stands behind them plays no part
 -- (`enough`).
 -- Assumes nothing.
-use mathlib.Core.Path.{_≡_, refl, ap, _∙_}
+use mathlib.Core.Path.{_≡_, refl, ap}
 use mathlib.Core.Bool.{Bool, true, false, cond}
 use mathlib.Core.List.{List, [], _∷_}
 use mathlib.Core.Option.{Option, none, some}

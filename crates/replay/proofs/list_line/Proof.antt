@@ -12,12 +12,6 @@ use Rattle.session_answers.specs.declared.AddAnswer.the-variants.{Accepted, Uns
 use Rattle.replay.specs.Text.{answerLine}
 use Rattle.replay.proofs.list_line.Statement.{statement}
 use Rattle.replay.proofs.list_line.Tie as tie
-use Rattle.replay.proofs.list_line.Reads as reads
-use Rattle.replay.proofs.list_line.Lts as lts
-use Rattle.numbers.proofs.wide.Reads as wide-reads
-use Rattle.session_answers.proofs.add_told.Reads as add-told-reads
-use Rattle.text.proofs.line.Reads as line-reads
-use Rattle.text.proofs.refused_after.Reads as refused-after-reads
 
 all-on : (k : ℕ) (a : AddAnswer) → told (addAnswer a) .number ≡ 0 → answerLine (wentOn k (refusalOf (addAnswer a))) ≡ lineOf acceptedName (k ∷ [])
 all-on k Accepted e = refl

@@ -1,7 +1,7 @@
 -- `lent` meets its contract, by a walk of its steps: the array is copied to a local, its first n nets are lent to `add_all` for a lifetime of that
 -- call, and the local is whole again once that lifetime has ended.
 -- Of `add_all` the walk knows its contract alone. Assumes nothing.
-use mathlib.Core.Path.{_≡_, refl, sym}
+use mathlib.Core.Path.{refl, sym}
 use Prim.Native.Nat.{ℕ, _≤_, _<_, _^_}
 use mathlib.Core.List.{List, [], _∷_}
 use lib.ListN.{take}

@@ -3,9 +3,6 @@ use borrow.Author.Needs.{needs}
 use Rattle.text.specs.Laws.{whole}
 use Rattle.text.proofs.line.Statement.{statement}
 use Rattle.text.proofs.line.Tie as tie
-use Rattle.text.proofs.line.Reads as reads
-use Rattle.text.proofs.line.Lts as lts
-use Rattle.text.proofs.put_line.Reads as put-line-reads
 
 put-line-requires : tie.Need-put-line-requires
 put-line-requires c κs = search needs

@@ -4,10 +4,6 @@ use borrow.Author.Needs.{needs}
 use Rattle.text.specs.Laws.{put-line}
 use Rattle.text.proofs.put_line.Statement.{statement}
 use Rattle.text.proofs.put_line.Tie as tie
-use Rattle.text.proofs.put_line.Reads as reads
-use Rattle.text.proofs.put_line.Lts as lts
-use Rattle.text.proofs.put.Reads as put-reads
-use Rattle.text.proofs.put_numbers.Reads as put-numbers-reads
 
 put-requires : tie.Need-put-requires
 put-requires c κs = search needs

@@ -3,11 +3,6 @@ use borrow.Author.Needs.{needs}
 use Rattle.text.specs.Laws.{put-then, whole}
 use Rattle.text.proofs.refused_after.Statement.{statement}
 use Rattle.text.proofs.refused_after.Tie as tie
-use Rattle.text.proofs.refused_after.Reads as reads
-use Rattle.text.proofs.refused_after.Lts as lts
-use Rattle.text.proofs.put.Reads as put-reads
-use Rattle.text.proofs.put_line.Reads as put-line-reads
-use Rattle.text.proofs.put_numbers.Reads as put-numbers-reads
 
 slice-aggregate-put : tie.Need-slice-aggregate-put
 slice-aggregate-put c = search needs

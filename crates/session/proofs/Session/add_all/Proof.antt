@@ -2,7 +2,7 @@
 -- `with_net`, while `goes_on` says so; then the slice is shut again.
 -- Of `none_added`, `goes_on` and `with_net` the walk knows their contracts alone. Assumes nothing.
 use mathlib.Core.Path.{_≡_, refl, sym, _∙_, ap, subst}
-use mathlib.Core.Bool.{Bool, true, false}
+use mathlib.Core.Bool.{Bool, true}
 use mathlib.Core.List.{List, [], _∷_}
 use mathlib.Core.Logic.{inl, inr}
 use mathlib.Core.WellFounded.{WellFounded, InvImage·accessible}
@@ -15,11 +15,11 @@ use lib.WfN.{Nat·lt-wfRel}
 use mir.Syntax.{Ty, named, imm, w64, tyInt, tyBool, tyPtr, tyRef, loop}
 use mir.Val.{Val, vbool, vint, vptr}
 use base.Logic.{SProp, ent, emp, via, fst∗, id⊢}
-use base.Fml.{Lft, GName, Share, Fml, ftrue, fat, froom, fdies, flft, fobor}
+use base.Fml.{Lft, Share, Fml, ftrue, fat, froom, fdies, flft, fobor}
 use prog.Memory.{Memory}
 use prog.Routine.{Routine}
 use prog.Wp.{Heap, Out, Env, Wp, WpFn, Tables, afterSeq, afterBlock, afterTurn, atReturn}
-use ghost.Atoms.{Atoms, sem}
+use ghost.Atoms.{Atoms}
 use contract.Monad.{Fun, fact}
 use contract.Running.{givenOf, tables, tablesOf}
 use types.Kit.{
@@ -79,8 +79,6 @@ use types.Run.{
   stays,
   leaves-loop,
   first,
-  blocks,
-  loops,
   again,
   Below,
   exec,
@@ -99,11 +97,11 @@ use sound.Loop.{loop-rule}
 use sound.WpLaws.{FmC, fmOf, WpFn-mono}
 use denote.RattleType.{owns}
 use denote.Laws.{Is, shows}
-use denote.Memory.{lone, pointee, shares}
+use denote.Memory.{pointee, shares}
 use denote.Plain.{bool-lawful, uint-lawful}
 use denote.Builtin.{bool, usize}
 use denote.Ref.{RefT}
-use denote.Slice.{sliceTy, sliceVal, Room, slice-vals, shr-slice-tells, shr-slice-copy}
+use denote.Slice.{sliceTy, slice-vals, shr-slice-tells, shr-slice-copy}
 use denote.Index.{place-is, row, elem-out, elem-back, looks-slice, shuts-slice}
 use denote.Signature.{plain}
 use denote.Steps.{only, owned, peeks, heard, nothing}
