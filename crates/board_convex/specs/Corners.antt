@@ -27,10 +27,10 @@ some-cell b v (i, j, c, k) = elim (corner-meets c v k) [
 ]
 
 -- ── the degree by the four cells: p and q above, r and s below, p and r left, q and s right ──
-abbrev cells : (p q r s : Bool) → ℕ
+abbrev pub cells : (p q r s : Bool) → ℕ
 cells p q r s = (one p + one q) + (one r + one s)
 
-abbrev edges : (p q r s : Bool) → ℕ
+abbrev pub edges : (p q r s : Bool) → ℕ
 edges p q r s = (one (p || q) + one (q || s)) + (one (r || s) + one (p || r))
 
 -- one cell has 2 edges at the vertex, two have 3, three or four have 4; but two that touch at the vertex only have 4

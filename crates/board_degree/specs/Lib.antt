@@ -1,0 +1,4 @@
+pub mod Kind
+pub mod KindLaws
+pub mod Convex
+pub mod Examples
