@@ -36,7 +36,7 @@ edge? b Right v = aboveRight b v || belowRight b v
 edge? b Down v = belowLeft b v || belowRight b v
 edge? b Left v = aboveLeft b v || belowLeft b v
 
--- "The degree of a vertex is its count of edges". (By the cells that meet at the vertex it is the same: `degreeByKind` of crate board_degree.)
+-- "The degree of a vertex is its count of edges". (By the cells that meet there it is the same: crate board_degree, `degree-by-kind`.)
 unfoldable pub degree : Board → Vertex → ℕ
 degree b v = (one (edge? b Up v) + one (edge? b Right v)) + (one (edge? b Down v) + one (edge? b Left v))
 

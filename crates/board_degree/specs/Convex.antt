@@ -32,6 +32,12 @@ named-by straight-side = refl
 named-by concave-corner = refl
 named-by inside = refl
 
+named-edges : {k : VertexKind} {n d : ℕ} → Named k n d → d ≡ suc (min 3 n)
+named-edges outer-corner = refl
+named-edges straight-side = refl
+named-edges concave-corner = refl
+named-edges inside = refl
+
 named-of : (n : ℕ) → 1 ≤ n → n ≤ 4 → Named (kindBy n false) n (suc (min 3 n))
 named-of zero h g = absurd (omega arith)
 named-of (suc zero) h g = outer-corner
@@ -58,5 +64,5 @@ falls-under-one b W C v h =
     let found : kindOf b v ≡ kindBy n false = not-touching n (opposite? b v) (degree-by-kind b v ∙ d) in
     record {
       named = rw (found, d) (named-of n some (cells-at-most b v));
-      only = λ m. named-by m ∙ sym found;
+      only = λ m. (named-by m ∙ sym found, named-edges m ∙ sym d);
     }

@@ -36,6 +36,7 @@ cellsOfKind TouchingCorners = 2
 cellsOfKind NoVertex = 0
 
 -- "with degree 2, 3, 4 or 4 in that order". Where two cells only touch there are the four edges of both, and where there is no cell there are none.
+-- The degree of v, worked out by its case, is `degreeOfKind (kindOf b v)`. Law `degree-by-kind`: that is its count of edges, on any board.
 abbrev pub degreeOfKind : VertexKind → ℕ
 degreeOfKind OuterCorner = 2
 degreeOfKind StraightSide = 3
@@ -44,10 +45,6 @@ degreeOfKind Inside = 4
 degreeOfKind TouchingCorners = 4
 degreeOfKind NoVertex = 0
 
--- The degree of v, worked out by its case. Law `degree-by-kind`: it is the count of edges at v, `degree`, at every place of every board.
-abbrev pub degreeByKind : Board → Vertex → ℕ
-degreeByKind b v = degreeOfKind (kindOf b v)
-
 -- The four named cases, each with how many cells meet at the vertex and how many edges it has.
 pub data Named : VertexKind → (cells edges : ℕ) → Type 0 where
   outer-corner : Named OuterCorner 1 2
@@ -55,7 +52,7 @@ pub data Named : VertexKind → (cells edges : ℕ) → Type 0 where
   concave-corner : Named ConcaveCorner 3 4
   inside : Named Inside 4 4
 
--- "each vertex of a convex board falls under exactly one": the kind of v is a named one, by its cells and its edges, and no other is by its cells
+-- "each vertex of a convex board falls under exactly one": the kind of v is a named one, by its cells and its edges, and no other case has as many cells
 pub record FallsUnderOne (b : Board) (v : Vertex) : Type 0 where
   pub named : Named (kindOf b v) (cellsAt b v) (degree b v)
-  pub only : {k : VertexKind} {edges : ℕ} → Named k (cellsAt b v) edges → k ≡ kindOf b v
+  pub only : {k : VertexKind} {edges : ℕ} → Named k (cellsAt b v) edges → (k ≡ kindOf b v) × (edges ≡ degree b v)

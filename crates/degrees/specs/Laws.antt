@@ -1,4 +1,4 @@
--- A line of the drawing byte by byte, lines one below the other, and what reading answers as a drawing.
+-- A line of the drawing byte by byte, lines one below the other, and what reading answers as a drawing; what is drawn is of the four named kinds.
 -- Assumes what reading promises.
 use mathlib.Core.Path.{_≡_, refl, ap, sym, subst⁻¹, _∙_}
 use mathlib.Core.List.{List, [], _∷_, _++_, flatMap, append-assoc, append-nil}
@@ -12,14 +12,17 @@ use Rattle.count.specs.Lists.{rising, upTo, length-rising, getD-rising}
 use Rattle.text.specs.Line.{refusedLine}
 use Rattle.text.specs.Put.{Put}
 use Rattle.text.specs.Laws.{put-then}
-use Rattle.board.specs.Board.{Board, at}
+use Rattle.board.specs.Board.{Board, at, IsVertex}
 use Rattle.board.specs.View.{boardOf}
-use Rattle.board_degree.specs.Kind.{kindOf}
+use Rattle.board.specs.declared.Vertex.{Vertex}
+use Rattle.board_degree.specs.Kind.{kindOf, FallsUnderOne}
+use Rattle.board_degree.specs.Convex.{falls-under-one}
 use Rattle.session_rules.specs.Refusal.{refusal}
 use Rattle.session_rules.specs.Session.{Session}
 use Rattle.session.specs.View.{sessionOf}
 use Rattle.call_rules.specs.Result.{Result, no, yes}
 use Rattle.call_rules.specs.Reading.{readBytes, handedBack}
+use Rattle.board_roundtrip.specs.RoundTrip.{read-bytes-sound}
 use Rattle.board_reading.specs.Promise.{readAnswer, refusalIn, ReadPromise}
 use Rattle.board_reading.specs.declared.AfterRead.{AfterRead}
 use Rattle.board_reading.specs.declared.ReadAnswer.the-variants as answer
@@ -77,3 +80,8 @@ pub board-drawn : (bytes : List ℕ) {r : AfterRead} → ReadPromise (readBytes 
     → bytesDrawn bytes ≡ boardDrawn (boardOf (r .session .block .board))
 board-drawn bytes P e =
     drawn-yes (readBytes bytes) (sym (ap readAnswer e) ∙ P .answers) ∙ ap (λ (s : Session). boardDrawn (s .block .board)) (sym (P .session))
+
+-- every vertex that is drawn is of one of the four named kinds: no "t" comes
+pub named-kinds : (bytes : List ℕ) (s : Session) → readBytes bytes ≡ yes s → (v : Vertex) → IsVertex (s .block .board) v
+    → FallsUnderOne (s .block .board) v
+named-kinds bytes s e v h = let sound = read-bytes-sound bytes s e in falls-under-one (s .block .board) (sound .within) (sound .convex) v h

@@ -3,7 +3,7 @@
 // Standard input is the board's words as a file has them, four bytes a word, lowest first; 65,536 bytes of it are read at most.
 // Prints a line of text for each line of the board, with a sign for each column from 0 to 31: "o" an outer corner, of degree 2; "s" a straight side,
 // of degree 3; "c" a concave corner and "i" a vertex inside, of degree 4; a space where no vertex is. Or "refused", the number and the place.
-// ("t", two cells that touch at a corner only, never comes: a board that is read is convex.)
+// ("t", two cells that touch at a corner only, never comes: a board that is read is convex, see law `named-kinds`.)
 ghost use mathlib.Core.Path.{_≡_};
 ghost use Prim.Native.Nat.{_+_, _≤_};
 ghost use lib.ListN.{length};

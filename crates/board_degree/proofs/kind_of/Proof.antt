@@ -1,4 +1,5 @@
 -- The four cells, asked one by one, are those that the definition counts.
+use mathlib.Core.Path.{refl, _∙_}
 use Rattle.board_convex.specs.Cells.{cellsAt}
 use Rattle.board_degree.specs.Kind.{opposite?, kindOf}
 use borrow.Author.Needs.{needs}
@@ -51,7 +52,19 @@ kind-by-requires c κs = search needs
 
 returns : tie.Need-returns
 unfolding kindOf cellsAt opposite?
-returns c = cc
+returns c =
+    let at-below-right = c .before .before .before .before .before in let at-below-left = at-below-right .before in
+    let at-above-right = at-below-left .before in let at-above-left = at-above-right .before in
+    c .kind-by .ensures ∙ rw (
+      c .before .bit4 .ensures .0,
+      c .before .before .bit3 .ensures .0,
+      c .before .before .before .bit2 .ensures .0,
+      c .before .before .before .before .bit .ensures .0,
+      at-below-right .below-right .ensures,
+      at-below-left .below-left .ensures,
+      at-above-right .above-right .ensures,
+      at-above-left .above-left .ensures,
+    ) refl
 
 pub kind-of-spec : {M : Type 1} → statement M
 kind-of-spec =

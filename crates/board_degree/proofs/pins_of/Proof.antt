@@ -19,7 +19,7 @@ sub-result c = search needs
 
 returns : tie.Need-returns
 unfolding pins
-returns c = rw (← c .before .before .is-vertex .ensures .same, c .before .if1 .taken) (cc)
+returns c = rw (← c .before .before .is-vertex .ensures .same, c .before .if1 .taken, ← c .degree-of .ensures .0) refl
 
 returns-2 : tie.Need-returns-2
 unfolding pins
