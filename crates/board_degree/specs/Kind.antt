@@ -52,7 +52,7 @@ pub data Named : VertexKind → (cells edges : ℕ) → Type 0 where
   concave-corner : Named ConcaveCorner 3 4
   inside : Named Inside 4 4
 
--- "each vertex of a convex board falls under exactly one": the kind of v is a named one, by its cells and its edges, and no other case has as many cells
+-- "each vertex of a convex board falls under exactly one": the kind of v is a named one, by its cells and its edges, and no other has as many cells
 pub record FallsUnderOne (b : Board) (v : Vertex) : Type 0 where
   pub named : Named (kindOf b v) (cellsAt b v) (degree b v)
   pub only : {k : VertexKind} {edges : ℕ} → Named k (cellsAt b v) edges → (k ≡ kindOf b v) × (edges ≡ degree b v)
