@@ -4,11 +4,11 @@ use mathlib.Core.Path.{_≡_, refl, ap, sym, _∙_}
 use mathlib.Core.Bool.{Bool, true, false}
 use mathlib.Core.List.{List, [], _∷_, _++_}
 use mathlib.Core.Logic.{inl, inr}
-use Prim.Native.Nat.{ℕ, _-_, _/_, _%_, _<_}
+use Prim.Native.Nat.{ℕ, _-_, _<_}
 use native.Mathlib.Omega.{arith}
 use lib.Dec.{eqb, ltb}
 use lib.ListN.{length, replicate, take}
-use borrow.Author.Tests.{eq-eqb, ne-eqb, lt-ltb}
+use borrow.Author.Tests.{lt-ltb}
 use Rattle.count.specs.TruthLaws.{or-right}
 use Rattle.board.specs.Board.{Board, noRow}
 use Rattle.board.specs.View.{boardOf}
@@ -42,9 +42,8 @@ use Rattle.call_rules.specs.Reading.{
   readBytes,
   badLength,
 }
-use Rattle.words.specs.Bytes.{wordsIn}
-use Rattle.words_bytes.specs.Words.{FilledWith}
-use Rattle.words_bytes.specs.WordsLaws.{words-length, all-words}
+use Rattle.words.specs.Bytes.{wordsIn, uneven}
+use Rattle.words_bytes.specs.WordsLaws.{Whole}
 use Rattle.board_scan.specs.Promise.{takeAll, ScanPromise}
 use Rattle.board_scan.specs.Laws.{refused-scan, taken-scan}
 use Rattle.board_scan.specs.declared.Scanned.{Scanned}
@@ -152,22 +151,21 @@ module _ (ws : List ℕ) (r : Scanned) (S : ScanPromise ws r) (z : r .number ≡
 
 -- ── from bytes ──
 module _ (bs : List ℕ) where
-  pub bytes-uneven : (length bs % 4 ≡ 0 → ⊥) → readBytes bs ≡ no (refusal 10 0)
+  pub bytes-uneven : uneven bs ≡ true → readBytes bs ≡ no (refusal 10 0)
   unfolding readBytes
-  bytes-uneven h = rw (ne-eqb (length bs % 4) 0 h) refl
+  bytes-uneven h = rw h refl
 
-  pub bytes-even : length bs % 4 ≡ 0 → readBytes bs ≡ readWords (wordsIn bs)
+  pub bytes-even : uneven bs ≡ false → readBytes bs ≡ readWords (wordsIn bs)
   unfolding readBytes
-  bytes-even h = rw (eq-eqb (length bs % 4) 0 h) refl
+  bytes-even h = rw h refl
 
-  pub bytes-long : length bs % 4 ≡ 0 → boardLimit < length bs / 4 → readBytes bs ≡ no (refusal 11 0)
+  pub bytes-long : uneven bs ≡ false → boardLimit < length (wordsIn bs) → readBytes bs ≡ no (refusal 11 0)
   unfolding readWords
   bytes-long h k =
-      let l : ltb boardLimit (length (wordsIn bs)) ≡ true = lt-ltb boardLimit (length (wordsIn bs)) (omega (arith, words-length bs)) in
+      let l : ltb boardLimit (length (wordsIn bs)) ≡ true = lt-ltb boardLimit (length (wordsIn bs)) k in
       let b : badLength (wordsIn bs) ≡ true = or-right (eqb (length (wordsIn bs)) 0) (ltb boardLimit (length (wordsIn bs))) l in
       bytes-even h ∙ rw b refl
 
   -- the words in the buffer are all of them
-  pub bytes-words : (before after : List ℕ) (n : ℕ) → length bs % 4 ≡ 0 → n ≡ length bs / 4 → FilledWith bs n before after
-      → readBytes bs ≡ readWords (take n after)
-  bytes-words before after n h e F = bytes-even h ∙ ap readWords (sym (all-words bs before after n e F))
+  pub bytes-words : {n : ℕ} {after : List ℕ} → Whole bs n after → readBytes bs ≡ readWords (take n after)
+  bytes-words h = bytes-even (h .even) ∙ ap readWords (sym (h .words))

@@ -10,6 +10,7 @@ use net::Place;
 use session::Session;
 use words::BOARD_WORDS;
 use words::BoardWord;
+use words_bytes::Filled;
 
 // What reading answers: a refusal has its number and place.
 pub enum ReadAnswer {
@@ -137,15 +138,10 @@ pub fn read_words(words: &[u32]) -> AfterRead
 pub fn read_bytes(bytes: &[u8]) -> AfterRead
     ensures { λ r. ⌜ ReadPromise (readBytes (now (bytes .entry))) r ⌝ }
 {
-    let size = bytes.len();
-    if size % 4 != 0 {
-        return refused(10, 0);
-    }
-    let n = size / 4;
-    if BOARD_WORDS < n {
-        return refused(11, 0);
-    }
     let mut words = [0u32; BOARD_WORDS];
-    words_bytes::fill_words(bytes, n, &mut words);
-    read_words(&words[..n])
+    match words_bytes::fill_all(bytes, &mut words) {
+        Filled::Uneven => refused(10, 0),
+        Filled::Long => refused(11, 0),
+        Filled::Words(n) => read_words(&words[..n]),
+    }
 }

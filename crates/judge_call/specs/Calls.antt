@@ -1,20 +1,17 @@
 -- Judging a session in its parts: the soundness of the session, and then the judge's verdict on its board and nets.
 -- Assumes nothing.
-use mathlib.Core.Path.{_≡_, refl, ap, sym, _∙_}
+use mathlib.Core.Path.{_≡_, refl, _∙_}
 use mathlib.Core.Bool.{true, false}
 use mathlib.Core.List.{List}
-use Prim.Native.Nat.{ℕ, _/_, _%_, _<_}
-use native.Mathlib.Omega.{arith}
+use Prim.Native.Nat.{ℕ, _<_}
 use lib.Dec.{eqb, ltb}
-use lib.ListN.{length, take}
-use borrow.Author.Tests.{eq-eqb, ne-eqb, lt-ltb}
+use lib.ListN.{length}
+use borrow.Author.Tests.{lt-ltb}
 use Rattle.count.specs.TruthLaws.{or-right}
 use Rattle.session_rules.specs.Refusal.{refusal}
 use Rattle.session_rules.specs.Session.{Session}
 use Rattle.session_rules.specs.Sound.{sound?}
-use Rattle.words.specs.Bytes.{wordsIn}
-use Rattle.words_bytes.specs.Words.{FilledWith}
-use Rattle.words_bytes.specs.WordsLaws.{words-length, all-words}
+use Rattle.words.specs.Bytes.{wordsIn, uneven}
 use Rattle.call_rules.specs.Result.{no}
 use Rattle.call_rules.specs.Shape.{badCount}
 use Rattle.call_rules.specs.Judge.{judged, judgeWords, compareWords, judgeBytes}
@@ -42,22 +39,17 @@ module _ (s : Session) where
   unfolding judgeBytes
   bytes-unsound bs e = rw e refl
 
-  pub bytes-uneven : (bs : List ℕ) → sound? s ≡ true → (length bs % 4 ≡ 0 → ⊥) → judgeBytes s bs ≡ no (refusal 10 0)
+  pub bytes-uneven : (bs : List ℕ) → sound? s ≡ true → uneven bs ≡ true → judgeBytes s bs ≡ no (refusal 10 0)
   unfolding judgeBytes
-  bytes-uneven bs e h = rw (e, ne-eqb (length bs % 4) 0 h) refl
+  bytes-uneven bs e h = rw (e, h) refl
 
-  pub bytes-even : (bs : List ℕ) → sound? s ≡ true → length bs % 4 ≡ 0 → judgeBytes s bs ≡ judgeWords s (wordsIn bs)
+  pub bytes-even : (bs : List ℕ) → sound? s ≡ true → uneven bs ≡ false → judgeBytes s bs ≡ judgeWords s (wordsIn bs)
   unfolding judgeBytes judgeWords
-  bytes-even bs e h = rw (e, eq-eqb (length bs % 4) 0 h) refl
+  bytes-even bs e h = rw (e, h) refl
 
-  pub bytes-long : (bs : List ℕ) → sound? s ≡ true → length bs % 4 ≡ 0 → 2049 < length bs / 4 → judgeBytes s bs ≡ no (refusal 41 0)
+  pub bytes-long : (bs : List ℕ) → sound? s ≡ true → uneven bs ≡ false → 2049 < length (wordsIn bs) → judgeBytes s bs ≡ no (refusal 41 0)
   unfolding judgeWords judged
   bytes-long bs e h k =
-      let l : ltb 2049 (length (wordsIn bs)) ≡ true = lt-ltb 2049 (length (wordsIn bs)) (omega (arith, words-length bs)) in
+      let l : ltb 2049 (length (wordsIn bs)) ≡ true = lt-ltb 2049 (length (wordsIn bs)) k in
       let b : badCount (wordsIn bs) ≡ true = or-right (eqb (length (wordsIn bs)) 0) (ltb 2049 (length (wordsIn bs))) l in
       bytes-even bs e h ∙ rw (e, b) refl
-
-  -- the words in the buffer are all of them
-  pub bytes-words : (bs before after : List ℕ) (n : ℕ) → sound? s ≡ true → length bs % 4 ≡ 0 → n ≡ length bs / 4 → FilledWith bs n before after
-      → judgeBytes s bs ≡ judgeWords s (take n after)
-  bytes-words bs before after n e h m F = bytes-even bs e h ∙ ap (judgeWords s) (sym (all-words bs before after n m F))

@@ -9,6 +9,7 @@ use judge_report::Report;
 use judge_shape::Refusal;
 use session::Session;
 use words::ROUTING_WORDS;
+use words_bytes::Filled;
 
 // What judging answers: the report; 20 an unsound session; 10 a count of bytes that is no multiple of 4; or 41 to 46.
 pub enum Judgement {
@@ -60,22 +61,16 @@ pub fn compare_words(s: Session, first: &[u32], second: &[u32]) -> Likeness
 pub fn judge_bytes(s: Session, bytes: &[u8]) -> Judgement
     ensures { λ r. ⌜ judgementOf r ≡ judgeBytes (sessionOf s) (now (bytes .entry)) ⌝ }
 {
-    let unsound = !s.sound();
-    let size = bytes.len();
-    if unsound {
+    if !s.sound() {
         return Judgement::Unsound;
     }
-    if size % 4 != 0 {
-        return Judgement::UnevenBytes;
-    }
-    let n = size / 4;
-    if ROUTING_WORDS < n {
-        return Judgement::Refused(Refusal {
+    let mut words = [0u32; ROUTING_WORDS];
+    match words_bytes::fill_all(bytes, &mut words) {
+        Filled::Uneven => Judgement::UnevenBytes,
+        Filled::Long => Judgement::Refused(Refusal {
             number: 41,
             place: 0,
-        });
+        }),
+        Filled::Words(n) => judge_words(s, &words[..n]),
     }
-    let mut words = [0u32; ROUTING_WORDS];
-    words_bytes::fill_words(bytes, n, &mut words);
-    judge_words(s, &words[..n])
 }

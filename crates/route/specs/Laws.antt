@@ -7,6 +7,7 @@ use Prim.Native.Nat.{ℕ, _%_, _≤_}
 use native.Mathlib.Omega.{arith}
 use lib.ListN.{length}
 use Rattle.text.specs.Line.{refusedLine}
+use Rattle.words_bytes.specs.WordsLaws.{words-length, uneven-bytes, even-bytes}
 use Rattle.session_rules.specs.Refusal.{Refusal, refusal}
 use Rattle.session_rules.specs.Session.{Session}
 use Rattle.session.specs.View.{sessionOf}
@@ -37,8 +38,8 @@ read-text {board} P e T = read (is-yes (readBytes board) (sym (ap readAnswer e) 
 
 -- ── a list longer than a buffer of 65,536 bytes ──
 pub uneven-text : (n : ℕ) → (n % 4 ≡ 0 → ⊥) → (board : List ℕ) → length board % 4 ≡ n % 4 → BoardText board (refusedLine 10 (0 ∷ []))
-uneven-text n h board e = unread {r = refusal 10 0} (bytes-uneven board (λ z. h (sym e ∙ z)))
+uneven-text n h board e = unread {r = refusal 10 0} (bytes-uneven board (uneven-bytes board (λ z. h (sym e ∙ z))))
 
 pub long-text : (n : ℕ) → n % 4 ≡ 0 → (board : List ℕ) → 65536 ≤ length board → length board % 4 ≡ n % 4
     → BoardText board (refusedLine 11 (0 ∷ []))
-long-text n h board l e = unread {r = refusal 11 0} (bytes-long board (e ∙ h) (omega arith))
+long-text n h board l e = unread {r = refusal 11 0} (bytes-long board (even-bytes board (e ∙ h)) (omega (arith, words-length board)))

@@ -2,7 +2,7 @@
 ghost use mathlib.Core.Path.{_≡_};
 ghost use Prim.Native.Nat.{_+_, _*_, _≤_, _<_};
 ghost use lib.ListN.{length, take};
-ghost use Rattle.words_bytes.specs.Words.{wordAt, FilledWith};
+ghost use Rattle.words_bytes.specs.Words.{wordAt, FilledWith, FilledAll};
 ghost use Rattle.words_bytes.specs.Put.{withWord, putInto};
 use numbers::as_word;
 
@@ -28,6 +28,30 @@ pub fn fill_words(bytes: &[u8], n: usize, out: &mut [u32])
         out[i] = word_at(bytes, at);
         at += 4;
     }
+}
+
+// Bytes as words: so many; or the count of the bytes is no multiple of 4; or they are more words than there is room for.
+pub enum Filled {
+    Words(usize),
+    Uneven,
+    Long,
+}
+
+// All words of the bytes, at the start of the buffer.
+pub fn fill_all(bytes: &[u8], out: &mut [u32]) -> Filled
+    ensures { λ r. ⌜ FilledAll (now (bytes .entry)) (now (out .entry)) (now (out .exit)) r ⌝ }
+{
+    let size = bytes.len();
+    let room = out.len();
+    if size % 4 != 0 {
+        return Filled::Uneven;
+    }
+    let n = size / 4;
+    if room < n {
+        return Filled::Long;
+    }
+    fill_words(bytes, n, out);
+    Filled::Words(n)
 }
 
 // A word as four bytes from this index on.
