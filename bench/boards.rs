@@ -175,17 +175,28 @@ pub fn routable(random: &mut Random, bare: impl Fn(&mut Random) -> Board) -> Boa
     }
 }
 
-/// The board of 31 by 31 cells with a net along each inner line and down each inner column, and the routing that uses all 1,984 edges: each net
-/// straight, after net 1 has gone once round the border.
-pub fn longest() -> (Vec<u8>, Vec<u8>) {
+/// The board of 31 by 31 cells with a net along each inner line and down each inner column: 60 nets.
+pub fn longest() -> Vec<u8> {
     let mut board = Board::square(31);
     board.nets.extend((1..31).map(|line| ((line, 0), (line, 31))));
     board.nets.extend((1..31).map(|column| ((0, column), (31, column))));
+    board.bytes()
+}
+
+/// A routing of it that uses all 1,984 edges: each net straight, after the net along this line has gone once round the border, either way.
+pub fn every_edge(line: u32, clockwise: bool) -> Vec<u8> {
     let run = |direction: u32, length: u32| 5 << 28 | direction << 26 | length;
-    let mut words: Vec<u32> = vec![4 << 28 | 1 << 20 | 6, run(0, 1), run(1, 31), run(2, 31), run(3, 31), run(0, 30), run(1, 31)];
-    for number in 2..=60 {
-        words.extend([4 << 28 | number << 20 | 1, run(if number <= 30 { 1 } else { 2 }, 31)]);
+    let round = match clockwise {
+        true => [run(0, line), run(1, 31), run(2, 31), run(3, 31), run(0, 31 - line)],
+        false => [run(2, 31 - line), run(1, 31), run(0, 31), run(3, 31), run(2, line)],
+    };
+    let mut words: Vec<u32> = Vec::new();
+    for number in 1..=60 {
+        let before = if number == line { &round[..] } else { &[] };
+        words.push(4 << 28 | number << 20 | (before.len() as u32 + 1));
+        words.extend(before);
+        words.push(run(if number <= 30 { 1 } else { 2 }, 31));
     }
     words.push(14 << 28 | 60);
-    (board.bytes(), words.iter().flat_map(|w| w.to_le_bytes()).collect())
+    words.iter().flat_map(|w| w.to_le_bytes()).collect()
 }

@@ -12,8 +12,8 @@ mod boards;
 mod cidrask;
 mod plain;
 
-use boards::{longest, routable, Board, Random};
-use cidrask::{cidrask_judge, cidrask_route};
+use boards::{every_edge, longest, routable, Board, Random};
+use cidrask::{cidrask_alike, cidrask_judge, cidrask_route};
 use std::hint::black_box;
 use std::io::Write;
 use std::process::{Command, Stdio};
@@ -38,6 +38,15 @@ fn judged(board: &[u8], list: &[u8]) -> (u32, [u64; 3]) {
     let [mut first, mut second, mut third] = [0; 3];
     let number = unsafe { cidrask_judge(board.as_ptr(), board.len(), list.as_ptr(), list.len(), &mut first, &mut second, &mut third) };
     (number, [first, second, third])
+}
+
+/// Whether two lists are alike.
+fn alike(board: &[u8], one: &[u8], two: &[u8]) -> bool {
+    let (mut first, mut second) = (0, 0);
+    let number =
+        unsafe { cidrask_alike(board.as_ptr(), board.len(), one.as_ptr(), one.len(), two.as_ptr(), two.len(), &mut first, &mut second) };
+    assert_eq!(number, 0, "both lists pass");
+    first == 1
 }
 
 /// Boards of a kind, each with the bytes of its routing.
@@ -251,11 +260,16 @@ fn times(seed: u64) {
     let mut buffer = vec![0; BUFFER];
     let (board, single) = slowest(&groups, &mut |c| _ = black_box(proved(black_box(&c.0), &mut buffer)));
     println!("slowest board to route: {:.3} ms; longest single call seen: {:.3} ms", 1e3 * board, 1e3 * single);
-    let (board, list) = longest();
+    let (board, list) = (longest(), every_edge(1, true));
     assert_eq!(judged(&board, &list).0, 0);
     assert_eq!(judged(&board, &list).1[0], 1984);
     let all = median((0..ROUNDS).map(|_| seconds(20, || _ = black_box(judged(black_box(&board), black_box(&list))))).collect());
     println!("judging a list that uses all 1,984 edges: {:.3} ms", 1e3 * all);
+    for (what, two, due) in [("alike", every_edge(1, false), true), ("not alike", every_edge(2, true), false)] {
+        assert_eq!(alike(&board, &list, &two), due);
+        let both = median((0..ROUNDS).map(|_| seconds(20, || _ = black_box(alike(black_box(&board), black_box(&list), black_box(&two))))).collect());
+        println!("comparing two lists that each use all 1,984 edges, {what}: {:.3} ms", 1e3 * both);
+    }
     let lap = median((0..11).map(|_| (laps("", 22_000) - laps("", 2_000)) / 20_000.0).collect());
     println!("a call of a session with 64 nets and a pile of 64 changes: {:.1} microseconds", 1e6 * lap);
     let forty = |word| (laps(word, 1_100) - laps(word, 100)) / 1_000.0;

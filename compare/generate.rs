@@ -208,17 +208,21 @@ pub fn board_bytes(random: &mut Random, kind: usize) -> Vec<u8> {
     let board = true_board(random, size);
     let mut words = board.words();
     if name == "a byte more or less" {
-        let mut bytes = bytes_of(&words);
-        let change = 1 + random.below(3);
-        if random.one_in(2) {
-            bytes.truncate(bytes.len() - change);
-        } else {
-            bytes.extend(vec![0; change]);
-        }
-        return bytes;
+        return uneven(random, bytes_of(&words));
     }
     damage_board(random, name, &board, &mut words);
     bytes_of(&words)
+}
+
+/// One to three bytes more or less.
+pub fn uneven(random: &mut Random, mut bytes: Vec<u8>) -> Vec<u8> {
+    let change = 1 + random.below(3);
+    if random.one_in(2) {
+        bytes.truncate(bytes.len() - change);
+    } else {
+        bytes.extend(vec![0; change]);
+    }
+    bytes
 }
 
 fn damage_board(random: &mut Random, name: &str, board: &Board, words: &mut Vec<u32>) {
@@ -314,6 +318,11 @@ fn not_convex(random: &mut Random) -> Vec<u8> {
 
 // ---------------------------------------------------------------- routings and lists of routing words
 
+/// The edge that leaves `v` in that direction, by its upper or left end.
+pub fn edge_of(v: Vertex, direction: usize) -> (Vertex, usize) {
+    (v.min(step(v, direction)), direction % 2)
+}
+
 /// Random trails, each from its net's first terminal to its second along free edges; they may pass a vertex twice. None where one gets stuck.
 pub fn trails(random: &mut Random, board: &Board) -> Option<Vec<Vec<usize>>> {
     let mut used = std::collections::HashSet::new();
@@ -325,7 +334,7 @@ pub fn trails(random: &mut Random, board: &Board) -> Option<Vec<Vec<usize>>> {
             if at == net.second && (stop_early || random.one_in(2)) {
                 break;
             }
-            let free = |d: &usize| board.edge(at, *d) && !used.contains(&(at.min(step(at, *d)), d % 2));
+            let free = |d: &usize| board.edge(at, *d) && !used.contains(&edge_of(at, *d));
             let mut open: Vec<usize> = (0..4).filter(free).collect();
             if open.is_empty() && at == net.second {
                 break;
@@ -341,7 +350,7 @@ pub fn trails(random: &mut Random, board: &Board) -> Option<Vec<Vec<usize>>> {
                 return None;
             }
             let direction = random.pick(&open);
-            used.insert((at.min(step(at, direction)), direction % 2));
+            used.insert(edge_of(at, direction));
             at = step(at, direction);
             path.push(direction);
         }

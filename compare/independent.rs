@@ -1,7 +1,10 @@
 //! The requirements read anew, from their words alone: boards and their words, convexity, pins, cuts, odd vertices,
-//! and the judge of routing words. Nothing here is taken from the proved library; it is what the library is held against.
+//! the judge of routing words, and whether two routings are alike. Nothing here is taken from the proved library; it is what
+//! the library is held against.
 
 #![allow(dead_code)]
+
+use std::collections::{BTreeMap, BTreeSet};
 
 /// A refusal's number and place; the second place number is 0 where the place is one number.
 #[derive(Clone, Copy, Debug, PartialEq, Eq)]
@@ -16,6 +19,9 @@ fn refuse<T>(number: u32, place: usize) -> Result<T, Refusal> {
 
 /// (line, column).
 pub type Vertex = (usize, usize);
+
+/// An edge by its two ends, the upper or left one first.
+pub type Edge = (Vertex, Vertex);
 
 pub const UP: usize = 0;
 pub const RIGHT: usize = 1;
@@ -374,6 +380,19 @@ pub fn routing_words(board: &Board, paths: &[Vec<usize>]) -> Vec<u32> {
     words
 }
 
+/// The steps of each path of true routing words.
+pub fn steps_of(words: &[u32]) -> Vec<Vec<usize>> {
+    let mut paths: Vec<Vec<usize>> = Vec::new();
+    for &word in words {
+        match (bits(word, 31, 28), paths.last_mut()) {
+            (4, _) => paths.push(Vec::new()),
+            (5, Some(path)) => path.extend(vec![bits(word, 27, 26); bits(word, 4, 0)]),
+            _ => {}
+        }
+    }
+    paths
+}
+
 // ---------------------------------------------------------------- judging
 
 #[derive(Clone, Copy, Debug, PartialEq, Eq)]
@@ -390,12 +409,17 @@ struct Part {
 }
 
 pub fn judge(board: &Board, bytes: &[u8]) -> Result<Report, Refusal> {
+    judge_edges(board, bytes, &mut |_, _| {})
+}
+
+/// The same; `each` is told every edge as it is walked, with the net that uses it.
+fn judge_edges(board: &Board, bytes: &[u8], each: &mut dyn FnMut(&Net, Edge)) -> Result<Report, Refusal> {
     let words = words_of(bytes)?;
     if words.is_empty() || words.len() > 2049 {
         return refuse(41, 0);
     }
     let parts = shape(board, &words)?;
-    walk(board, &words, &parts)
+    walk(board, &words, &parts, each)
 }
 
 /// The words one by one, 42 before 43.
@@ -438,7 +462,7 @@ fn shape(board: &Board, words: &[u32]) -> Result<Vec<Part>, Refusal> {
 }
 
 /// The paths walked, in order.
-fn walk(board: &Board, words: &[u32], parts: &[Part]) -> Result<Report, Refusal> {
+fn walk(board: &Board, words: &[u32], parts: &[Part], each: &mut dyn FnMut(&Net, Edge)) -> Result<Report, Refusal> {
     let mut used = [[[false; 2]; 32]; 32];
     let mut turning: Vec<(Vertex, u32)> = Vec::new();
     let mut report = Report { edges: 0, turns: 0, knock_knees: 0 };
@@ -462,6 +486,7 @@ fn walk(board: &Board, words: &[u32], parts: &[Part]) -> Result<Report, Refusal>
                     return refuse(45, index);
                 }
                 *mark = true;
+                each(net, (end, at.max(to)));
                 report.edges += 1;
                 at = to;
             }
@@ -481,4 +506,33 @@ fn knock_knees(mut turning: Vec<(Vertex, u32)>) -> u32 {
     let mut vertices: Vec<Vertex> = turning.windows(2).filter(|w| w[0].0 == w[1].0).map(|w| w[0].0).collect();
     vertices.dedup();
     vertices.len() as u32
+}
+
+// ---------------------------------------------------------------- two routings
+
+/// For each net's number, the set of edges that its path uses.
+pub type EdgesByNet = BTreeMap<u32, BTreeSet<Edge>>;
+
+/// The edges that a list's paths use. The list is judged whole.
+pub fn edges_by_net(board: &Board, bytes: &[u8]) -> Result<EdgesByNet, Refusal> {
+    let mut sets: EdgesByNet = board.nets.iter().map(|net| (net.number, BTreeSet::new())).collect();
+    judge_edges(board, bytes, &mut |net, edge| {
+        sets.entry(net.number).or_default().insert(edge);
+    })?;
+    Ok(sets)
+}
+
+/// Two routings are alike when each net uses the same set of edges in both. The first list is judged whole, then the second.
+pub fn alike(board: &Board, one: &[u8], two: &[u8]) -> Result<bool, Refusal> {
+    let in_one = edges_by_net(board, one).map_err(|refusal| of_list(0, refusal))?;
+    let in_two = edges_by_net(board, two).map_err(|refusal| of_list(1, refusal))?;
+    Ok(board.nets.iter().all(|net| in_one[&net.number] == in_two[&net.number]))
+}
+
+/// 41 to 46 put 0 or 1 for the list before the judge's place; a list's 10 has its place alone.
+fn of_list(list: u32, refusal: Refusal) -> Refusal {
+    match refusal.number {
+        41..=46 => Refusal { number: refusal.number, place: [list, refusal.place[0]] },
+        _ => refusal,
+    }
 }

@@ -4,7 +4,7 @@
 //!     main SEED PART CASE      one case again
 //!
 //! Parts: a, boards true and damaged through routing; b, lists true and damaged through judging; c, random small boards against the exhaustive
-//! router; d, every assignment of nets on small boards against it.
+//! router; d, every assignment of nets on small boards against it; e, pairs of lists true and damaged through the comparison of two routings.
 //! The first difference ends the run with status 1 and prints seed, part, case and the input's bytes. So does a run whose inputs reach too little.
 
 #[path = "../editor/cidrask.rs"]
@@ -12,8 +12,9 @@ mod cidrask;
 mod exhaustive;
 mod generate;
 mod independent;
+mod pairs;
 
-use cidrask::{cidrask_judge, cidrask_route};
+use cidrask::{cidrask_alike, cidrask_judge, cidrask_route};
 use exhaustive::Answer;
 use generate::*;
 use independent::*;
@@ -23,6 +24,9 @@ use std::time::Instant;
 const CASES_A: u64 = 220_000;
 const CASES_B: u64 = 120_000;
 const CASES_C: u64 = 6_000;
+const CASES_E: u64 = 30_000;
+/// Routing words for a board of their own.
+const OTHER_LIST: [u32; 5] = [0x40100001, 0x54000001, 0x40200001, 0x58000001, 0xE0000002];
 /// Bytes before and after a buffer that must stay as they are.
 const GUARD: usize = 16;
 
@@ -40,6 +44,7 @@ struct Run {
     boards: u64,
     routed: u64,
     judged: u64,
+    pairs: u64,
     most_words: usize,
     most_nets: usize,
     large: u64,
@@ -50,6 +55,10 @@ struct Run {
 impl Run {
     fn count(&mut self, kind: &str) {
         *self.kinds.entry(kind.to_string()).or_insert(0) += 1;
+    }
+
+    fn counted(&self, kind: &str) -> u64 {
+        self.kinds.get(kind).copied().unwrap_or(0)
     }
 
     fn count_refused(&mut self, r: &Refusal) {
@@ -73,14 +82,17 @@ impl Run {
     }
 
     fn difference(&self, what: &str, board: &[u8], list: &[u8]) -> ! {
+        self.difference_in(what, &[("board", board), ("list", list)])
+    }
+
+    fn difference_in(&self, what: &str, inputs: &[(&str, &[u8])]) -> ! {
         println!("DIFFERENCE: {what}");
         println!("seed {} part {} case {}", self.seed, self.part, self.case);
-        println!("board bytes: {}", hex(board));
-        println!("list bytes: {}", hex(list));
+        inputs.iter().for_each(|(name, bytes)| println!("{name} bytes: {}", hex(bytes)));
         std::process::exit(1)
     }
 
-    // ------------------------------------------------------------ the two calls
+    // ------------------------------------------------------------ the three calls
 
     /// Calls routing and compares result, place and every byte. Hands back the routing words, where there are any.
     fn route(&mut self, random: &mut Random, board: &[u8], buffer_length: usize) -> Option<Vec<u8>> {
@@ -154,6 +166,36 @@ impl Run {
         Some(report)
     }
 
+    /// Calls the comparison of two lists and compares result and answer or place. Where the lists are the same, they may be lent as one.
+    fn alike(&mut self, board: &[u8], one: &[u8], two: &[u8]) -> Option<bool> {
+        let board_read = read(board);
+        let expected = board_read.as_ref().map_err(|refusal| *refusal).and_then(|b| alike(b, one, two));
+        let shift = self.case as usize + (one.len() + two.len()) / 4;
+        let lent = [(board, shift), (one, shift / 8), (two, shift / 64)].map(|(bytes, shift)| Lent::new(bytes, shift % 8));
+        let lists = [lent[1].start(), if one == two && shift % 2 == 0 { lent[1].start() } else { lent[2].start() }];
+        let mut numbers = Numbers::new();
+        let [first, second, _] = numbers.lend();
+        let result = unsafe { cidrask_alike(lent[0].start(), board.len(), lists[0], one.len(), lists[1], two.len(), first, second) };
+        let [first, second, third] = numbers.taken();
+        let inputs = [("board", board), ("first list", one), ("second list", two)];
+        if !lent.iter().all(Lent::unchanged) || !numbers.guarded() || third != UNTOUCHED {
+            self.difference_in("the comparison wrote to what it is not lent for writing", &inputs);
+        }
+        let due = match expected {
+            Ok(answer) => (0, answer as u64, 0),
+            Err(refusal) => (refusal.number, refusal.place[0] as u64, refusal.place[1] as u64),
+        };
+        if (result, first, second) != due {
+            self.difference_in(&format!("comparing: library {result} at {first} {second}, independent {expected:?}"), &inputs);
+        }
+        self.pairs += 1;
+        match board_read {
+            Ok(b) => self.count_pair(&b, one, two, expected),
+            Err(_) => self.count("refused: the board of a pair"),
+        }
+        expected.ok()
+    }
+
     /// Routes, and has the routing judged by both.
     fn route_and_judge(&mut self, random: &mut Random, board: &[u8], buffer_length: usize) -> Option<Vec<u8>> {
         let words = self.route(random, board, buffer_length)?;
@@ -206,8 +248,7 @@ impl Run {
         });
         for _ in 0..3 {
             let kind = random.below(LIST_KINDS.len());
-            let other = [0x40100001, 0x54000001, 0x40200001, 0x58000001, 0xE0000002];
-            let list = list_bytes(&mut random, kind, &words, &other);
+            let list = list_bytes(&mut random, kind, &words, &OTHER_LIST);
             self.count(LIST_KINDS[kind]);
             self.judge(&bytes, &list);
         }
@@ -445,8 +486,9 @@ fn kinds() -> impl Iterator<Item = &'static str> {
     BOARD_KINDS.into_iter().chain(LIST_KINDS).chain(others)
 }
 
-/// What parts a and b did not reach. The bounds are two thirds or less of what each of the seeds 1985, 1 and 2 reaches; 64 nets are all there can be.
-fn too_little(run: &Run) -> Vec<String> {
+/// What parts a and b reached, and how often is due: two thirds or less of what each of the seeds 1985, 1 and 2 reaches;
+/// 64 nets are all there can be.
+fn reached(run: &Run) -> Vec<(String, u64, u64)> {
     let reached = [
         ("boards through routing", run.boards, 200_000),
         ("routings handed back", run.routed, 50_000),
@@ -458,10 +500,19 @@ fn too_little(run: &Run) -> Vec<String> {
         ("knock-knees", run.knock_knees, 150_000),
     ];
     let mut all: Vec<(String, u64, u64)> = reached.map(|(what, seen, least)| (what.to_string(), seen, least)).into();
-    all.extend(kinds().map(|kind| (format!("inputs of the kind \"{kind}\""), run.kinds.get(kind).copied().unwrap_or(0), 1_000)));
+    all.extend(kinds().map(|kind| (format!("inputs of the kind \"{kind}\""), run.counted(kind), 1_000)));
     all.extend(REFUSALS.map(|number| (format!("refusals by {number}"), run.refused(number), 50)));
-    let short = all.into_iter().filter(|(_, seen, least)| seen < least);
-    short.map(|(what, seen, least)| format!("{what}: {seen}, at least {least} are due")).collect()
+    all
+}
+
+/// Ends the run where something was reached less often than is due.
+fn end_if_short(parts: &str, reached: Vec<(String, u64, u64)>) {
+    let short = reached.into_iter().filter(|(_, seen, least)| seen < least);
+    let short: Vec<String> = short.map(|(what, seen, least)| format!("{what}: {seen}, at least {least} are due")).collect();
+    if !short.is_empty() {
+        println!("FAILED: {parts} too little\n{}", short.join("\n"));
+        std::process::exit(1);
+    }
 }
 
 fn print_run(run: &Run) {
@@ -495,11 +546,8 @@ fn whole(run: &mut Run) {
     (0..CASES_B).for_each(|case| run.part_b(case));
     println!("part b: {CASES_B} boards, each with 3 lists or more; {:.1} s", start.elapsed().as_secs_f64());
     print_run(run);
-    let short = too_little(run);
-    if !short.is_empty() {
-        println!("FAILED: parts a and b reach too little\n{}", short.join("\n"));
-        std::process::exit(1);
-    }
+    end_if_short("parts a and b reach", reached(run));
+    pairs::whole(run.seed);
     if small.join().is_err() {
         println!("FAILED: the small boards were broken off");
         std::process::exit(1);
@@ -508,7 +556,7 @@ fn whole(run: &mut Run) {
 }
 
 fn usage() -> ! {
-    eprintln!("usage: compare/run [SEED [PART CASE]], with part a, b, c or d");
+    eprintln!("usage: compare/run [SEED [PART CASE]], with part a, b, c, d or e");
     std::process::exit(2)
 }
 
@@ -518,6 +566,7 @@ fn again(run: &mut Run, part: &str, case: u64) {
         "b" => run.part_b(case),
         "c" => run.part_c(case, &mut [0; 4]),
         "d" if case < part_d(run, Some(case)) => {}
+        "e" => run.part_e(case),
         _ => usage(),
     }
     println!("no difference in this case");

@@ -1,5 +1,5 @@
-//! The independent side tried on its own: the ring and the boards a to i of the requirements, the three readings of convexity
-//! against each other, and the exhaustive router on boards whose answer is known.
+//! The independent side tried on its own: the ring and the boards a to i of the requirements, pairs of routings whose answer is known,
+//! the three readings of convexity against each other, and the exhaustive router on boards whose answer is known.
 
 mod exhaustive;
 mod independent;
@@ -143,6 +143,70 @@ fn refusals() {
     assert_eq!(list(&|w| w[1] = 0x58000001), Some(refused(46, 0)));
 }
 
+/// Pairs of routings, alike and not.
+fn pairs() {
+    let answer = |board: &Board, one: &[Vec<usize>], two: &[Vec<usize>]| {
+        let [one, two] = [one, two].map(|paths| bytes_of(&routing_words(board, paths)));
+        let answers = [alike(board, &one, &two).unwrap(), alike(board, &two, &one).unwrap()];
+        assert!(answers[0] == answers[1] && alike(board, &one, &one) == Ok(true));
+        answers[0]
+    };
+    // Round one cell on either side.
+    let cell = with_nets(&[(0, 1)], &[(1, (0, 0), (1, 1))]);
+    assert!(!answer(&cell, &[vec![RIGHT, DOWN]], &[vec![DOWN, RIGHT]]));
+    // A loop walked either way, or not at all; it may begin at the first terminal.
+    let row = with_nets(&[(0, 2)], &[(1, (0, 0), (0, 1))]);
+    let (one_way, other_way) = ([vec![RIGHT, DOWN, RIGHT, UP, LEFT]], [vec![RIGHT, RIGHT, DOWN, LEFT, UP]]);
+    assert!(answer(&row, &one_way, &other_way));
+    assert!(!answer(&row, &one_way, &[vec![RIGHT]]));
+    let back = with_nets(&[(0, 2)], &[(1, (0, 1), (0, 0))]);
+    assert!(answer(&back, &[vec![RIGHT, DOWN, LEFT, UP, LEFT]], &[vec![DOWN, RIGHT, UP, LEFT, LEFT]]));
+    // Paths of two nets exchanged, which join the same vertices in the same order or not.
+    let twins = with_nets(&[(0, 1)], &[(1, (0, 0), (1, 1)), (2, (0, 0), (1, 1))]);
+    assert!(!answer(&twins, &[vec![RIGHT, DOWN], vec![DOWN, RIGHT]], &[vec![DOWN, RIGHT], vec![RIGHT, DOWN]]));
+    let turned = with_nets(&[(0, 1)], &[(1, (0, 0), (1, 1)), (2, (1, 1), (0, 0))]);
+    assert!(!answer(&turned, &[vec![RIGHT, DOWN], vec![LEFT, UP]], &[vec![DOWN, RIGHT], vec![UP, LEFT]]));
+    // Equally many edges in all, but not for each net.
+    let two_rows = with_nets(&[(0, 1), (0, 1)], &[(1, (0, 0), (0, 1)), (2, (2, 0), (2, 1))]);
+    let (upper, lower) = ([vec![DOWN, RIGHT, UP], vec![RIGHT]], [vec![RIGHT], vec![UP, RIGHT, DOWN]]);
+    assert!(!answer(&two_rows, &upper, &lower));
+    assert!(answer(&Board::bare(&[(0, 1)]), &[], &[]));
+    assert_eq!(steps_of(&routing_words(&row, &other_way)), other_way);
+}
+
+/// The first list is judged whole, then the second; 41 to 46 put the list before the place, 10 does not.
+fn refusals_of_pairs() {
+    let ring = read(&bytes_of(&RING)).unwrap();
+    let passes = bytes_of(&RING_ROUTED);
+    let changed = |index: usize, word: u32| {
+        let mut words = RING_ROUTED.to_vec();
+        words[index] = word;
+        bytes_of(&words)
+    };
+    let astray = [0x40100003, 0x58000001, 0x54000001, 0x50000001, 0x40200001, 0x5C000001];
+    let lists: [(u32, u32, Vec<u8>); 8] = [
+        (41, 0, Vec::new()),
+        (41, 0, vec![0; 4 * 2050]),
+        (42, 3, changed(3, 0x58000000)),
+        (43, 6, changed(6, 0x40500001)),
+        (43, 8, passes[..32].to_vec()),
+        (44, 5, changed(5, 0x5C000002)),
+        (45, 3, changed(3, 0x5C000001)),
+        (46, 4, bytes_of(&[&astray, &RING_ROUTED[4..]].concat())),
+    ];
+    let uneven = &passes[..35];
+    let ten = Err(refused(10, 0));
+    for (number, place, list) in &lists {
+        let of_list = |index: u32| Err(Refusal { number: *number, place: [index, *place] });
+        assert_eq!(alike(&ring, list, &passes), of_list(0));
+        assert_eq!(alike(&ring, &passes, list), of_list(1));
+        assert_eq!(alike(&ring, list, uneven), of_list(0));
+        assert_eq!(alike(&ring, uneven, list), ten);
+        lists.iter().for_each(|(_, _, other)| assert_eq!(alike(&ring, list, other), of_list(0)));
+    }
+    assert_eq!([alike(&ring, uneven, &passes), alike(&ring, &passes, uneven), alike(&ring, uneven, uneven)], [ten; 3]);
+}
+
 /// The three readings of convexity agree on every board of up to three rows within five columns, and of four within four.
 fn convexity() -> usize {
     let mut tried = 0;
@@ -165,6 +229,8 @@ fn convexity() -> usize {
 fn main() {
     ring_and_boards();
     refusals();
+    pairs();
+    refusals_of_pairs();
     let boards = convexity();
-    println!("self test: the ring, boards a to i, the refusals; convexity on {boards} boards three ways: passed");
+    println!("self test: the ring, boards a to i, the refusals, pairs of routings; convexity on {boards} boards three ways: passed");
 }

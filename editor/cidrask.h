@@ -1,4 +1,4 @@
-/* Cidrask for C: routing and judging boards, on bytes.
+/* Cidrask for C: routing boards, judging routings and comparing two, on bytes.
  *
  * Boards. A board is 1 to 31 rows of unit cells, row 0 at the top; a row runs from column left to column right, 0 <= left < right <= 31. The corners
  * of its cells are the vertices and their sides the edges. A vertex is written (line, column); line i is the top of row i. A board is convex when of
@@ -16,7 +16,7 @@
  *   run            31-28 = 5, 27-26 direction (0 up, 1 right, 2 down, 3 left), 4-0 length 1 to 31
  *   routing's end  31-28 = 14, 7-0 count of paths
  *
- * Both functions are proved: they end on every input, read and write nothing but what they are lent, and keep no state between calls.
+ * The functions are proved: they end on every input, read and write nothing but what they are lent, and keep no state between calls.
  * The caller sees to this:
  *   - a pointer to bytes goes with a length, and may be read (or written) for that many bytes; it is not NULL, also where the length is 0,
  *     and no length is above PTRDIFF_MAX;
@@ -24,12 +24,13 @@
  *   - what a call writes to (the buffer and the numbers) overlaps nothing else that the call is lent;
  *   - no other thread writes to what is lent while the call runs;
  *   - there is stack enough. This is not proved. In the library for x86-64, frames times the code's bounds on recursion come to under 480 KiB for
- *     cidrask_route, and to under 17 KiB for cidrask_judge, which does not recurse. Seen in use were at most 52 KiB and 16 KiB, over 80,000 random
- *     large boards and some whose nets were changed step by step to use more.
+ *     cidrask_route, and to under 17 KiB for cidrask_judge and cidrask_alike, which do not recurse. Seen in use by the first two were at most 52 KiB
+ *     and 16 KiB, over 80,000 random large boards and some whose nets were changed step by step to use more.
  *
  * Answers. The result is 0 where the call is accepted, otherwise the number of the first refusal that holds, in the order told at the call.
- * An index counts words from 0. *first is the place; only 32 and 33 have a second number, in *second.
- *   10  the count of the board's bytes, or of the list's, is not a multiple of 4      0
+ * An index counts words from 0. *first is the place; only 32 and 33 have a second number, in *second. (cidrask_alike tells 41 to 46 otherwise: see
+ * there.)
+ *   10  the count of the board's bytes, or of a list's, is not a multiple of 4        0
  *   11  the board has no words or more than 96                                        0
  *   12  a board word of another kind, or with an unnamed bit set                      its index
  *   13  the first word is no row, a row comes after a net, a net's number is not
@@ -83,6 +84,16 @@ uint32_t cidrask_route(const uint8_t *board, size_t board_length, uint8_t *buffe
  * 44, 45, and 46 after the last run. No other number comes. A word after the end gets 43 whatever it holds. */
 uint32_t cidrask_judge(const uint8_t *board, size_t board_length, const uint8_t *list, size_t list_length, uint64_t *first, uint64_t *second,
                        uint64_t *third);
+
+/* Reads a board and tells whether two routings of it, given as lists of routing words, are alike: whether each net uses the same set of edges in both.
+ * The direction in which a path walks a loop of its own, and the order of its edges, play no part.
+ * Accepted: both lists are the words of routings of the board's nets. *first is 1 where they are alike, otherwise 0; *second is 0.
+ * Refused: for 41 to 46 *first is 0 for the list one or 1 for the list two, and *second is the place in that list; for the others, a list's 10 too,
+ * *first is the place alone, and *second is 0.
+ * Order: the board's 10 to 25 as above; then one whole, in the order of cidrask_judge: 10, 41; each word in turn through 42, 43; path by path, 44 to
+ * 46; then two whole in the same order. No other number comes. */
+uint32_t cidrask_alike(const uint8_t *board, size_t board_length, const uint8_t *one, size_t one_length, const uint8_t *two, size_t two_length,
+                       uint64_t *first, uint64_t *second);
 
 #ifdef __cplusplus
 }

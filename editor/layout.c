@@ -1,10 +1,12 @@
 /* A small layout editor: reads a board from a file, has it routed, has the routing judged, and prints a picture of the board with the routing.
  *
  *     layout FILE
- *     layout FILE LIST     judges the routing words in the file LIST, instead of having the board routed
+ *     layout FILE LIST         judges the routing words in the file LIST, instead of having the board routed
+ *     layout FILE LIST LIST    prints instead whether two lists are "alike" or "not alike"
  *
  * Ends with status 0, or with
- *   1  the board, or the list, is refused: prints "refused", the number and the place;
+ *   1  the board, or a list, is refused: prints "refused", the number and the place; of two lists 0 or 1 for the list stands before the place, but
+ *      not where the count of its bytes is refused;
  *   2  a file cannot be read, or the program is called another way;
  *   3  the routing does not pass the judge.
  * What belongs to 2 and 3 is told on standard error.
@@ -114,9 +116,10 @@ static void print_picture(const struct picture *p) {
     }
 }
 
-static int refused(uint32_t number, uint64_t first, uint64_t second) {
+/* A place has one number, or two: 32 and 33, and of two lists 41 to 46. */
+static int refused(uint32_t number, uint64_t first, uint64_t second, int two) {
     printf("refused %u %llu", (unsigned)number, (unsigned long long)first);
-    if (number == 32 || number == 33) printf(" %llu", (unsigned long long)second);
+    if (two) printf(" %llu", (unsigned long long)second);
     printf("\n");
     return 1;
 }
@@ -136,24 +139,42 @@ static size_t read_file(const char *name, uint8_t *bytes, size_t most) {
     return length;
 }
 
+static int compare(const uint8_t *board, size_t length, const char *one_name, const char *two_name) {
+    static uint8_t one[4 * CIDRASK_ROUTING_WORDS + 7], two[4 * CIDRASK_ROUTING_WORDS + 7];
+    uint64_t first, second;
+    size_t one_length = read_file(one_name, one, CIDRASK_ROUTING_WORDS), two_length = read_file(two_name, two, CIDRASK_ROUTING_WORDS);
+    uint32_t r = cidrask_alike(board, length, one, one_length, two, two_length, &first, &second);
+    if (r != 0) return refused(r, first, second, r >= 41);
+    printf(first ? "alike\n" : "not alike\n");
+    return 0;
+}
+
+/* The board's routing: its words at the start of the buffer, and how many bytes they are in *listed. Or prints the refusal. */
+static int route(const uint8_t *board, size_t length, uint8_t *routing, size_t room, size_t *listed) {
+    uint64_t first, second;
+    uint32_t r = cidrask_route(board, length, routing, room, &first, &second);
+    if (r != 0) return refused(r, first, second, r == 32 || r == 33);
+    *listed = 4 * first;
+    return 0;
+}
+
 int main(int argc, char **argv) {
     static uint8_t board[4 * CIDRASK_BOARD_WORDS + 7], routing[4 * CIDRASK_ROUTING_WORDS + 7];
     static struct picture p;
     uint64_t first, second, third;
-    if (argc != 2 && argc != 3) {
-        fprintf(stderr, "usage: layout FILE [LIST]\n");
+    if (argc < 2 || argc > 4) {
+        fprintf(stderr, "usage: layout FILE [LIST [LIST]]\n");
         return 2;
     }
     size_t length = read_file(argv[1], board, CIDRASK_BOARD_WORDS), listed;
+    if (argc == 4) return compare(board, length, argv[2], argv[3]);
     if (argc == 3) {
         listed = read_file(argv[2], routing, CIDRASK_ROUTING_WORDS);
-    } else {
-        uint32_t r = cidrask_route(board, length, routing, sizeof routing, &first, &second);
-        if (r != 0) return refused(r, first, second);
-        listed = 4 * first;
+    } else if (route(board, length, routing, sizeof routing, &listed) != 0) {
+        return 1;
     }
     uint32_t r = cidrask_judge(board, length, routing, listed, &first, &second, &third);
-    if (r != 0 && argc == 3) return refused(r, first, 0);
+    if (r != 0 && argc == 3) return refused(r, first, 0, 0);
     if (r != 0) {
         fprintf(stderr, "layout: the routing does not pass the judge: %u %llu\n", (unsigned)r, (unsigned long long)first);
         return 3;

@@ -1,5 +1,6 @@
--- Definitions only: the layout editor's two calls, on bytes (document 01, "Board words", last paragraph). Nothing is proved here.
+-- Definitions only: the layout editor's calls, on bytes (document 01, "Board words", last paragraph; document 02, §3). Nothing is proved here.
 use mathlib.Core.Path.{_≡_}
+use mathlib.Core.Bool.{Bool}
 use mathlib.Core.List.{List}
 use Prim.Native.Nat.{ℕ}
 use Rattle.session_rules.specs.Refusal.{Refusal}
@@ -7,12 +8,16 @@ use Rattle.session_rules.specs.Session.{Session}
 use Rattle.call_rules.specs.Result.{Result, no, yes, andThen}
 use Rattle.call_rules.specs.Reading.{readBytes}
 use Rattle.call_rules.specs.Report.{Report}
-use Rattle.call_rules.specs.Judge.{judgeBytes}
+use Rattle.call_rules.specs.Judge.{judgeBytes, compareBytes}
 use Rattle.call_rules.specs.Route.{RoutesBytes}
 
 -- judging: "The board's bytes are read first, then a list's bytes get 10."
 unfoldable pub editorJudge : (board list : List ℕ) → Result Report
 editorJudge board list = andThen (readBytes board) (λ s. judgeBytes s list)
+
+-- comparing: the board's bytes first, then the one list whole, then the other
+unfoldable pub editorAlike : (board one two : List ℕ) → Result Bool
+editorAlike board one two = andThen (readBytes board) (λ s. compareBytes s one two)
 
 -- reading with routing: a refused reading leaves the buffer as it was; else the session is routed into the buffer
 pub data EditorRoutes (board before : List ℕ) : Result ℕ → (after : List ℕ) → Type 0 where

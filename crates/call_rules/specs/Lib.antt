@@ -5,6 +5,7 @@ pub mod Writing
 pub mod Shape
 pub mod Walk
 pub mod Report
+pub mod Alike
 pub mod Judge
 pub mod Route
 pub mod Editor

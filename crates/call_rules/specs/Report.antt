@@ -1,9 +1,9 @@
 -- Definitions only: the report on a judged routing (document 01, "Judging a routing"). Nothing is proved here.
 -- It speaks of pairs and their paths as lists of directions.
-use mathlib.Core.Bool.{Bool, true, false, cond, _&&_}
+use mathlib.Core.Bool.{Bool, cond}
 use mathlib.Core.List.{List, [], _∷_, _++_}
 use Prim.Native.Nat.{ℕ, _+_}
-use lib.Dec.{ltb, eqb}
+use lib.Dec.{ltb}
 use lib.ListN.{length, replicate}
 use Rattle.count.specs.Truth.{one}
 use Rattle.count.specs.Lists.{select}
@@ -57,10 +57,3 @@ pub record Report : Type 0 where
 
 abbrev pub reportOf : List Pair → List (List Direction) → Report
 reportOf ps dss = record { edges = edgesUsed dss; turns = turnsMade dss; knockKnees = knockKnees ps dss }
-
--- "alike when every net uses equally many edges in both"
-unfoldable pub alike : List (List Direction) → List (List Direction) → Bool
-alike [] [] = true
-alike [] (ds ∷ dss) = false
-alike (ds ∷ dss) [] = false
-alike (ds ∷ dss) (es ∷ ess) = eqb (length ds) (length es) && alike dss ess

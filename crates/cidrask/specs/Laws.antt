@@ -1,6 +1,7 @@
 -- What reading hands back, as a result of the definition; and the calls in their parts.
--- Assumes what reading, routing and judging promise.
+-- Assumes what reading, routing, judging and comparing promise.
 use mathlib.Core.Path.{_≡_, refl, ap, sym, _∙_}
+use mathlib.Core.Bool.{Bool}
 use mathlib.Core.List.{List}
 use mathlib.Core.Option.{none, some}
 use Prim.Native.Nat.{ℕ}
@@ -11,12 +12,12 @@ use Rattle.session.specs.View.{sessionOf}
 use Rattle.call_rules.specs.Result.{Result, no, yes}
 use Rattle.call_rules.specs.Reading.{readBytes, handedBack}
 use Rattle.call_rules.specs.Route.{RoutesBytes}
-use Rattle.call_rules.specs.Judge.{judgeBytes}
-use Rattle.call_rules.specs.Editor.{unread, read, editorJudge}
+use Rattle.call_rules.specs.Judge.{judgeBytes, compareBytes}
+use Rattle.call_rules.specs.Editor.{unread, read, editorJudge, editorAlike}
 use Rattle.board_reading.specs.Promise.{readAnswer, refusalIn, ReadPromise}
 use Rattle.board_reading.specs.declared.AfterRead.{AfterRead}
 use Rattle.board_reading.specs.declared.ReadAnswer.the-variants as answer
-use Rattle.cidrask.specs.Told.{tell, routeTold, judgeTold, RoutedAs}
+use Rattle.cidrask.specs.Told.{tell, routeTold, judgeTold, alikeTold, RoutedAs}
 use Rattle.cidrask.specs.declared.Told.{Told}
 
 -- ── reading ──
@@ -34,7 +35,7 @@ read-refused {x} P n p e = is-no x (refusal n p) (sym (ap readAnswer e) ∙ P .a
 pub read-accepted : {x : Result Session} {r : AfterRead} → ReadPromise x r → r .answer ≡ answer.Accepted → x ≡ yes (sessionOf (r .session))
 read-accepted {x} P e = is-yes x (sym (ap readAnswer e) ∙ P .answers) ∙ ap yes (sym (P .session))
 
--- ── the two calls ──
+-- ── the calls ──
 pub routed-unread : {board before : List ℕ} {r : AfterRead} (n p : ℕ) → ReadPromise (readBytes board) r → r .answer ≡ answer.Refused n p
     → RoutedAs board before (tell n p 0 0) before
 routed-unread n p P e = record { result = no (refusal n p); routes = unread (read-refused P n p e); told = refl }
@@ -44,13 +45,18 @@ pub routed-read : {board before after : List ℕ} {r : AfterRead} {a : Result �
     → RoutesBytes (sessionOf (r .session)) before a after → t ≡ routeTold a → RoutedAs board before t after
 routed-read {a = a} P e R f = record { result = a; routes = read (read-accepted P e) R; told = f }
 
--- routing leaves the third number 0
-no-third : (a : Result ℕ) → tell (routeTold a .number) (routeTold a .first) (routeTold a .second) 0 ≡ routeTold a
-no-third (yes n) = refl
-no-third (no r) = refl
+-- routing and comparing leave the third number 0
+pub route-third : (a : Result ℕ) → routeTold a .third ≡ 0
+route-third (yes n) = refl
+route-third (no r) = refl
 
-pub two-numbers : (t : Told) (a : Result ℕ) → t ≡ routeTold a → tell (t .number) (t .first) (t .second) 0 ≡ routeTold a
-two-numbers t a e = ap (λ (x : Told). tell (x .number) (x .first) (x .second) 0) e ∙ no-third a
+pub alike-third : (x : Result Bool) → alikeTold x .third ≡ 0
+alike-third (yes t) = refl
+alike-third (no r) = refl
+
+pub two-numbers : (t u : Told) → t ≡ u → u .third ≡ 0 → tell (t .number) (t .first) (t .second) 0 ≡ u
+two-numbers t u e z =
+    ap (λ (x : Told). tell (x .number) (x .first) (x .second) 0) e ∙ ap (λ (n : ℕ). tell (u .number) (u .first) (u .second) n) (sym z)
 
 pub judged-unread : (board list : List ℕ) {r : AfterRead} (n p : ℕ) → ReadPromise (readBytes board) r → r .answer ≡ answer.Refused n p
     → tell n p 0 0 ≡ judgeTold (editorJudge board list)
@@ -61,3 +67,13 @@ pub judged-read : (board list : List ℕ) {r : AfterRead} {t : Told} → ReadPro
     → t ≡ judgeTold (judgeBytes (sessionOf (r .session)) list) → t ≡ judgeTold (editorJudge board list)
 unfolding editorJudge
 judged-read board list P e f = rw (read-accepted P e) f
+
+pub compared-unread : (board one two : List ℕ) {r : AfterRead} (n p : ℕ) → ReadPromise (readBytes board) r → r .answer ≡ answer.Refused n p
+    → tell n p 0 0 ≡ alikeTold (editorAlike board one two)
+unfolding editorAlike
+compared-unread board one two n p P e = rw (read-refused P n p e) refl
+
+pub compared-read : (board one two : List ℕ) {r : AfterRead} {t : Told} → ReadPromise (readBytes board) r → r .answer ≡ answer.Accepted
+    → t ≡ alikeTold (compareBytes (sessionOf (r .session)) one two) → t ≡ alikeTold (editorAlike board one two)
+unfolding editorAlike
+compared-read board one two P e f = rw (read-accepted P e) f

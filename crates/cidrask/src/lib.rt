@@ -1,14 +1,24 @@
-// The layout editor's two calls, for programs in C. editor/cidrask.h tells a caller how to use them.
+// The layout editor's calls, for programs in C. editor/cidrask.h tells a caller how to use them.
 ghost use mathlib.Core.Path.{_≡_};
 ghost use Rattle.session_rules.specs.Refusal.{refusal};
 ghost use Rattle.call_rules.specs.Route.{overfullRefusal};
-ghost use Rattle.call_rules.specs.Editor.{editorJudge};
+ghost use Rattle.call_rules.specs.Editor.{editorJudge, editorAlike};
 ghost use Rattle.route_call.specs.Answers.{routeAnswer};
-ghost use Rattle.judge_call.specs.Answers.{judgementOf};
-ghost use Rattle.cidrask.specs.Told.{refusedTold, routeTold, judgeTold, RoutedAs, RoutePromise, JudgePromise};
+ghost use Rattle.judge_call.specs.Answers.{judgementOf, likenessOf};
+ghost use Rattle.cidrask.specs.Told.{
+  refusedTold,
+  routeTold,
+  judgeTold,
+  alikeTold,
+  RoutedAs,
+  RoutePromise,
+  JudgePromise,
+  AlikePromise,
+};
 use board_reading::ReadAnswer;
 use cut::Cut;
 use judge_call::Judgement;
+use judge_call::Likeness;
 use route_call::RouteAnswer;
 
 // The numbers by which a caller is told what came out.
@@ -88,6 +98,27 @@ fn judge_told(judgement: Judgement) -> Told
     }
 }
 
+fn alike_told(likeness: Likeness) -> Told
+    ensures { λ r. ⌜ r ≡ alikeTold (likenessOf likeness) ⌝ }
+{
+    match likeness {
+        Likeness::Alike(alike) => Told {
+            number: 0,
+            first: board::bit(alike) as u64,
+            second: 0,
+            third: 0,
+        },
+        Likeness::Unsound => refused(20, 0),
+        Likeness::UnevenBytes => refused(10, 0),
+        Likeness::Refused(list, r) => Told {
+            number: r.number as u32,
+            first: list as u64,
+            second: r.place as u64,
+            third: 0,
+        },
+    }
+}
+
 // The board is read first; a board that is refused leaves the buffer untouched.
 fn routed(board: &[u8], buffer: &mut [u8]) -> Told
     ensures { λ r. ⌜ RoutedAs (now (board .entry)) (now (buffer .entry)) r (now (buffer .exit)) ⌝ }
@@ -108,6 +139,17 @@ fn judged(board: &[u8], list: &[u8]) -> Told
     match answer {
         ReadAnswer::Refused(number, place) => refused(number, place),
         ReadAnswer::Accepted => judge_told(judge_call::judge_bytes(after.session, list)),
+    }
+}
+
+fn compared(board: &[u8], one: &[u8], two: &[u8]) -> Told
+    ensures { λ r. ⌜ r ≡ alikeTold (editorAlike (now (board .entry)) (now (one .entry)) (now (two .entry))) ⌝ }
+{
+    let after = board_reading::read_bytes(board);
+    let answer = after.answer;
+    match answer {
+        ReadAnswer::Refused(number, place) => refused(number, place),
+        ReadAnswer::Accepted => alike_told(judge_call::compare_bytes(after.session, one, two)),
     }
 }
 
@@ -144,5 +186,23 @@ pub extern "C" fn cidrask_judge(
     *first = told.first;
     *second = told.second;
     *third = told.third;
+    told.number
+}
+
+// Reads a board and tells whether two lists of routing words are alike. Answers 0 or the refusal's number; the other two numbers are 1 for alike or
+// 0, and 0; or the place.
+#[no_mangle]
+pub extern "C" fn cidrask_alike(
+    board: &[u8],
+    one: &[u8],
+    two: &[u8],
+    first: &mut u64,
+    second: &mut u64,
+) -> u32
+    ensures { λ r. ⌜ AlikePromise (now (board .entry)) (now (one .entry)) (now (two .entry)) r (now (first .exit)) (now (second .exit)) ⌝ }
+{
+    let told = compared(board, one, two);
+    *first = told.first;
+    *second = told.second;
     told.number
 }

@@ -21,7 +21,7 @@ use Rattle.board_block.specs.declared.Block as code-block
 use Rattle.board.specs.declared.Direction.{Direction}
 use Rattle.board_convex.specs.Test.{isConvex}
 use Rattle.net.specs.declared.Net.{Net}
-use Rattle.routing_rules.specs.Routing.{Routing}
+use Rattle.routing_rules.specs.Routing.{trails, Routing}
 use Rattle.session_rules.specs.Refusal.{Refusal, refusal}
 use Rattle.session_rules.specs.Machine as calls
 use Rattle.session_rules.specs.Machine.{accepted, wentOn}
@@ -40,11 +40,12 @@ use Rattle.session_answers.specs.Answers.{addAnswer, addAllAnswer, withdrawAnsw
 use Rattle.session.specs.Promise.{AddPromise, AddAllPromise, WithdrawPromise, TakeBackPromise, FreshPromise}
 use Rattle.words.specs.Bytes.{wordsIn}
 use Rattle.words.specs.RoutingWord.{routingWords}
-use Rattle.call_rules.specs.Result.{Result, no, yes, andThen}
+use Rattle.call_rules.specs.Result.{Result, no, yes}
 use Rattle.call_rules.specs.Reading.{boardLimit, readWords, readBytes}
 use Rattle.call_rules.specs.Writing.{writeBoard, countOf, bufferAfter, writtenInto}
-use Rattle.call_rules.specs.Report.{Report, reportOf, edgesUsed, turnsMade, knockKnees, alike}
-use Rattle.call_rules.specs.Judge.{judged, judgeWords, ofList, compareWords, judgeBytes}
+use Rattle.call_rules.specs.Report.{Report, reportOf, edgesUsed, turnsMade, knockKnees}
+use Rattle.call_rules.specs.Alike.{Alike, equallyMany}
+use Rattle.call_rules.specs.Judge.{judged, judgeWords, ofList, compareWords, judgeBytes, compareBytes}
 use Rattle.call_rules.specs.Route.{routeRefused, HandsBack, HandsBackBytes, Routes, RoutesBytes}
 use Rattle.board_reading.specs.declared.AfterRead.{AfterRead}
 use Rattle.board_reading.specs.Promise.{readAnswer, ReadPromise}
@@ -56,7 +57,7 @@ use Rattle.judge_call.specs.Answers.{judgementOf, likenessOf}
 use Rattle.route_call.specs.declared.RouteAnswer.{RouteAnswer}
 use Rattle.route_call.specs.Answers.{routeAnswer}
 use Rattle.cidrask.specs.declared.Told.{Told}
-use Rattle.cidrask.specs.Told.{tell, refusedTold, RoutePromise, JudgePromise}
+use Rattle.cidrask.specs.Told.{tell, refusedTold, alikeTold, RoutePromise, JudgePromise, AlikePromise}
 use Rattle.session_history.specs.Made.{Made, changed, routed, routedBytes, Meets, Chain, last, callsOf}
 use Rattle.session_history.specs.Demand as history
 
@@ -88,6 +89,22 @@ pub record TellsJudged (s : machine.Session) (bs : List ℕ) (t : Told) : Type 0
   pub refuses : WholeWords bs → (q : Refusal) → judged s (wordsIn bs) ≡ no q → t ≡ refusedTold q
   pub reports : WholeWords bs → (dss : List (List Direction)) → judged s (wordsIn bs) ≡ yes dss
       → t ≡ tell 0 (edgesUsed dss) (turnsMade dss) (knockKnees (pairs (s .nets)) dss)
+
+-- two lists of words compared against a sound session: the refusal of the first, with 0 before its place; then that of the second, with 1; else
+-- "two routings are alike when each net uses the same set of edges in both" (document 02, §3), and only then
+pub record Compares (s : machine.Session) (vs ws : List ℕ) (x : Result Bool) : Type 0 where
+  pub first : (q : Refusal) → judged s vs ≡ no q → x ≡ ofList 0 (no q)
+  pub second : (dss : List (List Direction)) (q : Refusal) → judged s vs ≡ yes dss → judged s ws ≡ no q → x ≡ ofList 1 (no q)
+  pub answers : (dss ess : List (List Direction)) → judged s vs ≡ yes dss → judged s ws ≡ yes ess
+      → (t : Bool) × (x ≡ yes t) × ((t ≡ true) ↔ Alike (trails (pairs (s .nets)) dss) (trails (pairs (s .nets)) ess))
+
+-- two lists of bytes, each in turn and whole: 10, with the place 0 alone, and then its words
+pub record ComparesBytes (s : machine.Session) (one two : List ℕ) (x : Result Bool) : Type 0 where
+  pub first-uneven : (WholeWords one → ⊥) → x ≡ no (refusal 10 0)
+  pub first : WholeWords one → (q : Refusal) → judged s (wordsIn one) ≡ no q → x ≡ ofList 0 (no q)
+  pub second-uneven : WholeWords one → (dss : List (List Direction)) → judged s (wordsIn one) ≡ yes dss → (WholeWords two → ⊥)
+      → x ≡ no (refusal 10 0)
+  pub words : WholeWords one → WholeWords two → Compares s (wordsIn one) (wordsIn two) x
 
 -- judging accepts
 abbrev pub Passes : Judgement → Type 0
@@ -139,9 +156,12 @@ pub record Demand1 : Type 0 where
       × (Sound (sessionOf s) → ((WholeWords bs → ⊥) → judgementOf r ≡ no (refusal 10 0))
       × (WholeWords bs → Judges (sessionOf s) (wordsIn bs) (judgementOf r)))
   pub compare : (s : Session) (vs ws : List ℕ) (r : Likeness) → likenessOf r ≡ compareWords (sessionOf s) vs ws
-      → (Unsound (sessionOf s) → likenessOf r ≡ no (refusal 20 0))
-      × (Sound (sessionOf s) → likenessOf r
-      ≡ andThen (ofList 0 (judged (sessionOf s) vs)) (λ dss. andThen (ofList 1 (judged (sessionOf s) ws)) (λ ess. yes (alike dss ess))))
+      → (Unsound (sessionOf s) → likenessOf r ≡ no (refusal 20 0)) × (Sound (sessionOf s) → Compares (sessionOf s) vs ws (likenessOf r))
+  pub compare-bytes : (s : Session) (one two : List ℕ) (r : Likeness) → likenessOf r ≡ compareBytes (sessionOf s) one two
+      → (Unsound (sessionOf s) → likenessOf r ≡ no (refusal 20 0)) × (Sound (sessionOf s) → ComparesBytes (sessionOf s) one two (likenessOf r))
+  -- 02, §3: "Any two that are alike in the new sense were alike in the old one": every net uses equally many edges in both
+  pub were-alike : (s : machine.Session) (vs ws : List ℕ) (dss ess : List (List Direction)) → judged s vs ≡ yes dss → judged s ws ≡ yes ess
+      → Alike (trails (pairs (s .nets)) dss) (trails (pairs (s .nets)) ess) → equallyMany dss ess ≡ true
   pub route : (s : Session) (before : List ℕ) (r : RouteAnswer) (after : List ℕ) → Routes (sessionOf s) before (routeAnswer r) after
       → ((q : Refusal) → routeRefused (sessionOf s) (length before) ≡ some q → (routeAnswer r ≡ no q) × (after ≡ before))
       × (routeRefused (sessionOf s) (length before) ≡ none → (n : ℕ) × (routeAnswer r ≡ yes n) × HandsBack (sessionOf s) before after n)
@@ -157,6 +177,10 @@ pub record Demand1 : Type 0 where
   pub c-judge : (board list : List ℕ) (number first second third : ℕ) → JudgePromise board list number first second third
       → ((q : Refusal) → readBytes board ≡ no q → tell number first second third ≡ refusedTold q)
       × ((s : machine.Session) → readBytes board ≡ yes s → TellsJudged s list (tell number first second third))
+  pub c-alike : (board one two : List ℕ) (number first second : ℕ) → AlikePromise board one two number first second
+      → ((q : Refusal) → readBytes board ≡ no q → tell number first second 0 ≡ refusedTold q)
+      × ((s : machine.Session) → readBytes board ≡ yes s
+      → (x : Result Bool) × (tell number first second 0 ≡ alikeTold x) × ComparesBytes s one two x)
 
 -- ── 2 ──
 pub record Demand2 : Type 0 where

@@ -1,6 +1,7 @@
 -- The demands are met.
 -- Assumes nothing but what Demands quantifies over: the promises of the calls.
 use mathlib.Core.Path.{_≡_, refl, ap, sym, _∙_, subst}
+use mathlib.Core.Bool.{Bool}
 use mathlib.Core.List.{List, [], _∷_}
 use mathlib.Core.Logic.{_↔_, inl, inr}
 use mathlib.Core.Option.{none, some}
@@ -31,25 +32,38 @@ use Rattle.words.specs.Bytes.{wordsIn}
 use Rattle.call_rules.specs.Result.{Result, no, yes, andThen}
 use Rattle.call_rules.specs.Reading.{boardLimit, readWords, readBytes, handedBack}
 use Rattle.call_rules.specs.Writing.{boardWords, writeBoard, countOf, bufferAfter}
-use Rattle.call_rules.specs.Report.{Report, reportOf, alike}
-use Rattle.call_rules.specs.Judge.{judged, ifSound, ifEven, judgeWords, ofList, compareWords, judgeBytes}
+use Rattle.call_rules.specs.Report.{Report, reportOf}
+use Rattle.call_rules.specs.Judge.{judged, ifSound, ifEven, judgeWords, ofList, alikeOn, compareWords, judgeBytes, compareBytes}
 use Rattle.call_rules.specs.Route.{routeRefused, HandsBack, HandsBackBytes, Routes, RoutesBytes, refused, given}
-use Rattle.call_rules.specs.Editor.{EditorRoutes, unread, read, editorJudge}
+use Rattle.call_rules.specs.Editor.{EditorRoutes, unread, read, editorJudge, editorAlike}
 use Rattle.route_call.specs.Answers.{routeAnswer}
-use Rattle.cidrask.specs.Told.{tell, refusedTold, routeTold, judgeTold}
+use Rattle.cidrask.specs.Told.{tell, refusedTold, routeTold, judgeTold, alikeTold}
 use Rattle.cidrask.specs.declared.Told.{Told}
 use Rattle.board_convex.specs.Exact.{is-convex}
 use Rattle.board_reading.specs.Promise.{readAnswer, refusalIn, ReadPromise}
 use Rattle.board_reading.specs.declared.AfterRead.{AfterRead}
-use Rattle.judge_call.specs.Answers.{judgementOf}
+use Rattle.judge_call.specs.Answers.{judgementOf, likenessOf}
 use Rattle.judge_laws.specs.Passing.{Numbered}
 use Rattle.judge_laws.specs.Exact.{passes-exactly}
+use Rattle.judge_laws.specs.Alike.{alike-exact, judged-equally-many}
 use Rattle.board_roundtrip.specs.Parts.{unpiled}
 use Rattle.board_roundtrip.specs.RoundTrip.{buffer-reads, read-written, read-bytes-sound}
 use Rattle.session_answers.specs.Answers.{addAnswer}
 use Rattle.session_history.specs.Routing as history
 use Rattle.session_history.specs.Listed as history-listed
-use Rattle.demands.specs.Demands.{Reads, WholeWords, Judges, TellsJudged, Passes, OfRouting, Demand1, Demand2, Demand3}
+use Rattle.demands.specs.Demands.{
+  Reads,
+  WholeWords,
+  Judges,
+  TellsJudged,
+  Compares,
+  ComparesBytes,
+  Passes,
+  OfRouting,
+  Demand1,
+  Demand2,
+  Demand3,
+}
 
 -- ── 1 ──
 -- the answer is none exactly where the definition gives a session
@@ -150,11 +164,6 @@ uneven-first bs x n = rw (ne-eqb (length bs % 4) 0 n) refl
 even-then : {A : Type 0} (bs : List ℕ) (x : Result A) → WholeWords bs → ifEven bs x ≡ x
 even-then bs x e = rw (eq-eqb (length bs % 4) 0 e) refl
 
-compare-is : (s : machine.Session) (vs ws : List ℕ)
-    → compareWords s vs ws ≡ ifSound s (andThen (ofList 0 (judged s vs)) (λ dss. andThen (ofList 1 (judged s ws)) (λ ess. yes (alike dss ess))))
-unfolding compareWords
-compare-is s vs ws = refl
-
 -- C: a session that was read is sound, so that 20 is never told
 tells-judged : (board list : List ℕ) (s : machine.Session) (t : Told) → t ≡ judgeTold (editorJudge board list) → readBytes board ≡ yes s
     → TellsJudged s list t
@@ -172,6 +181,60 @@ tells-judged board list s t P e =
 c-refused : (board list : List ℕ) (q : Refusal) → readBytes board ≡ no q → editorJudge board list ≡ no q
 unfolding editorJudge
 c-refused board list q e = rw e refl
+
+-- ── comparing ──
+-- two results of judging compared, with what is asked between the one and the other
+abbrev comparedBy : machine.Session → (Result Bool → Result Bool) → (x y : Result (List (List Direction))) → Result Bool
+comparedBy s asked x y = andThen (ofList 0 x) (λ dss. asked (andThen (ofList 1 y) (λ ess. yes (alikeOn s dss ess))))
+
+abbrev nothing : Result Bool → Result Bool
+nothing x = x
+
+compare-is : (s : machine.Session) (vs ws : List ℕ) → compareWords s vs ws ≡ ifSound s (comparedBy s nothing (judged s vs) (judged s ws))
+unfolding compareWords
+compare-is s vs ws = refl
+
+compare-bytes-is : (s : machine.Session) (one two : List ℕ)
+    → compareBytes s one two ≡ ifSound s (ifEven one (comparedBy s (ifEven two) (judged s (wordsIn one)) (judged s (wordsIn two))))
+unfolding compareBytes
+compare-bytes-is s one two = refl
+
+compares : (s : machine.Session) (vs ws : List ℕ) (x : Result Bool) → x ≡ comparedBy s nothing (judged s vs) (judged s ws) → Compares s vs ws x
+compares s vs ws x e = record {
+  first = λ q h. e ∙ (rw h refl);
+  second = λ dss q h k. e ∙ (rw (h, k) refl);
+  answers = λ dss ess h k. (alikeOn s dss ess, e ∙ (rw (h, k) refl), alike-exact _ _);
+}
+
+-- bytes that are whole words are asked for nothing
+whole-second : (s : machine.Session) (two : List ℕ) → WholeWords two → (x y : Result (List (List Direction)))
+    → comparedBy s (ifEven two) x y ≡ comparedBy s nothing x y
+whole-second s two w (no r) y = refl
+whole-second s two w (yes dss) y = even-then two _ w
+
+compares-bytes : (s : machine.Session) (one two : List ℕ) (x : Result Bool)
+    → x ≡ ifEven one (comparedBy s (ifEven two) (judged s (wordsIn one)) (judged s (wordsIn two))) → ComparesBytes s one two x
+compares-bytes s one two x e =
+    let y = comparedBy s (ifEven two) (judged s (wordsIn one)) (judged s (wordsIn two)) in
+    let whole : WholeWords one → x ≡ y = λ w. e ∙ even-then one y w in record {
+      first-uneven = λ n. e ∙ uneven-first one y n;
+      first = λ w q h. whole w ∙ (rw h refl);
+      second-uneven = λ w dss h n. whole w ∙ (rw h (uneven-first two _ n));
+      words = λ w u. compares s (wordsIn one) (wordsIn two) x (whole w ∙ whole-second s two u (judged s (wordsIn one)) (judged s (wordsIn two)));
+    }
+
+c-compared : (board one two : List ℕ) (t : Told) → t ≡ alikeTold (editorAlike board one two)
+    → ((q : Refusal) → readBytes board ≡ no q → t ≡ refusedTold q)
+    × ((s : machine.Session) → readBytes board ≡ yes s → (x : Result Bool) × (t ≡ alikeTold x) × ComparesBytes s one two x)
+unfolding editorAlike
+c-compared board one two t P = (
+  λ q e. P ∙ (rw e refl),
+  λ s e. (
+    compareBytes s one two,
+    P ∙ (rw e refl),
+    compares-bytes s one two (compareBytes s one two) (compare-bytes-is s one two ∙ sound-then s _ (read-bytes-sound board s e)),
+  ),
+)
 
 -- a list of nets: 20 first, else as the single adds
 unsound-list : (m : machine.Session) (ns : List Net) → (Sound m → ⊥) → call m (addAll ns) .answer ≡ wentOn 0 (some (refusal 20 0))
@@ -225,13 +288,17 @@ demand-1 = record {
       );
   compare = λ s vs ws r e.
       let m = sessionOf s in let f = e ∙ compare-is m vs ws in
-      let x = andThen (ofList 0 (judged m vs)) (λ dss. andThen (ofList 1 (judged m ws)) (λ ess. yes (alike dss ess))) in
-      (λ n. f ∙ unsound-first m x n, λ S. f ∙ sound-then m x S);
+      (λ n. f ∙ unsound-first m _ n, λ S. compares m vs ws (likenessOf r) (f ∙ sound-then m _ S));
+  compare-bytes = λ s one two r e.
+      let m = sessionOf s in let f = e ∙ compare-bytes-is m one two in
+      (λ n. f ∙ unsound-first m _ n, λ S. compares-bytes m one two (likenessOf r) (f ∙ sound-then m _ S));
+  were-alike = λ s vs ws dss ess e f h. judged-equally-many s vs ws dss ess e f h;
   c-route = λ board before number first second after P. c-routed board before after (P .result) (tell number first second 0) (P .told) (P .routes);
   c-judge = λ board list number first second third P. (
     λ q e. P ∙ ap judgeTold (c-refused board list q e),
     λ s e. tells-judged board list s (tell number first second third) P e,
   );
+  c-alike = λ board one two number first second P. c-compared board one two (tell number first second 0) P;
 }
 
 -- ── 2 ──

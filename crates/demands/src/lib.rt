@@ -10,7 +10,7 @@ ghost use Rattle.session.specs.View.{sessionOf};
 ghost use lib.ListN.{take};
 ghost use Rattle.session.specs.Promise.{FreshPromise, AddPromise, AddAllPromise, WithdrawPromise, TakeBackPromise};
 ghost use Rattle.call_rules.specs.Reading.{readWords, readBytes};
-ghost use Rattle.call_rules.specs.Judge.{judgeWords, judgeBytes, compareWords};
+ghost use Rattle.call_rules.specs.Judge.{judgeWords, judgeBytes, compareWords, compareBytes};
 ghost use Rattle.call_rules.specs.Route.{Routes, RoutesBytes};
 ghost use Rattle.board_reading.specs.Promise.{ReadPromise};
 ghost use Rattle.board_writing.specs.Promise.{WritePromise};
@@ -110,11 +110,17 @@ pub fn judge_bytes(s: Session, bytes: &[u8]) -> Judgement
     judge_call::judge_bytes(s, bytes)
 }
 
-// Are two routings alike?
+// Are two routings, given as words or bytes, alike?
 pub fn compare_words(s: Session, first: &[u32], second: &[u32]) -> Likeness
     ensures { λ r. ⌜ likenessOf r ≡ compareWords (sessionOf s) (now (first .entry)) (now (second .entry)) ⌝ }
 {
     judge_call::compare_words(s, first, second)
+}
+
+pub fn compare_bytes(s: Session, first: &[u8], second: &[u8]) -> Likeness
+    ensures { λ r. ⌜ likenessOf r ≡ compareBytes (sessionOf s) (now (first .entry)) (now (second .entry)) ⌝ }
+{
+    judge_call::compare_bytes(s, first, second)
 }
 
 // A routing of a session's nets, into words or bytes.

@@ -1,127 +1,166 @@
--- The maps of two lists that pass say whether the lists are alike.
--- Assumes that both lists have a path for each net; of the board nothing.
-use mathlib.Core.Path.{_≡_, refl, ap, _∙_}
-use mathlib.Core.Bool.{Bool, true, false, _&&_}
-use mathlib.Core.List.{List, [], _∷_, map}
-use Prim.Native.Nat.{ℕ, zero, suc, _+_, _-_, _<_, _≤_}
+-- The maps of two lists that pass are alike exactly where the routings are: where each net uses the same set of edges in both.
+-- Assumes of both lists that they have paths for the same nets, in rising number, and that their paths are a routing of a board within the limits.
+use mathlib.Core.Path.{_≡_, refl, ap, sym, _∙_}
+use mathlib.Core.Bool.{Bool, true, false, cond}
+use mathlib.Core.List.{List, [], _∷_, flatten, map}
+use mathlib.Core.Logic.{inl, inr, _↔_}
+use Prim.Native.Nat.{ℕ, suc, _+_, _<_, _≤_}
 use native.Mathlib.Omega.{arith}
-use lib.Dec.{eqb}
+use lib.Dec.{ltb}
 use lib.ListN.{length}
-use borrow.Author.Tests.{eq-eqb, ne-eqb}
-use Rattle.count.specs.TruthLaws.{and-assoc}
-use Rattle.board.specs.Board.{Board}
+use borrow.Author.Tests.{lt-ltb, ltb-true, ltb-false}
+use Rattle.count.specs.TruthLaws.{bool, bool-eq, eq-or-ne}
+use Rattle.board.specs.Board.{Board, Within, Edge}
 use Rattle.net.specs.declared.Net.{Net}
-use Rattle.net.specs.declared.Held.{Held}
-use Rattle.net.specs.declared.Held.the-variants.{Nothing, Ends}
-use Rattle.net.specs.declared.Place.{Place}
-use Rattle.net_places.specs.Places.{net, heldNet, netsFrom, netsOf}
+use Rattle.routing_rules.specs.Routing.{edgesFrom, trails, uses, Routing}
+use Rattle.session_laws.specs.Rising.{From, from-less}
 use Rattle.call_rules.specs.Shape.{PathAt}
-use Rattle.call_rules.specs.Report.{directions, alike}
+use Rattle.call_rules.specs.Report.{directions}
+use Rattle.call_rules.specs.Alike.{Alike, alike?}
 use Rattle.call_rules.specs.Judge.{pathsIn}
-use Rattle.judge_walk.specs.EdgeMap.{unused}
-use Rattle.judge_walk.specs.MapWalk.{came, mapPaths}
-use Rattle.judge_alike.specs.MapsAlike.{edgesOf, allFrom, mapsAlike}
-use Rattle.judge_alike.specs.Counted.{lengthOf, edges-are}
+use Rattle.judge_laws.specs.Walks.{uses-append, endsOf}
+use Rattle.judge_laws.specs.Edges.{All, all-edges, joins-edges}
+use Rattle.judge_laws.specs.Alike.{alike-exact}
+use Rattle.judge_walk.specs.Slots.{slot, edgeAt}
+use Rattle.judge_walk.specs.SlotLaws.{Lies, edge-lies, slot-small, edge-at-slot}
+use Rattle.judge_walk.specs.EdgeMap.{onPath, netOn, mapOf}
+use Rattle.judge_alike.specs.MapsAlike.{mapsAlike}
+use Rattle.judge_alike.specs.Slotwise.{maps-exact}
 
--- ── the nets in rising number ──
--- DEFINITION: those up to number i are compared, with the outcome t, and the others up to 64 are left
-pub record Testing (a m : List ℕ) (i : ℕ) (t : Bool) : Type 0 where
-  pub left : t && allFrom (suc i) (64 - i) (λ k. eqb (edgesOf a k) (edgesOf m k)) ≡ mapsAlike a m
-
-pub testing-start : {a m : List ℕ} → Testing a m 0 true
-unfolding mapsAlike
-testing-start = record { left = refl }
-
-pub testing-on : {a m : List ℕ} {i : ℕ} {t : Bool} → Testing a m i t → i < 64 → {k x y : ℕ} → k ≡ i + 1 → x ≡ edgesOf a k → y ≡ edgesOf m k
-    → Testing a m (i + 1) (t && eqb x y)
-unfolding allFrom
-testing-on {a} {m} {i} {t} h l {k} e f g =
-    let n : 64 - i ≡ suc (64 - (i + 1)) = omega arith in
-    let z : k ≡ suc i = omega arith in
-    let q = rw n at (h .left) in
-    let r : suc (i + 1) ≡ suc (suc i) = omega arith in
-    record { left = rw (f, g, z, r, and-assoc t _ _) q }
-
-pub testing-done : {a m : List ℕ} {i : ℕ} {t : Bool} → Testing a m i t → 64 ≤ i → t ≡ mapsAlike a m
-unfolding allFrom
-testing-done {i = i} {t} h l =
-    let n : 64 - i ≡ 0 = omega arith in
-    go t ∙ (rw n at (h .left))
-  where
-    go : (t : Bool) → t ≡ t && true
-    go true = refl
-    go false = refl
-
-all-eq : (k n : ℕ) (s t : ℕ → Bool) → ((j : ℕ) → k ≤ j → s j ≡ t j) → allFrom k n s ≡ allFrom k n t
-unfolding allFrom
-all-eq k zero s t h = refl
-all-eq k (suc n) s t h = rw (h k (omega arith), all-eq (suc k) n s t (λ j p. h j (omega arith))) refl
-
--- ── the nets of a list's paths ──
+-- ── the nets of a list's paths, and their edges ──
 -- DEFINITION: the nets that have a path, in their order
 abbrev pub netsIn : List PathAt → List Net
 netsIn ps = map (λ q. q .net) ps
 
--- a net with a lower number has no edges
-low : (k : ℕ) (places : List Place) (ps : List PathAt) → netsIn ps ≡ netsFrom k places → (j : ℕ) → j < k → lengthOf j ps ≡ 0
-unfolding netsFrom lengthOf
-low k [] [] e j h = refl
-low k [] (q ∷ qs) e j h = absurd (let z : suc (length (netsIn qs)) ≡ 0 = ap length e in omega arith)
-low k (place ∷ places) ps e j h = go (place .held) (λ qs f. low (suc k) places qs f j (omega arith)) ps e
-  where
-    go : (held : Held) → ((qs : List PathAt) → netsIn qs ≡ netsFrom (suc k) places → lengthOf j qs ≡ 0)
-        → (ps : List PathAt) → netsIn ps ≡ heldNet k held (netsFrom (suc k) places) → lengthOf j ps ≡ 0
-    go Nothing rest ps f = rest ps f
-    go (Ends ends) rest [] f = refl
-    go (Ends ends) rest (q ∷ qs) f =
-        let n : q .net .number ≡ k = (let g : q .net ≡ net k ends = cc in ap (λ (x : Net). x .number) g) in
-        let r : netsIn qs ≡ netsFrom (suc k) places = cc in
-        rw (ne-eqb (q .net .number) j (λ z. omega arith)) (omega (arith, rest qs r))
+-- DEFINITION: the edges of each path
+abbrev pub edgesIn : List PathAt → List (List Edge)
+edgesIn ps = trails (endsOf ps) (pathsIn ps)
 
-here : (k : ℕ) (q : PathAt) (qs : List PathAt) → q .net .number ≡ k → lengthOf k qs ≡ 0 → lengthOf k (q ∷ qs) ≡ length (directions (q .runs))
-unfolding lengthOf
-here k q qs e f = rw (eq-eqb (q .net .number) k e, f) (omega arith)
+-- DEFINITION: no edge is used twice
+abbrev Once : List PathAt → Type 0
+Once ps = (e : Edge) → uses e (flatten (edgesIn ps)) ≤ 1
 
-past : (k : ℕ) (q : PathAt) (qs : List PathAt) → q .net .number ≡ k → (j : ℕ) → suc k ≤ j → lengthOf j (q ∷ qs) ≡ lengthOf j qs
-unfolding lengthOf
-past k q qs e j h = rw (ne-eqb (q .net .number) j (λ z. omega arith)) (omega arith)
+-- DEFINITION: the edges of one path
+abbrev pathEdges : PathAt → List Edge
+pathEdges p = edgesFrom (p .net .ends .first) (directions (p .runs))
 
-same-lengths : (k : ℕ) (places : List Place) (ps qs : List PathAt) → netsIn ps ≡ netsFrom k places → netsIn qs ≡ netsFrom k places
-    → alike (pathsIn ps) (pathsIn qs) ≡ allFrom k (length places) (λ j. eqb (lengthOf j ps) (lengthOf j qs))
-unfolding netsFrom allFrom alike
-same-lengths k [] [] [] e f = refl
-same-lengths k [] [] (q ∷ qs) e f = absurd (let z : suc (length (netsIn qs)) ≡ 0 = ap length f in omega arith)
-same-lengths k [] (p ∷ ps) qs e f = absurd (let z : suc (length (netsIn ps)) ≡ 0 = ap length e in omega arith)
-same-lengths k (place ∷ places) ps qs e f = go (place .held) (same-lengths (suc k) places) ps qs e f
-  where
-    go : (held : Held)
-        → ((ps qs : List PathAt) → netsIn ps ≡ netsFrom (suc k) places → netsIn qs ≡ netsFrom (suc k) places
-        → alike (pathsIn ps) (pathsIn qs) ≡ allFrom (suc k) (length places) (λ j. eqb (lengthOf j ps) (lengthOf j qs)))
-        → (ps qs : List PathAt) → netsIn ps ≡ heldNet k held (netsFrom (suc k) places) → netsIn qs ≡ heldNet k held (netsFrom (suc k) places)
-        → alike (pathsIn ps) (pathsIn qs)
-        ≡ eqb (lengthOf k ps) (lengthOf k qs) && allFrom (suc k) (length places) (λ j. eqb (lengthOf j ps) (lengthOf j qs))
-    go Nothing rest ps qs e f =
-        rw (low (suc k) places ps e k (omega arith), low (suc k) places qs f k (omega arith)) (rest ps qs e f)
-    go (Ends ends) rest [] qs e f = absurd (let z : 0 ≡ suc (length (netsFrom (suc k) places)) = ap length e in omega arith)
-    go (Ends ends) rest (p ∷ ps) [] e f = absurd (let z : 0 ≡ suc (length (netsFrom (suc k) places)) = ap length f in omega arith)
-    go (Ends ends) rest (p ∷ ps) (q ∷ qs) e f =
-        let g : netsIn ps ≡ netsFrom (suc k) places = cc in
-        let h : netsIn qs ≡ netsFrom (suc k) places = cc in
-        let m : p .net .number ≡ k = (let y : p .net ≡ net k ends = cc in ap (λ (x : Net). x .number) y) in
-        let n : q .net .number ≡ k = (let y : q .net ≡ net k ends = cc in ap (λ (x : Net). x .number) y) in
-        rw (
-          here k p ps m (low (suc k) places ps g k (omega arith)),
-          here k q qs n (low (suc k) places qs h k (omega arith)),
-          all-eq (suc k) (length places) (λ j. eqb (lengthOf j (p ∷ ps)) (lengthOf j (q ∷ qs))) (λ j. eqb (lengthOf j ps) (lengthOf j qs))
-              (λ j z. rw (past k p ps m j z, past k q qs n j z) refl),
-        ) (ap (λ (t : Bool). eqb (length (directions (p .runs))) (length (directions (q .runs))) && t) (rest ps qs g h))
+uses-more : (p : PathAt) (ps : List PathAt) (e : Edge) → uses e (flatten (edgesIn (p ∷ ps))) ≡ uses e (pathEdges p) + uses e (flatten (edgesIn ps))
+unfolding trails flatten
+uses-more p ps e = uses-append e (pathEdges p) (flatten (edgesIn ps))
 
--- THE LAW: of two lists that pass, with a path for each net of the 64 places
-pub lists-alike : (b : Board) (places : List Place) → length places ≡ 64 → (ps qs : List PathAt) → netsIn ps ≡ netsOf places
-    → netsIn qs ≡ netsOf places → {a m : List ℕ} → mapPaths b ps unused ≡ came tt a → mapPaths b qs unused ≡ came tt m
-    → alike (pathsIn ps) (pathsIn qs) ≡ mapsAlike a m
-unfolding mapsAlike netsOf
-lists-alike b places l ps qs e f {a} {m} g h =
-    same-lengths 1 places ps qs e f
-    ∙ (rw l (all-eq 1 64 (λ j. eqb (lengthOf j ps) (lengthOf j qs)) (λ k. eqb (edgesOf a k) (edgesOf m k))
-    (λ j p. rw (edges-are b ps g j (omega arith), edges-are b qs h j (omega arith)) refl)))
+once-rest : (p : PathAt) (ps : List PathAt) → Once (p ∷ ps) → Once ps
+once-rest p ps o e = omega (arith, o e, uses-more p ps e)
+
+on-path : (e : Edge) (p : PathAt) → (onPath e p ≡ true) ↔ (0 < uses e (pathEdges p))
+unfolding onPath
+on-path e p = (ltb-true 0 (uses e (pathEdges p)), lt-ltb 0 (uses e (pathEdges p)))
+
+-- an edge that no path uses has no net
+no-net : (ps : List PathAt) (e : Edge) → uses e (flatten (edgesIn ps)) ≤ 0 → netOn ps e ≡ 0
+unfolding netOn
+no-net [] e h = refl
+no-net (p ∷ ps) e h = elim (bool (onPath e p)) [
+  | inl t ↦ absurd (let k = on-path e p .0 t in omega (arith, uses-more p ps e))
+  | inr t ↦ rw t (no-net ps e (omega (arith, uses-more p ps e)))
+]
+
+-- an edge that a path uses has no net of a later one
+no-later : (p : PathAt) (ps : List PathAt) → Once (p ∷ ps) → (e : Edge) → onPath e p ≡ true → netOn ps e ≡ 0
+no-later p ps o e t = let k = on-path e p .0 t in no-net ps e (omega (arith, o e, uses-more p ps e))
+
+-- and no edge has the number of an earlier one
+not-earlier : (k : ℕ) (ps : List PathAt) → 0 < k → From (suc k) (netsIn ps) → (e : Edge) → netOn ps e ≡ k → ⊥
+unfolding netOn
+not-earlier k [] z f e h = omega arith
+not-earlier k (p ∷ ps) z f e h = elim (bool (onPath e p)) [
+  | inl t ↦ let n : p .net .number ≡ k = rw t at h in let l = f .0 in omega arith
+  | inr t ↦ let l = f .0 in not-earlier k ps z (from-less (suc (p .net .number)) (suc k) (netsIn ps) (omega arith) (f .1)) e (rw t at h)
+]
+
+-- ── the same net at every edge, the same edges for every net ──
+-- DEFINITION: every edge has the same net in both lists
+abbrev SameNets : List PathAt → List PathAt → Type 0
+SameNets ps qs = (e : Edge) → netOn ps e ≡ netOn qs e
+
+-- of two choices with an equal outcome, where neither second is the first
+picked : (k x y : ℕ) → (x ≡ k → ⊥) → (y ≡ k → ⊥) → (t u : Bool) → cond t k x ≡ cond u k y → t ≡ u
+picked k x y m n true true e = refl
+picked k x y m n true false e = absurd (n (sym e))
+picked k x y m n false true e = absurd (m e)
+picked k x y m n false false e = refl
+
+module _ (p q : PathAt) (ps qs : List PathAt) (n : p .net .number ≡ q .net .number) (z : 0 < p .net .number)
+    (f : From (suc (p .net .number)) (netsIn ps)) (g : From (suc (p .net .number)) (netsIn qs)) (h : SameNets (p ∷ ps) (q ∷ qs)) where
+  first-same : (e : Edge) → onPath e p ≡ onPath e q
+  unfolding netOn
+  first-same e =
+      picked (p .net .number) (netOn ps e) (netOn qs e) (not-earlier _ ps z f e) (not-earlier _ qs z g e) (onPath e p) (onPath e q)
+      (h e ∙ ap (λ (k : ℕ). cond (onPath e q) k (netOn qs e)) (sym n))
+
+  rest-same : Once (p ∷ ps) → Once (q ∷ qs) → SameNets ps qs
+  unfolding netOn
+  rest-same o r e = elim (bool (onPath e p)) [
+    | inl t ↦ no-later p ps o e t ∙ sym (no-later q qs r e (sym (first-same e) ∙ t))
+    | inr t ↦ rw (t, sym (first-same e) ∙ t) at (h e)
+  ]
+
+pub nets-alike : (k : ℕ) (ps qs : List PathAt) → netsIn ps ≡ netsIn qs → 0 < k → From k (netsIn ps) → Once ps → Once qs → SameNets ps qs
+    → Alike (edgesIn ps) (edgesIn qs)
+unfolding trails
+nets-alike k [] [] e z f o r h = tt
+nets-alike k [] (q ∷ qs) e z f o r h = absurd (let y : 0 ≡ suc (length (netsIn qs)) = ap length e in omega arith)
+nets-alike k (p ∷ ps) [] e z f o r h = absurd (let y : suc (length (netsIn ps)) ≡ 0 = ap length e in omega arith)
+nets-alike k (p ∷ ps) (q ∷ qs) e z f o r h =
+    let m : p .net ≡ q .net = cc in
+    let n : p .net .number ≡ q .net .number = ap (λ (x : Net). x .number) m in
+    let s : netsIn ps ≡ netsIn qs = cc in
+    let l : 0 < p .net .number = (let y = f .0 in omega arith) in
+    let g : From (suc (p .net .number)) (netsIn qs) = rw (← s) (f .1) in
+    let one = first-same p q ps qs n l (f .1) g h in (
+      λ x. (λ y. on-path x q .0 (sym (one x) ∙ on-path x p .1 y), λ y. on-path x p .0 (one x ∙ on-path x q .1 y)),
+      nets-alike (suc (p .net .number)) ps qs s (omega arith) (f .1) (once-rest p ps o) (once-rest q qs r) (rest-same p q ps qs n l (f .1) g h o r),
+    )
+
+pub alike-nets : (ps qs : List PathAt) → netsIn ps ≡ netsIn qs → Alike (edgesIn ps) (edgesIn qs) → SameNets ps qs
+unfolding trails netOn
+alike-nets [] [] e h x = refl
+alike-nets [] (q ∷ qs) e h x = absurd h
+alike-nets (p ∷ ps) [] e h x = absurd h
+alike-nets (p ∷ ps) (q ∷ qs) e h x =
+    let m : p .net ≡ q .net = cc in
+    let n : p .net .number ≡ q .net .number = ap (λ (y : Net). y .number) m in
+    let s : netsIn ps ≡ netsIn qs = cc in
+    let t : onPath x p ≡ onPath x q = bool-eq (onPath x p) (onPath x q)
+    (λ y. on-path x q .1 (h .0 x .0 (on-path x p .0 y))) (λ y. on-path x p .1 (h .0 x .1 (on-path x q .0 y))) in
+    rw (t, n, alike-nets ps qs s (h .1) x) refl
+
+-- ── the slots are enough: every edge that a path uses has one ──
+module _ {b : Board} (w : Within b) where
+  on-board : (ps : List PathAt) → All b (flatten (edgesIn ps)) → (e : Edge) → 0 < netOn ps e → Lies e
+  on-board ps a e h = elim (bool (ltb 0 (uses e (flatten (edgesIn ps))))) [
+    | inl t ↦ edge-lies b w e (all-edges b (flatten (edgesIn ps)) a e (ltb-true 0 _ t))
+    | inr t ↦ absurd (let y = no-net ps e (ltb-false 0 _ t) in omega arith)
+  ]
+
+  slots-enough : (ps qs : List PathAt) → All b (flatten (edgesIn ps)) → All b (flatten (edgesIn qs))
+      → ((s : ℕ) → s < 2048 → netOn ps (edgeAt s) ≡ netOn qs (edgeAt s)) → SameNets ps qs
+  slots-enough ps qs a c h e = elim (eq-or-ne (netOn ps e) 0) [
+    | inl x ↦ elim (eq-or-ne (netOn qs e) 0) [
+      | inl y ↦ x ∙ sym y
+      | inr y ↦ at-slot (on-board qs c e (omega arith))
+    ]
+    | inr x ↦ at-slot (on-board ps a e (omega arith))
+  ]
+    where
+      at-slot : Lies e → netOn ps e ≡ netOn qs e
+      at-slot l = rw (edge-at-slot e l) at (h (slot e) (slot-small e))
+
+  -- THE LAW
+  pub lists-alike : (ps qs : List PathAt) → netsIn ps ≡ netsIn qs → From 1 (netsIn ps) → Routing b (endsOf ps) (pathsIn ps)
+      → Routing b (endsOf qs) (pathsIn qs) → mapsAlike (mapOf ps) (mapOf qs) ≡ alike? (edgesIn ps) (edgesIn qs)
+  lists-alike ps qs e f r t =
+      bool-eq (mapsAlike (mapOf ps) (mapOf qs)) (alike? (edgesIn ps) (edgesIn qs))
+      (λ h. alike-exact (edgesIn ps) (edgesIn qs) .1 (nets-alike 1 ps qs e (omega arith) f (r .once) (t .once)
+      (slots-enough ps qs (joins-edges b (endsOf ps) (pathsIn ps) (r .joins)) (joins-edges b (endsOf qs) (pathsIn qs) (t .joins))
+      (maps-exact ps qs .0 h))))
+      (λ h. maps-exact ps qs .1 (λ s l. alike-nets ps qs e (alike-exact (edgesIn ps) (edgesIn qs) .0 h) (edgeAt s)))

@@ -1,27 +1,16 @@
-// Two routings are alike when every net uses equally many edges in both. A net's edges are counted in the maps of used edges.
+// Two routings are alike when each net uses the same set of edges in both: their maps of used edges have the same net at every slot.
 ghost use mathlib.Core.Path.{_≡_};
-ghost use Rattle.judge_alike.specs.MapsAlike.{edgesOf, mapsAlike};
-use numbers::as_word;
+ghost use Rattle.judge_alike.specs.MapsAlike.{mapsAlike};
 
-// How many edges of a map are a net's.
-fn edges_of(map: &[u8; 2048], number: u8) -> u32
-    ensures { λ r. ⌜ r ≡ edgesOf (now (map .entry)) number ⌝ }
-{
-    let mut n: u32 = 0;
-    for i in 0..2048 {
-        n += as_word(board::bit(map[i] == number));
-    }
-    n
-}
-
-// Has every net equally many edges in two maps?
+// Does the same net, or none, use each edge in two maps?
 pub fn is_alike(first: &[u8; 2048], second: &[u8; 2048]) -> bool
     ensures { λ r. ⌜ r ≡ mapsAlike (now (first .entry)) (now (second .entry)) ⌝ }
 {
     let mut same = true;
-    for i in 0u8..64 {
-        let number = i + 1;
-        same = same & (edges_of(first, number) == edges_of(second, number));
+    for i in 0..2048 {
+        let one = first[i];
+        let two = second[i];
+        same = same & (one == two);
     }
     same
 }

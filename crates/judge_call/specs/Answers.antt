@@ -20,4 +20,5 @@ judgementOf (judgement.Refused r) = no (refusalOf r)
 abbrev pub likenessOf : Likeness → Result Bool
 likenessOf (likeness.Alike t) = yes t
 likenessOf likeness.Unsound = no (refusal 20 0)
+likenessOf likeness.UnevenBytes = no (refusal 10 0)
 likenessOf (likeness.Refused k r) = no (listRefusal k r)

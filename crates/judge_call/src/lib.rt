@@ -1,9 +1,10 @@
 // Judging and comparing lists of routing words against a session, given as words or as bytes.
 ghost use mathlib.Core.Path.{_≡_};
 ghost use Rattle.session.specs.View.{sessionOf};
-ghost use Rattle.call_rules.specs.Judge.{judgeWords, compareWords, judgeBytes};
+ghost use Rattle.call_rules.specs.Judge.{judgeWords, compareWords, judgeBytes, compareBytes};
 ghost use Rattle.judge_call.specs.Answers.{judgementOf, likenessOf};
 use judge_list::Comparison;
+use judge_list::Listed;
 use judge_list::Verdict;
 use judge_report::Report;
 use judge_shape::Refusal;
@@ -19,10 +20,11 @@ pub enum Judgement {
     Refused(Refusal),
 }
 
-// What comparing answers: whether the two are alike; 20; or the refusal of the first list, with 0, or of the second, with 1.
+// What comparing answers: whether the two are alike; 20; 10 for either list; or the refusal of the first list, with 0, or of the second, with 1.
 pub enum Likeness {
     Alike(bool),
     Unsound,
+    UnevenBytes,
     Refused(u8, Refusal),
 }
 
@@ -72,5 +74,27 @@ pub fn judge_bytes(s: Session, bytes: &[u8]) -> Judgement
             place: 0,
         }),
         Filled::Words(n) => judge_words(s, &words[..n]),
+    }
+}
+
+// Two lists of bytes: the first whole, then the second.
+pub fn compare_bytes(s: Session, first: &[u8], second: &[u8]) -> Likeness
+    ensures { λ r. ⌜ likenessOf r ≡ compareBytes (sessionOf s) (now (first .entry)) (now (second .entry)) ⌝ }
+{
+    if !s.sound() {
+        return Likeness::Unsound;
+    }
+    let board = s.block.board;
+    let nets = s.nets;
+    let mut one = [0u8; 2048];
+    let mut two = [0u8; 2048];
+    match judge_list::check_bytes(board, nets, first, &mut one) {
+        Listed::UnevenBytes => Likeness::UnevenBytes,
+        Listed::Refused(refusal) => Likeness::Refused(0, refusal),
+        Listed::Passed => match judge_list::check_bytes(board, nets, second, &mut two) {
+            Listed::UnevenBytes => Likeness::UnevenBytes,
+            Listed::Refused(refusal) => Likeness::Refused(1, refusal),
+            Listed::Passed => Likeness::Alike(judge_alike::is_alike(&one, &two)),
+        },
     }
 }

@@ -128,6 +128,15 @@ length-sum b w (e ∷ es) a =
 pub edges-few : (b : Board) → Within b → (es : List Edge) → All b es → ((e : Edge) → uses e es ≤ 1) → length es ≤ 1984
 edges-few b w es a o = omega (arith, length-sum b w es a, sum-few 1984 (λ i. placed i es) (placed-once b w es a o))
 
+-- an edge that is in such a list is the board's
+pub all-edges : (b : Board) (es : List Edge) → All b es → (e : Edge) → 0 < uses e es → IsEdge b e
+unfolding uses
+all-edges b [] a e h = absurd (omega arith)
+all-edges b (f ∷ fs) a e h = elim (bool (sameEdge e f)) [
+  | inl t ↦ rw (same-edge-exact e f .0 t) (a .0)
+  | inr t ↦ all-edges b fs (a .1) e (omega (arith, ap one t))
+]
+
 -- ── the edges of paths ──
 all-append : (b : Board) (xs ys : List Edge) → All b xs → All b ys → All b (xs ++ ys)
 all-append b [] ys a c = c

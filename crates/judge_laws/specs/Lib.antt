@@ -5,4 +5,6 @@ pub mod Straight
 pub mod Passing
 pub mod Edges
 pub mod Exact
+pub mod Alike
+pub mod Loops
 pub mod Reported

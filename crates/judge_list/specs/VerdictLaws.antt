@@ -1,13 +1,16 @@
 -- A check of a list in its parts, and the verdict and the comparison by what the checks say.
--- On a board within the limits they are those of document 01.
+-- On a board within the limits the verdict is that of document 01.
 -- Assumes nothing but that, where it is said.
 use mathlib.Core.Path.{_≡_, refl, ap, sym, _∙_}
-use mathlib.Core.Bool.{Bool}
+use mathlib.Core.Bool.{Bool, true}
 use mathlib.Core.List.{List, [], _∷_}
 use mathlib.Core.Option.{Option, none, some}
 use Prim.Native.Nat.{ℕ, suc, _<_}
 use native.Mathlib.Omega.{arith}
+use lib.Dec.{eqb, ltb}
 use lib.ListN.{length}
+use borrow.Author.Tests.{lt-ltb}
+use Rattle.count.specs.TruthLaws.{or-right}
 use Rattle.count.specs.Each.{Each}
 use Rattle.board.specs.Board.{Board, Within, Edge}
 use Rattle.net.specs.declared.Net.{Net}
@@ -20,10 +23,10 @@ use Rattle.session_rules.specs.Session.{pairs}
 use Rattle.net_places.specs.Places.{heldNet, netsFrom, netsOf}
 use Rattle.call_rules.specs.Result.{Result, no, yes, andThen, unless}
 use Rattle.call_rules.specs.Route.{orElse}
-use Rattle.call_rules.specs.Shape.{between, badCount, wordsRefused, pathsFrom}
+use Rattle.call_rules.specs.Shape.{routingLimit, between, badCount, wordsRefused, pathsFrom}
 use Rattle.call_rules.specs.Walk.{walkPaths}
 use Rattle.call_rules.specs.Report as calls
-use Rattle.call_rules.specs.Report.{reportOf, alike}
+use Rattle.call_rules.specs.Report.{reportOf}
 use Rattle.call_rules.specs.Judge.{pathsIn, judged}
 use Rattle.judge_shape.specs.Refused.{refusalOf, refusedOf}
 use Rattle.judge_shape.specs.States.{shapeRefused}
@@ -35,9 +38,20 @@ use Rattle.judge_walk.specs.MapWalk.{Came, stopped, came, unlessAt, mapPaths, p
 use Rattle.judge_walk.specs.SameWalk.{Agree, Marked, marks-none, paths-same}
 use Rattle.judge_walk.specs.MapMade.{map-made}
 use Rattle.judge_alike.specs.MapsAlike.{mapsAlike}
-use Rattle.judge_alike.specs.Alike.{netsIn, lists-alike}
+use Rattle.judge_alike.specs.Alike.{netsIn}
 use Rattle.judge_laws.specs.Shapes.{shape-nets}
-use Rattle.judge_list.specs.Verdicts.{checkOn, Checks, passing, judgedBy, verdictBy, comparisonBy, on, verdictOn, comparisonOn, listRefusal}
+use Rattle.judge_list.specs.Verdicts.{
+  checkOn,
+  Checks,
+  passing,
+  judgedBy,
+  verdictBy,
+  mapBy,
+  comparisonBy,
+  on,
+  verdictOn,
+  listRefusal,
+}
 
 -- ── a check: its shape, then its paths ──
 module _ {b : Board} {ns : List Net} {ws m : List ℕ} {c : Checked} (e : refusedOf c ≡ shapeRefused ns ws) where
@@ -51,6 +65,18 @@ module _ {b : Board} {ns : List Net} {ws m : List ℕ} {c : Checked} (e : refuse
 
 pub shape-passed : (ns : List Net) (ws : List ℕ) {c : Checked} → refusedOf c ≡ shapeRefused ns ws → c ≡ checked.Passed → shapeRefused ns ws ≡ none
 shape-passed ns ws e f = sym e ∙ (rw f refl)
+
+-- more words than a routing may have
+pub long-stops : {b : Board} {ns : List Net} (ws : List ℕ) {m : List ℕ} → routingLimit < length ws
+    → Checks b ns ws m m (checked.Refused (record { number = 41; place = 0 }))
+unfolding checkOn shapeRefused
+long-stops ws h =
+    let e : badCount ws ≡ true = or-right (eqb (length ws) 0) (ltb routingLimit (length ws)) (lt-ltb routingLimit (length ws) h) in
+    record { ends = rw e refl }
+
+-- the same words, the same answer
+pub checks-same : {b : Board} {ns : List Net} {vs ws m a : List ℕ} {c d : Checked} → Checks b ns vs m a c → vs ≡ ws → c ≡ d → Checks b ns ws m a d
+checks-same h e f = rw (← e, ← f) h
 
 module _ {b : Board} {ns : List Net} {ws : List ℕ} {c : Checked} {a : List ℕ} (h : Checks b ns ws unused a c) where
   refused-by : {r : Refusal} → c ≡ checked.Refused r → judgedBy b ns ws ≡ no (refusalOf r)
@@ -68,9 +94,17 @@ module _ {b : Board} {ns : List Net} {ws : List ℕ} {c : Checked} {a : List ℕ
   pub verdict-passed : c ≡ checked.Passed → {r : calls.Report} → r ≡ reportOf (pairs ns) (pathsIn (pathsFrom 0 ns ws)) → yes r ≡ verdictBy b ns ws
   verdict-passed f g = rw (passed-by f, g) refl
 
-  -- ── the comparison with a second list ──
+  -- ── the map, and the comparison with a second list ──
+  pub map-refused : {r : Refusal} → c ≡ checked.Refused r → mapBy b ns ws ≡ no (refusalOf r)
+  unfolding mapBy
+  map-refused f = rw (← h .ends, f) refl
+
+  pub map-passed : c ≡ checked.Passed → mapBy b ns ws ≡ yes a
+  unfolding mapBy
+  map-passed f = rw (← h .ends, f) refl
+
   pub first-refused : (vs : List ℕ) {r : Refusal} → c ≡ checked.Refused r → no (listRefusal 0 r) ≡ comparisonBy b ns ws vs
-  first-refused vs f = rw (refused-by f) refl
+  first-refused vs f = rw (map-refused f) refl
 
   -- the shape passed, and so did the paths
   pub checked-passed : c ≡ checked.Passed → (shapeRefused ns ws ≡ none) × (mapPaths b (pathsFrom 0 ns ws) unused ≡ came tt a)
@@ -82,33 +116,22 @@ module _ {b : Board} {ns : List Net} {ws : List ℕ} {c : Checked} {a : List ℕ
       go none g = (refl, sym g)
       go (some r) g = absurd (let z : _≡_ {A = ℕ} 0 1 = cc in omega arith)
 
-  module _ (f : c ≡ checked.Passed) {vs : List ℕ} {d : Checked} {m : List ℕ} (k : Checks b ns vs unused m d) where
-    pub second-refused : {r : Refusal} → d ≡ checked.Refused r → no (listRefusal 1 r) ≡ comparisonBy b ns ws vs
-    unfolding judgedBy
-    second-refused g = rw (passed-by f, ← k .ends, g) refl
+module _ {b : Board} {ns : List Net} {vs ws : List ℕ} {c d : Checked} {a m : List ℕ} (h : Checks b ns vs unused a c) (f : c ≡ checked.Passed)
+    (k : Checks b ns ws unused m d) where
+  pub second-refused : {r : Refusal} → d ≡ checked.Refused r → no (listRefusal 1 r) ≡ comparisonBy b ns vs ws
+  second-refused g = rw (map-passed h f, map-refused k g) refl
 
-    both-passed : d ≡ checked.Passed → {t : Bool} → t ≡ alike (pathsIn (pathsFrom 0 ns ws)) (pathsIn (pathsFrom 0 ns vs))
-        → yes t ≡ comparisonBy b ns ws vs
-    unfolding judgedBy
-    both-passed g t = rw (passed-by f, ← k .ends, g, t) refl
+  pub maps-compared : d ≡ checked.Passed → {t : Bool} → t ≡ mapsAlike a m → yes t ≡ comparisonBy b ns vs ws
+  maps-compared g e = rw (map-passed h f, map-passed k g, e) refl
 
 -- a list with the shape has a path for each net
-shape-all : (ns : List Net) (ws : List ℕ) → shapeRefused ns ws ≡ none → netsIn (pathsFrom 0 ns ws) ≡ ns
+pub shape-all : (ns : List Net) (ws : List ℕ) → shapeRefused ns ws ≡ none → netsIn (pathsFrom 0 ns ws) ≡ ns
 unfolding shapeRefused
 shape-all ns ws e = shape-nets (length ns) 0 ns ws (go (firstRefusal (line (badCount ws) 41 0 ∷ [])) e)
   where
     go : (o : Option machine.Refusal) → orElse o (wordsRefused (length ns) 0 between ns ws) ≡ none → wordsRefused (length ns) 0 between ns ws ≡ none
     go none f = f
     go (some r) f = absurd (let z : _≡_ {A = ℕ} 0 1 = cc in omega arith)
-
-pub maps-compared : {b : Board} (places : List Place) {ws vs : List ℕ} {c d : Checked} {a m : List ℕ} → length places ≡ 64
-    → Checks b (netsOf places) ws unused a c → c ≡ checked.Passed → Checks b (netsOf places) vs unused m d → d ≡ checked.Passed
-    → {t : Bool} → t ≡ mapsAlike a m → yes t ≡ comparisonBy b (netsOf places) ws vs
-maps-compared {b} places {ws} {vs} l h f k g e =
-    let x = checked-passed h f in
-    let y = checked-passed k g in
-    both-passed h f k g (e ∙ sym (lists-alike b places l (pathsFrom 0 (netsOf places) ws) (pathsFrom 0 (netsOf places) vs)
-    (shape-all (netsOf places) ws (x .0)) (shape-all (netsOf places) vs (y .0)) (x .1) (y .1)))
 
 -- ── within the limits ──
 numbers-above : (k : ℕ) (places : List Place) (i : ℕ) (ws : List ℕ) → 0 < k → Each (λ q. 0 < q .net .number) (pathsFrom i (netsFrom k places) ws)
@@ -126,7 +149,7 @@ unless-twice : {A : Type 0} (x y : Option machine.Refusal) (z : Result A) → un
 unless-twice none y z = refl
 unless-twice (some r) y z = refl
 
-judged-is : (b : Board) (ns : List Net) (ws : List ℕ)
+pub judged-is : (b : Board) (ns : List Net) (ws : List ℕ)
     → judged (on b ns) ws ≡ unless (shapeRefused ns ws) (andThen (walkPaths b (pathsFrom 0 ns ws) []) (λ used. yes (pathsIn (pathsFrom 0 ns ws))))
 unfolding judged shapeRefused
 judged-is b ns ws = unless-twice (firstRefusal (line (badCount ws) 41 0 ∷ [])) (wordsRefused (length ns) 0 between ns ws) _
@@ -160,7 +183,3 @@ map-left w places ws h f = map-made w (pathsFrom 0 (netsFrom 1 places) ws) (numb
 
 pub verdict-same : {b : Board} → Within b → (places : List Place) (ws : List ℕ) → verdictBy b (netsOf places) ws ≡ verdictOn b (netsOf places) ws
 verdict-same w places ws = rw (judged-same w places ws) refl
-
-pub comparison-same : {b : Board} → Within b → (places : List Place) (vs ws : List ℕ)
-    → comparisonBy b (netsOf places) vs ws ≡ comparisonOn b (netsOf places) vs ws
-comparison-same w places vs ws = rw (judged-same w places vs, judged-same w places ws) refl

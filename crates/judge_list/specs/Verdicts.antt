@@ -1,7 +1,7 @@
 -- Definitions only: judging and comparing on a board with nets, and what the values of the code stand for. Nothing is proved here.
 -- The code walks with a map of used edges (judge_walk, MapWalk). On a board within the limits that gives what document 01 lays down: see VerdictLaws.
 use mathlib.Core.Path.{_≡_}
-use mathlib.Core.Bool.{Bool}
+use mathlib.Core.Bool.{Bool, true, false}
 use mathlib.Core.List.{List, [], _∷_}
 use Prim.Native.Nat.{ℕ}
 use Rattle.board.specs.Board.{Board}
@@ -11,20 +11,25 @@ use Rattle.net.specs.declared.Net.{Net}
 use Rattle.session_rules.specs.Refusal as machine
 use Rattle.session_rules.specs.Session.{Session, withNets, pairs}
 use Rattle.session_rules.specs.Sound.{bare}
+use Rattle.words.specs.Bytes.{wordsIn, uneven}
 use Rattle.call_rules.specs.Result.{Result, no, yes, andThen}
 use Rattle.call_rules.specs.Shape.{pathsFrom}
 use Rattle.call_rules.specs.Report as calls
-use Rattle.call_rules.specs.Report.{reportOf, alike}
-use Rattle.call_rules.specs.Judge.{pathsIn, judged, ofList}
+use Rattle.call_rules.specs.Report.{reportOf}
+use Rattle.call_rules.specs.Judge.{pathsIn, judged, ofList, alikeOn}
 use Rattle.judge_shape.specs.Refused.{refusalOf}
 use Rattle.judge_shape.specs.States.{shapeRefused}
 use Rattle.judge_shape.specs.declared.Refusal.{Refusal}
 use Rattle.judge_shape.specs.declared.Checked.{Checked}
+use Rattle.judge_shape.specs.declared.Checked.the-variants as checked
 use Rattle.judge_walk.specs.EdgeMap.{unused}
 use Rattle.judge_walk.specs.MapWalk.{Came, stopped, came, unlessAt, mapPaths, pathEnd}
 use Rattle.judge_report.specs.Reports.{reportIs}
+use Rattle.judge_alike.specs.MapsAlike.{mapsAlike}
 use Rattle.judge_list.specs.declared.Verdict.{Verdict}
 use Rattle.judge_list.specs.declared.Verdict.the-variants as verdict
+use Rattle.judge_list.specs.declared.Listed.{Listed}
+use Rattle.judge_list.specs.declared.Listed.the-variants as listed
 use Rattle.judge_list.specs.declared.Comparison.{Comparison}
 use Rattle.judge_list.specs.declared.Comparison.the-variants as comparison
 
@@ -36,6 +41,16 @@ checkOn b ns ws m = unlessAt m (shapeRefused ns ws) (mapPaths b (pathsFrom 0 ns 
 -- what `check` promises: its answer r, and the map m' that it leaves
 pub record Checks (b : Board) (ns : List Net) (ws : List ℕ) (m m' : List ℕ) (r : Checked) : Type 0 where
   pub ends : pathEnd r m' ≡ checkOn b ns ws m
+
+-- the same of bytes: 10 where their count is not a multiple of 4, and then the map is untouched
+abbrev pub ListedAs : Board → List Net → (bs m m' : List ℕ) → Listed → Type 0
+ListedAs b ns bs m m' listed.UnevenBytes = (uneven bs ≡ true) × (m' ≡ m)
+ListedAs b ns bs m m' (listed.Refused r) = (uneven bs ≡ false) × Checks b ns (wordsIn bs) m m' (checked.Refused r)
+ListedAs b ns bs m m' listed.Passed = (uneven bs ≡ false) × Checks b ns (wordsIn bs) m m' checked.Passed
+
+-- what `check_bytes` promises
+pub record ChecksBytes (b : Board) (ns : List Net) (bs : List ℕ) (m m' : List ℕ) (r : Listed) : Type 0 where
+  pub tells : ListedAs b ns bs m m' r
 
 -- a value, where the check passes
 abbrev pub passing : {A : Type 0} → Came (Unit {0}) → A → Result A
@@ -49,8 +64,17 @@ judgedBy b ns ws = passing (checkOn b ns ws unused) (pathsIn (pathsFrom 0 ns ws)
 abbrev pub verdictBy : Board → List Net → List ℕ → Result calls.Report
 verdictBy b ns ws = andThen (judgedBy b ns ws) (λ dss. yes (reportOf (pairs ns) dss))
 
+-- the map that a check leaves that passes, or its refusal
+abbrev pub leaving : Came (Unit {0}) → Result (List ℕ)
+leaving (stopped r m) = no r
+leaving (came u m) = yes m
+
+-- the map of a list that passes from no edge used, or its refusal
+unfoldable pub mapBy : Board → List Net → List ℕ → Result (List ℕ)
+mapBy b ns ws = leaving (checkOn b ns ws unused)
+
 abbrev pub comparisonBy : Board → List Net → (vs ws : List ℕ) → Result Bool
-comparisonBy b ns vs ws = andThen (ofList 0 (judgedBy b ns vs)) (λ dss. andThen (ofList 1 (judgedBy b ns ws)) (λ ess. yes (alike dss ess)))
+comparisonBy b ns vs ws = andThen (ofList 0 (mapBy b ns vs)) (λ a. andThen (ofList 1 (mapBy b ns ws)) (λ m. yes (mapsAlike a m)))
 
 -- ── document 01's, without refusal 20 ──
 -- a session on a board, with these nets and an empty pile
@@ -61,7 +85,8 @@ abbrev pub verdictOn : Board → List Net → List ℕ → Result calls.Report
 verdictOn b ns ws = andThen (judged (on b ns) ws) (λ dss. yes (reportOf (pairs ns) dss))
 
 abbrev pub comparisonOn : Board → List Net → (vs ws : List ℕ) → Result Bool
-comparisonOn b ns vs ws = andThen (ofList 0 (judged (on b ns) vs)) (λ dss. andThen (ofList 1 (judged (on b ns) ws)) (λ ess. yes (alike dss ess)))
+comparisonOn b ns vs ws =
+    andThen (ofList 0 (judged (on b ns) vs)) (λ dss. andThen (ofList 1 (judged (on b ns) ws)) (λ ess. yes (alikeOn (on b ns) dss ess)))
 
 -- ── what the values of the code stand for ──
 abbrev pub verdictOf : Verdict → Result calls.Report

@@ -8,6 +8,7 @@ ghost use Rattle.net_places.specs.Places.{netsOf};
 ghost use Rattle.judge_shape.specs.declared.Checked.the-variants.{Passed};
 ghost use Rattle.judge_list.specs.Verdicts.{
   Checks,
+  ChecksBytes,
   verdictBy,
   verdictOf,
   comparisonBy,
@@ -18,6 +19,8 @@ use judge_report::Report;
 use judge_shape::Checked;
 use judge_shape::Refusal;
 use net::Place;
+use words::ROUTING_WORDS;
+use words_bytes::Filled;
 
 // The report on a list that passes, or its refusal.
 pub enum Verdict {
@@ -31,6 +34,13 @@ pub enum Comparison {
     Refused(u8, Refusal),
 }
 
+// What a list of bytes comes to: it passes; 10 a count of bytes that is no multiple of 4; or 41 to 46.
+pub enum Listed {
+    Passed,
+    UnevenBytes,
+    Refused(Refusal),
+}
+
 // Does a list pass? First the shape of the whole list, then the paths in order, with a map of the edges used before.
 fn check(b: Board, nets: [Place; 64], words: &[u32], used: &mut [u8; 2048]) -> Checked
     ensures { λ r. ⌜ Checks (boardOf b) (netsOf nets) (now (words .entry)) (now (used .entry)) (now (used .exit)) r ⌝ }
@@ -39,6 +49,24 @@ fn check(b: Board, nets: [Place; 64], words: &[u32], used: &mut [u8; 2048]) -> C
     match judge_shape::check_shape(nets, words) {
         Checked::Refused(r) => Checked::Refused(r),
         Checked::Passed => judge_walk::walk_paths(b, nets, words, used),
+    }
+}
+
+// The same of bytes.
+pub fn check_bytes(b: Board, nets: [Place; 64], bytes: &[u8], used: &mut [u8; 2048]) -> Listed
+    ensures { λ r. ⌜ ChecksBytes (boardOf b) (netsOf nets) (now (bytes .entry)) (now (used .entry)) (now (used .exit)) r ⌝ }
+{
+    let mut words = [0u32; ROUTING_WORDS];
+    match words_bytes::fill_all(bytes, &mut words) {
+        Filled::Uneven => Listed::UnevenBytes,
+        Filled::Long => Listed::Refused(Refusal {
+            number: 41,
+            place: 0,
+        }),
+        Filled::Words(n) => match check(b, nets, &words[..n], used) {
+            Checked::Passed => Listed::Passed,
+            Checked::Refused(r) => Listed::Refused(r),
+        },
     }
 }
 

@@ -127,6 +127,9 @@ slot-edge-at s h =
       | inr e ↦ rw (e .0, ne-eqb (s / 64) (suc (s / 64)) (λ z. omega arith), l, c) (omega (arith, e .2))
     ]
 
+pub edge-at-slot : (e : Edge) → Lies e → edgeAt (slot e) ≡ e
+edge-at-slot e l = slots-apart (edgeAt (slot e)) e (edge-at-lies (slot e) (slot-small e)) l (slot-edge-at (slot e) (slot-small e))
+
 -- ── a mark ──
 pub marked-at : (m : List ℕ) (k : ℕ) → length m ≡ 2048 → (e f : Edge) → Lies e → Lies f
     → getD (set m (slot f) k) (slot e) 0 ≡ cond (sameEdge e f) k (getD m (slot e) 0)

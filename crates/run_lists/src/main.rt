@@ -1,5 +1,5 @@
 // Judges stored lists of routing words and prints each verdict on a line: "passed" with edges, turns and knock-knees, or "refused" with
-// number and place. Two comparisons stand between them.
+// number and place. Four comparisons stand between them.
 use board::Board;
 use board::Row;
 use board::Vertex;
@@ -118,6 +118,39 @@ fn ring_lists() {
     compare_changed(1, 1476395009);
 }
 
+// One cell, and a net from corner to corner: round one side of it, and round the other.
+fn other_side() {
+    let mut nets = no_nets();
+    nets[0] = place(0, 0, 1, 1);
+    let first: [u32; 4] = [1074790402, 1409286145, 1476395009, 3758096385];
+    let second: [u32; 4] = [1074790402, 1476395009, 1409286145, 3758096385];
+    show_comparison(judge_list::compare(rectangle(1, 1), nets, &first, &second));
+}
+
+// Two cells, and a net along the first that then goes round the second: right first, and down first.
+fn either_way() {
+    let mut nets = no_nets();
+    nets[0] = place(0, 0, 0, 1);
+    let first: [u32; 6] = [
+        1074790404,
+        1409286146,
+        1476395009,
+        1543503873,
+        1342177281,
+        3758096385,
+    ];
+    let second: [u32; 7] = [
+        1074790405,
+        1409286145,
+        1476395009,
+        1409286145,
+        1342177281,
+        1543503873,
+        3758096385,
+    ];
+    show_comparison(judge_list::compare(rectangle(1, 2), nets, &first, &second));
+}
+
 // Two nets that both turn at (1,1): down, left and left, down.
 fn knock_knee() {
     let mut nets = no_nets();
@@ -151,6 +184,8 @@ fn longest_board() {
 
 fn main() {
     ring_lists();
+    other_side();
+    either_way();
     knock_knee();
     longest_board();
 }

@@ -25,8 +25,9 @@ use Rattle.call_rules.specs.Reading.{wordLines, takeWords, addListed, readNets,
 use Rattle.call_rules.specs.Writing.{boardWords, writeBoard}
 use Rattle.call_rules.specs.Shape.{wordsRefused, runsFrom, pathsFrom}
 use Rattle.call_rules.specs.Walk.{walkSteps, walkRuns, walkPath, walkPaths}
-use Rattle.call_rules.specs.Report.{directions, edgesUsed, turnsMade, turnsAt, turning, knockKnee, knockKnees, alike}
-use Rattle.call_rules.specs.Judge.{judged, judgeWords, compareWords, judgeBytes}
+use Rattle.call_rules.specs.Report.{directions, edgesUsed, turnsMade, turnsAt, turning, knockKnee, knockKnees}
+use Rattle.call_rules.specs.Alike.{among?, alike?, equallyMany}
+use Rattle.call_rules.specs.Judge.{judged, judgeWords, compareWords, judgeBytes, compareBytes}
 use Rattle.call_rules.specs.Route.{routeRefused}
 
 unfoldable pub everything : ℕ
@@ -37,6 +38,7 @@ unfolding sum count select turn turns belowRight belowLeft aboveRight aboveLeft 
     sound? call
     boardWord asRow asNet asEnd routingWord asPath asRun asRoutingEnd runsOf pathWords pathsWords routingWords wordsIn bytesOf wordLines takeWords
     addListed readNets readTaken readWords readBytes boardWords writeBoard wordsRefused runsFrom pathsFrom walkSteps walkRuns walkPath walkPaths
-    directions edgesUsed turnsMade turnsAt turning knockKnee knockKnees alike judged judgeWords compareWords judgeBytes routeRefused after answers xor
+    directions edgesUsed turnsMade turnsAt turning knockKnee knockKnees among? alike? equallyMany judged judgeWords compareWords judgeBytes
+    compareBytes routeRefused after answers xor
     flatMap flatten
 everything = 0

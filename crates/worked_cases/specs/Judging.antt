@@ -6,13 +6,16 @@ use mathlib.Core.List.{List, [], _∷_, map}
 use Prim.Native.Nat.{ℕ}
 use lib.ListN.{replicate}
 use Rattle.board.specs.Path.{turns}
+use Rattle.board.specs.declared.Direction.{Direction}
 use Rattle.board.specs.declared.Direction.the-variants.{Up, Right, Down, Left}
 use Rattle.net.specs.declared.Change.the-variants.{Withdrawn}
 use Rattle.words.specs.RoutingWord.{routingWords}
-use Rattle.session_rules.specs.Session.{withNets}
+use Rattle.words.specs.Bytes.{bytesOf}
+use Rattle.session_rules.specs.Session.{Session, withNets}
 use Rattle.call_rules.specs.Result.{yes}
 use Rattle.call_rules.specs.Report.{knockKnees}
-use Rattle.call_rules.specs.Judge.{judgeWords, compareWords, judgeBytes}
+use Rattle.call_rules.specs.Alike.{equallyMany}
+use Rattle.call_rules.specs.Judge.{judgeWords, compareWords, judgeBytes, compareBytes}
 use Rattle.worked_cases.specs.Everything.{everything}
 use Rattle.worked_cases.specs.Boards.{row, net, session, ring, ringOutput, why}
 
@@ -141,6 +144,59 @@ lengths : (compareWords (session (row 0 2 ∷ []) (net 1 0 1 1 1 ∷ []))
     (routingWords (net 1 0 1 1 1 ∷ []) ((Down ∷ []) ∷ [])) (routingWords (net 1 0 1 1 1 ∷ []) ((Down ∷ []) ∷ [])) ≡ yes true)
 unfolding everything
 lengths = (refl, refl)
+
+-- ── the same copper (document 02, §3) ──
+-- one cell, and a net from corner to corner round one side of it or the other: equal lengths, not alike
+abbrev corners : Session
+corners = session (row 0 1 ∷ []) (net 1 0 0 1 1 ∷ [])
+
+other-side : (compareWords corners (routingWords (corners .nets) ((Right ∷ Down ∷ []) ∷ [])) (routingWords (corners .nets) ((Down ∷ Right ∷ []) ∷ []))
+    ≡ yes false)
+    × (equallyMany ((Right ∷ Down ∷ []) ∷ []) ((Down ∷ Right ∷ []) ∷ []) ≡ true)
+unfolding everything
+other-side = (refl, refl)
+
+-- two such nets, and the two exchange their ways: equal lengths and the same edges in all, not alike
+abbrev twoNets : Session
+twoNets = session (row 0 1 ∷ []) (net 1 0 0 1 1 ∷ net 2 0 0 1 1 ∷ [])
+
+exchanged : (compareWords twoNets (routingWords (twoNets .nets) ((Right ∷ Down ∷ []) ∷ (Down ∷ Right ∷ []) ∷ []))
+    (routingWords (twoNets .nets) ((Down ∷ Right ∷ []) ∷ (Right ∷ Down ∷ []) ∷ [])) ≡ yes false)
+    × (equallyMany ((Right ∷ Down ∷ []) ∷ (Down ∷ Right ∷ []) ∷ []) ((Down ∷ Right ∷ []) ∷ (Right ∷ Down ∷ []) ∷ []) ≡ true)
+unfolding everything
+exchanged = (refl, refl)
+
+-- two cells, and a net along the first that then goes round the second, one way or the other: alike
+abbrev withLoop : Session
+withLoop = session (row 0 2 ∷ []) (net 1 0 0 0 1 ∷ [])
+
+either-way : compareWords withLoop (routingWords (withLoop .nets) ((Right ∷ Right ∷ Down ∷ Left ∷ Up ∷ []) ∷ []))
+    (routingWords (withLoop .nets) ((Right ∷ Down ∷ Right ∷ Up ∷ Left ∷ []) ∷ [])) ≡ yes true
+unfolding everything
+either-way = refl
+
+-- the same net with and without the loop: the second lacks edges of the first, and the other way about
+loop-left-out : map (λ (dss : List (List Direction)). compareWords withLoop (routingWords (withLoop .nets) dss)
+    (routingWords (withLoop .nets) ((Right ∷ []) ∷ []))) (((Right ∷ Right ∷ Down ∷ Left ∷ Up ∷ []) ∷ []) ∷ ((Right ∷ []) ∷ []) ∷ [])
+    ≡ yes false ∷ yes true ∷ []
+unfolding everything
+loop-left-out = refl
+
+loop-put-in : compareWords withLoop (routingWords (withLoop .nets) ((Right ∷ []) ∷ []))
+    (routingWords (withLoop .nets) ((Right ∷ Right ∷ Down ∷ Left ∷ Up ∷ []) ∷ [])) ≡ yes false
+unfolding everything
+loop-put-in = refl
+
+-- two lists of bytes, each in turn and whole: 41 of the first before 10 of the second; 10 of the second, with its place alone, once the first passes
+compared-bytes : map (λ (bs : List ℕ). why (compareBytes ring bs (1 ∷ []))) ([] ∷ (1 ∷ []) ∷ bytesOf ringOutput ∷ [])
+    ≡ (41 ∷ 0 ∷ 0 ∷ []) ∷ (10 ∷ 0 ∷ []) ∷ (10 ∷ 0 ∷ []) ∷ []
+unfolding everything
+compared-bytes = refl
+
+compared-bytes-second : (why (compareBytes ring (bytesOf ringOutput) []) ≡ 41 ∷ 1 ∷ 0 ∷ [])
+    × (compareBytes ring (bytesOf ringOutput) (bytesOf ringOutput) ≡ yes true)
+unfolding everything
+compared-bytes-second = (refl, refl)
 
 -- a net that passes the vertex (1,1) twice, turning there twice, alone: no knock-knee
 twice : judgeWords (session (row 0 2 ∷ row 0 2 ∷ []) (net 1 0 1 1 2 ∷ []))

@@ -3,7 +3,7 @@ use Rattle.judge_call.specs.Calls.{compare-unsound, compare-sound}
 use Rattle.session.specs.View.{sessionOf}
 use borrow.Author.Tests.{not-true, not-false}
 use Rattle.judge_list.specs.Verdicts.{comparisonOf}
-use Rattle.judge_list.specs.VerdictLaws.{comparison-same}
+use Rattle.judge_list.specs.ComparisonLaws.{comparison-same}
 use mathlib.Core.Path.{ap, sym, _∙_}
 use borrow.Author.Needs.{needs}
 use Rattle.judge_call.proofs.compare_words.Statement.{statement}

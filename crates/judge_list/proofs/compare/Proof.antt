@@ -1,5 +1,4 @@
 -- `compare` gives the comparison, from the maps of the two lists.
-use native.Mathlib.Omega.{arith}
 use Rattle.judge_list.specs.VerdictLaws.{first-refused, second-refused, maps-compared}
 use borrow.Author.Needs.{needs}
 use Rattle.judge_list.proofs.compare.Statement.{statement}
@@ -39,8 +38,7 @@ returns-2 c =
 
 returns-3 : tie.Need-returns-3
 returns-3 c =
-    maps-compared _
-    (omega (arith, c .before .before .before .before .before .before .before .before .before .before .before .before .before .good .1 .0))
+    maps-compared
     (c .before .before .before .before .before .before .before .before .before .check .ensures .0)
     (c .before .before .before .before .before .before .before .enum-told .given .1)
     (c .before .before .before .before .before .check2 .ensures .0)
