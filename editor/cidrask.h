@@ -85,13 +85,13 @@ uint32_t cidrask_route(const uint8_t *board, size_t board_length, uint8_t *buffe
 uint32_t cidrask_judge(const uint8_t *board, size_t board_length, const uint8_t *list, size_t list_length, uint64_t *first, uint64_t *second,
                        uint64_t *third);
 
-/* Reads a board and tells whether two routings of it, given as lists of routing words, are alike: whether each net uses the same set of edges in both.
+/* Reads a board and tells whether two routings of it, as lists of routing words, are alike: whether each net uses the same set of edges in both.
  * The direction in which a path walks a loop of its own, and the order of its edges, play no part.
  * Accepted: both lists are the words of routings of the board's nets. *first is 1 where they are alike, otherwise 0; *second is 0.
  * Refused: for 41 to 46 *first is 0 for the list one or 1 for the list two, and *second is the place in that list; for the others, a list's 10 too,
  * *first is the place alone, and *second is 0.
- * Order: the board's 10 to 25 as above; then one whole, in the order of cidrask_judge: 10, 41; each word in turn through 42, 43; path by path, 44 to
- * 46; then two whole in the same order. No other number comes. */
+ * Order: the board's 10 to 25 as above; then the list one whole, in the order of cidrask_judge: 10, 41; each word in turn through 42, 43; path by
+ * path, 44 to 46; then the list two whole, in the same order. No other number comes. */
 uint32_t cidrask_alike(const uint8_t *board, size_t board_length, const uint8_t *one, size_t one_length, const uint8_t *two, size_t two_length,
                        uint64_t *first, uint64_t *second);
 

@@ -7,6 +7,7 @@ extern "C" {
         board: *const u8, board_length: usize, list: *const u8, list_length: usize, first: *mut u64, second: *mut u64, third: *mut u64,
     ) -> u32;
     pub fn cidrask_alike(
-        board: *const u8, board_length: usize, one: *const u8, one_length: usize, two: *const u8, two_length: usize, first: *mut u64, second: *mut u64,
+        board: *const u8, board_length: usize, one: *const u8, one_length: usize, two: *const u8, two_length: usize, first: *mut u64,
+        second: *mut u64,
     ) -> u32;
 }

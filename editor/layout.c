@@ -117,9 +117,9 @@ static void print_picture(const struct picture *p) {
 }
 
 /* A place has one number, or two: 32 and 33, and of two lists 41 to 46. */
-static int refused(uint32_t number, uint64_t first, uint64_t second, int two) {
+static int refused(uint32_t number, uint64_t first, uint64_t second, int numbers) {
     printf("refused %u %llu", (unsigned)number, (unsigned long long)first);
-    if (two) printf(" %llu", (unsigned long long)second);
+    if (numbers == 2) printf(" %llu", (unsigned long long)second);
     printf("\n");
     return 1;
 }
@@ -144,7 +144,7 @@ static int compare(const uint8_t *board, size_t length, const char *one_name, co
     uint64_t first, second;
     size_t one_length = read_file(one_name, one, CIDRASK_ROUTING_WORDS), two_length = read_file(two_name, two, CIDRASK_ROUTING_WORDS);
     uint32_t r = cidrask_alike(board, length, one, one_length, two, two_length, &first, &second);
-    if (r != 0) return refused(r, first, second, r >= 41);
+    if (r != 0) return refused(r, first, second, r >= 41 ? 2 : 1);
     printf(first ? "alike\n" : "not alike\n");
     return 0;
 }
@@ -153,7 +153,7 @@ static int compare(const uint8_t *board, size_t length, const char *one_name, co
 static int route(const uint8_t *board, size_t length, uint8_t *routing, size_t room, size_t *listed) {
     uint64_t first, second;
     uint32_t r = cidrask_route(board, length, routing, room, &first, &second);
-    if (r != 0) return refused(r, first, second, r == 32 || r == 33);
+    if (r != 0) return refused(r, first, second, r == 32 || r == 33 ? 2 : 1);
     *listed = 4 * first;
     return 0;
 }
@@ -174,7 +174,7 @@ int main(int argc, char **argv) {
         return 1;
     }
     uint32_t r = cidrask_judge(board, length, routing, listed, &first, &second, &third);
-    if (r != 0 && argc == 3) return refused(r, first, 0, 0);
+    if (r != 0 && argc == 3) return refused(r, first, 0, 1);
     if (r != 0) {
         fprintf(stderr, "layout: the routing does not pass the judge: %u %llu\n", (unsigned)r, (unsigned long long)first);
         return 3;

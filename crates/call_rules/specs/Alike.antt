@@ -1,5 +1,5 @@
 -- Definitions only: when two routings of one session are alike (document 02, §3), and the sense that document 01 gave the word. Nothing is proved
--- here: that the test is exact, and that the older sense follows, is in judge_laws, Alike.
+-- here: that the test is exact is in AlikeLaws, and that the older sense follows is in judge_laws, Alike.
 -- Each routing is given by the edges of its paths, net by net (routing_rules: `trails`).
 use mathlib.Core.Bool.{Bool, true, false, _&&_}
 use mathlib.Core.List.{List, [], _∷_}

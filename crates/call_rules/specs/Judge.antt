@@ -1,4 +1,5 @@
--- Definitions only: judging a list of words, and comparing two (document 01, "Judging a routing", refusals 20 and 41 to 46). Nothing is proved here.
+-- Definitions only: judging a list of words or bytes, and comparing two (document 01, "Judging a routing"; document 02, §3; refusals 20, 10 and 41 to
+-- 46). Nothing is proved here.
 use mathlib.Core.Bool.{Bool, not}
 use mathlib.Core.List.{List, [], _∷_, map}
 use Prim.Native.Nat.{ℕ}

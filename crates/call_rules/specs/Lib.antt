@@ -6,6 +6,7 @@ pub mod Shape
 pub mod Walk
 pub mod Report
 pub mod Alike
+pub mod AlikeLaws
 pub mod Judge
 pub mod Route
 pub mod Editor

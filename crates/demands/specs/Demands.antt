@@ -57,7 +57,7 @@ use Rattle.judge_call.specs.Answers.{judgementOf, likenessOf}
 use Rattle.route_call.specs.declared.RouteAnswer.{RouteAnswer}
 use Rattle.route_call.specs.Answers.{routeAnswer}
 use Rattle.cidrask.specs.declared.Told.{Told}
-use Rattle.cidrask.specs.Told.{tell, refusedTold, alikeTold, RoutePromise, JudgePromise, AlikePromise}
+use Rattle.cidrask.specs.Told.{tell, firstOf, refusedTold, RoutePromise, JudgePromise, AlikePromise}
 use Rattle.session_history.specs.Made.{Made, changed, routed, routedBytes, Meets, Chain, last, callsOf}
 use Rattle.session_history.specs.Demand as history
 
@@ -106,6 +106,18 @@ pub record ComparesBytes (s : machine.Session) (one two : List ℕ) (x : Result 
       → x ≡ no (refusal 10 0)
   pub words : WholeWords one → WholeWords two → Compares s (wordsIn one) (wordsIn two) x
 
+-- and as C is told it: 0, with 1 where the routings are alike and with 0 where they are not; or the refusal's number, with the list's number and the
+-- place in it, for 10 with the place 0 alone
+pub record TellsCompared (s : machine.Session) (one two : List ℕ) (t : Told) : Type 0 where
+  pub first-uneven : (WholeWords one → ⊥) → t ≡ tell 10 0 0 0
+  pub first : WholeWords one → (q : Refusal) → judged s (wordsIn one) ≡ no q → t ≡ tell (q .number) 0 (firstOf (q .place)) 0
+  pub second-uneven : WholeWords one → (dss : List (List Direction)) → judged s (wordsIn one) ≡ yes dss → (WholeWords two → ⊥) → t ≡ tell 10 0 0 0
+  pub second : WholeWords one → WholeWords two → (dss : List (List Direction)) (q : Refusal) → judged s (wordsIn one) ≡ yes dss
+      → judged s (wordsIn two) ≡ no q → t ≡ tell (q .number) 1 (firstOf (q .place)) 0
+  pub answers : WholeWords one → WholeWords two → (dss ess : List (List Direction)) → judged s (wordsIn one) ≡ yes dss → judged s (wordsIn two) ≡ yes ess
+      → (Alike (trails (pairs (s .nets)) dss) (trails (pairs (s .nets)) ess) → t ≡ tell 0 1 0 0)
+      × ((Alike (trails (pairs (s .nets)) dss) (trails (pairs (s .nets)) ess) → ⊥) → t ≡ tell 0 0 0 0)
+
 -- judging accepts
 abbrev pub Passes : Judgement → Type 0
 Passes r = (x : Report) × (judgementOf r ≡ yes x)
@@ -121,8 +133,8 @@ OfRouting s ws = (dss : List (List Direction)) × IsRouting s ws dss
 -- ── 1 ──
 -- "Every accepted call .. gives exactly what document 01 lays down for its input, or, for a routing, one of those allowed there. Every refused
 -- call gives its number and place from the table, with the session and each lent buffer the same as before."
--- In each field: the answer is the definition's, number and place included; what is handed back is the definition's; a refusal changes nothing,
--- but for a list of nets: "for this call alone a refusal leaves that much changed and no more" (document 02, §1).
+-- In each field but the law `were-alike`: the answer is the definition's, number and place included; what is handed back is the definition's; a
+-- refusal changes nothing, but for a list of nets: "for this call alone a refusal leaves that much changed and no more" (document 02, §1).
 pub record Demand1 : Type 0 where
   pub add : (s : Session) (n : Net) (r : AfterAdd) → AddPromise s n r
       → (addAnswer (r .answer) ≡ call (sessionOf s) (calls.add n) .answer) × (sessionOf (r .session) ≡ call (sessionOf s) (calls.add n) .next)
@@ -179,8 +191,7 @@ pub record Demand1 : Type 0 where
       × ((s : machine.Session) → readBytes board ≡ yes s → TellsJudged s list (tell number first second third))
   pub c-alike : (board one two : List ℕ) (number first second : ℕ) → AlikePromise board one two number first second
       → ((q : Refusal) → readBytes board ≡ no q → tell number first second 0 ≡ refusedTold q)
-      × ((s : machine.Session) → readBytes board ≡ yes s
-      → (x : Result Bool) × (tell number first second 0 ≡ alikeTold x) × ComparesBytes s one two x)
+      × ((s : machine.Session) → readBytes board ≡ yes s → TellsCompared s one two (tell number first second 0))
 
 -- ── 2 ──
 pub record Demand2 : Type 0 where

@@ -33,6 +33,7 @@ use Rattle.call_rules.specs.Result.{Result, no, yes, andThen}
 use Rattle.call_rules.specs.Reading.{boardLimit, readWords, readBytes, handedBack}
 use Rattle.call_rules.specs.Writing.{boardWords, writeBoard, countOf, bufferAfter}
 use Rattle.call_rules.specs.Report.{Report, reportOf}
+use Rattle.call_rules.specs.AlikeLaws.{alike-exact}
 use Rattle.call_rules.specs.Judge.{judged, ifSound, ifEven, judgeWords, ofList, alikeOn, compareWords, judgeBytes, compareBytes}
 use Rattle.call_rules.specs.Route.{routeRefused, HandsBack, HandsBackBytes, Routes, RoutesBytes, refused, given}
 use Rattle.call_rules.specs.Editor.{EditorRoutes, unread, read, editorJudge, editorAlike}
@@ -45,7 +46,7 @@ use Rattle.board_reading.specs.declared.AfterRead.{AfterRead}
 use Rattle.judge_call.specs.Answers.{judgementOf, likenessOf}
 use Rattle.judge_laws.specs.Passing.{Numbered}
 use Rattle.judge_laws.specs.Exact.{passes-exactly}
-use Rattle.judge_laws.specs.Alike.{alike-exact, judged-equally-many}
+use Rattle.judge_laws.specs.Alike.{judged-equally-many}
 use Rattle.board_roundtrip.specs.Parts.{unpiled}
 use Rattle.board_roundtrip.specs.RoundTrip.{buffer-reads, read-written, read-bytes-sound}
 use Rattle.session_answers.specs.Answers.{addAnswer}
@@ -58,6 +59,7 @@ use Rattle.demands.specs.Demands.{
   TellsJudged,
   Compares,
   ComparesBytes,
+  TellsCompared,
   Passes,
   OfRouting,
   Demand1,
@@ -223,17 +225,26 @@ compares-bytes s one two x e =
       words = λ w u. compares s (wordsIn one) (wordsIn two) x (whole w ∙ whole-second s two u (judged s (wordsIn one)) (judged s (wordsIn two)));
     }
 
+-- C: a session that was read is sound, so that 20 is never told
+tells-compared : (s : machine.Session) (one two : List ℕ) (x : Result Bool) (t : Told) → t ≡ alikeTold x → ComparesBytes s one two x
+    → TellsCompared s one two t
+tells-compared s one two x t P C = record {
+  first-uneven = λ n. P ∙ ap alikeTold (C .first-uneven n);
+  first = λ w q h. P ∙ ap alikeTold (C .first w q h);
+  second-uneven = λ w dss h n. P ∙ ap alikeTold (C .second-uneven w dss h n);
+  second = λ w u dss q h k. P ∙ ap alikeTold (C .words w u .second dss q h k);
+  answers = λ w u dss ess h k.
+      let (y, e, exact) = C .words w u .answers dss ess h k in
+      (λ a. P ∙ ap alikeTold (e ∙ ap yes (exact .1 a)), λ n. P ∙ ap alikeTold (e ∙ ap yes (not-true y (λ z. n (exact .0 z)))));
+}
+
 c-compared : (board one two : List ℕ) (t : Told) → t ≡ alikeTold (editorAlike board one two)
-    → ((q : Refusal) → readBytes board ≡ no q → t ≡ refusedTold q)
-    × ((s : machine.Session) → readBytes board ≡ yes s → (x : Result Bool) × (t ≡ alikeTold x) × ComparesBytes s one two x)
+    → ((q : Refusal) → readBytes board ≡ no q → t ≡ refusedTold q) × ((s : machine.Session) → readBytes board ≡ yes s → TellsCompared s one two t)
 unfolding editorAlike
 c-compared board one two t P = (
   λ q e. P ∙ (rw e refl),
-  λ s e. (
-    compareBytes s one two,
-    P ∙ (rw e refl),
-    compares-bytes s one two (compareBytes s one two) (compare-bytes-is s one two ∙ sound-then s _ (read-bytes-sound board s e)),
-  ),
+  λ s e. tells-compared s one two (compareBytes s one two) t (P ∙ (rw e refl))
+      (compares-bytes s one two (compareBytes s one two) (compare-bytes-is s one two ∙ sound-then s _ (read-bytes-sound board s e))),
 )
 
 -- a list of nets: 20 first, else as the single adds

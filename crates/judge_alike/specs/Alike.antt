@@ -17,10 +17,10 @@ use Rattle.session_laws.specs.Rising.{From, from-less}
 use Rattle.call_rules.specs.Shape.{PathAt}
 use Rattle.call_rules.specs.Report.{directions}
 use Rattle.call_rules.specs.Alike.{Alike, alike?}
+use Rattle.call_rules.specs.AlikeLaws.{alike-exact}
 use Rattle.call_rules.specs.Judge.{pathsIn}
 use Rattle.judge_laws.specs.Walks.{uses-append, endsOf}
 use Rattle.judge_laws.specs.Edges.{All, all-edges, joins-edges}
-use Rattle.judge_laws.specs.Alike.{alike-exact}
 use Rattle.judge_walk.specs.Slots.{slot, edgeAt}
 use Rattle.judge_walk.specs.SlotLaws.{Lies, edge-lies, slot-small, edge-at-slot}
 use Rattle.judge_walk.specs.EdgeMap.{onPath, netOn, mapOf}

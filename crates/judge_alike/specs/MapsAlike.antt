@@ -1,5 +1,5 @@
 -- Definitions only: two maps of used edges that have the same net at every slot. Nothing is proved here.
--- That of two lists that pass it is `alike?` (call_rules, Alike) is `lists-alike` in Alike.
+-- Of two lists that pass on a board within the limits it is the test `alike?` of crate call_rules: `lists-alike`, in the file Alike beside this one.
 use mathlib.Core.Bool.{Bool, true, _&&_}
 use mathlib.Core.List.{List}
 use Prim.Native.Nat.{ℕ, zero, suc}

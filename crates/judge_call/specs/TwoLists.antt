@@ -20,8 +20,8 @@ use Rattle.judge_alike.specs.MapsAlike.{mapsAlike}
 use Rattle.judge_list.specs.Verdicts.{ChecksBytes, mapBy, on, listRefusal}
 use Rattle.judge_list.specs.VerdictLaws.{map-refused, map-passed}
 use Rattle.judge_list.specs.ComparisonLaws.{compared-same}
-use Rattle.judge_list.specs.declared.Listed.{Listed}
-use Rattle.judge_list.specs.declared.Listed.the-variants as listed
+use Rattle.judge_list.specs.declared.BytesChecked.{BytesChecked}
+use Rattle.judge_list.specs.declared.BytesChecked.the-variants as bytes
 
 -- DEFINITION: the comparison on a board with nets, and the same by maps
 abbrev pub bytesOn : Board → List Net → (one two : List ℕ) → Result Bool
@@ -56,22 +56,22 @@ module _ (s : Session) (one two : List ℕ) where
       f ∙ (same ∙ sym (two-sound e))
 
 -- ── each list in turn ──
-module _ {b : Board} {ns : List Net} {one a : List ℕ} {c : Listed} (h : ChecksBytes b ns one unused a c) (two : List ℕ) where
-  pub one-uneven : c ≡ listed.UnevenBytes → no (refusal 10 0) ≡ bytesByMaps b ns one two
+module _ {b : Board} {ns : List Net} {one a : List ℕ} {c : BytesChecked} (h : ChecksBytes b ns one unused a c) (two : List ℕ) where
+  pub one-uneven : c ≡ bytes.UnevenBytes → no (refusal 10 0) ≡ bytesByMaps b ns one two
   one-uneven e = let x = rw e at (h .tells) in rw (x .0) refl
 
-  pub one-refused : {r : Refusal} → c ≡ listed.Refused r → no (listRefusal 0 r) ≡ bytesByMaps b ns one two
+  pub one-refused : {r : Refusal} → c ≡ bytes.Refused r → no (listRefusal 0 r) ≡ bytesByMaps b ns one two
   one-refused e = let x = rw e at (h .tells) in rw (x .0, map-refused (x .1) refl) refl
 
-module _ {b : Board} {ns : List Net} {one two a m : List ℕ} {c d : Listed} (h : ChecksBytes b ns one unused a c) (e : c ≡ listed.Passed)
+module _ {b : Board} {ns : List Net} {one two a m : List ℕ} {c d : BytesChecked} (h : ChecksBytes b ns one unused a c) (e : c ≡ bytes.Passed)
     (k : ChecksBytes b ns two unused m d) where
-  pub two-uneven : d ≡ listed.UnevenBytes → no (refusal 10 0) ≡ bytesByMaps b ns one two
+  pub two-uneven : d ≡ bytes.UnevenBytes → no (refusal 10 0) ≡ bytesByMaps b ns one two
   two-uneven f = let x = rw e at (h .tells) in let y = rw f at (k .tells) in rw (x .0, map-passed (x .1) refl, y .0) refl
 
-  pub two-refused : {r : Refusal} → d ≡ listed.Refused r → no (listRefusal 1 r) ≡ bytesByMaps b ns one two
+  pub two-refused : {r : Refusal} → d ≡ bytes.Refused r → no (listRefusal 1 r) ≡ bytesByMaps b ns one two
   two-refused f =
       let x = rw e at (h .tells) in let y = rw f at (k .tells) in rw (x .0, map-passed (x .1) refl, y .0, map-refused (y .1) refl) refl
 
-  pub both-passed : d ≡ listed.Passed → {t : Bool} → t ≡ mapsAlike a m → yes t ≡ bytesByMaps b ns one two
+  pub both-passed : d ≡ bytes.Passed → {t : Bool} → t ≡ mapsAlike a m → yes t ≡ bytesByMaps b ns one two
   both-passed f g =
       let x = rw e at (h .tells) in let y = rw f at (k .tells) in rw (x .0, map-passed (x .1) refl, y .0, map-passed (y .1) refl, g) refl

@@ -3,8 +3,8 @@ ghost use mathlib.Core.Path.{_≡_};
 ghost use Rattle.session.specs.View.{sessionOf};
 ghost use Rattle.call_rules.specs.Judge.{judgeWords, compareWords, judgeBytes, compareBytes};
 ghost use Rattle.judge_call.specs.Answers.{judgementOf, likenessOf};
+use judge_list::BytesChecked;
 use judge_list::Comparison;
-use judge_list::Listed;
 use judge_list::Verdict;
 use judge_report::Report;
 use judge_shape::Refusal;
@@ -89,12 +89,12 @@ pub fn compare_bytes(s: Session, first: &[u8], second: &[u8]) -> Likeness
     let mut one = [0u8; 2048];
     let mut two = [0u8; 2048];
     match judge_list::check_bytes(board, nets, first, &mut one) {
-        Listed::UnevenBytes => Likeness::UnevenBytes,
-        Listed::Refused(refusal) => Likeness::Refused(0, refusal),
-        Listed::Passed => match judge_list::check_bytes(board, nets, second, &mut two) {
-            Listed::UnevenBytes => Likeness::UnevenBytes,
-            Listed::Refused(refusal) => Likeness::Refused(1, refusal),
-            Listed::Passed => Likeness::Alike(judge_alike::is_alike(&one, &two)),
+        BytesChecked::UnevenBytes => Likeness::UnevenBytes,
+        BytesChecked::Refused(refusal) => Likeness::Refused(0, refusal),
+        BytesChecked::Passed => match judge_list::check_bytes(board, nets, second, &mut two) {
+            BytesChecked::UnevenBytes => Likeness::UnevenBytes,
+            BytesChecked::Refused(refusal) => Likeness::Refused(1, refusal),
+            BytesChecked::Passed => Likeness::Alike(judge_alike::is_alike(&one, &two)),
         },
     }
 }

@@ -1,4 +1,4 @@
--- A path may walk a loop of its own in either direction: it uses the same set of edges (document 02, §3).
+-- A path may walk a loop of its own in either direction: it joins the same vertices and uses the same set of edges (document 02, §3).
 -- Assumes that the path goes along edges of a board.
 use mathlib.Core.Path.{_≡_, refl, ap, sym}
 use mathlib.Core.List.{List, [], _∷_, _++_}
@@ -61,12 +61,18 @@ walked-back b u (d ∷ ds) v p =
       ) (omega arith),
     )
 
+-- DEFINITION: another way from u to v, over the same edges, each used as often
+pub record SameWay (b : Board) (u v : Vertex) (ds es : List Direction) : Type 0 where
+  pub path : Path b u es v
+  pub counts : (e : Edge) → uses e (edgesFrom u ds) ≡ uses e (edgesFrom u es)
+  pub same : SameEdges (edgesFrom u ds) (edgesFrom u es)
+
 -- THE LAW: after `before` the path is at x, where its loop starts and ends; `rest` comes after the loop
-pub loop-either-way : (b : Board) (u x : Vertex) (before loop rest : List Direction) → Path b u before x → Path b x loop x
-    → SameEdges (edgesFrom u (before ++ (loop ++ rest))) (edgesFrom u (before ++ (backwards loop ++ rest)))
-loop-either-way b u x before loop rest p q e =
+pub loop-either-way : (b : Board) (u x v : Vertex) (before loop rest : List Direction) → Path b u before x → Path b x loop x → Path b x rest v
+    → SameWay b u v (before ++ (loop ++ rest)) (before ++ (backwards loop ++ rest))
+loop-either-way b u x v before loop rest p q t =
     let (r, h) = walked-back b x loop x q in
-    let same : uses e (edgesFrom u (before ++ (loop ++ rest))) ≡ uses e (edgesFrom u (before ++ (backwards loop ++ rest))) =
+    let counts : (e : Edge) → uses e (edgesFrom u (before ++ (loop ++ rest))) ≡ uses e (edgesFrom u (before ++ (backwards loop ++ rest))) = λ e.
     rw (
       edges-join b u before x p (loop ++ rest),
       edges-join b u before x p (backwards loop ++ rest),
@@ -78,4 +84,8 @@ loop-either-way b u x before loop rest p q e =
       uses-append e (edgesFrom x (backwards loop)) (edgesFrom x rest),
       h e,
     ) refl in
-    (λ k. omega arith, λ k. omega arith)
+    record {
+      path = path-join before (backwards loop ++ rest) b u x v p (path-join (backwards loop) rest b x x v r t);
+      counts = counts;
+      same = λ e. (λ k. omega (arith, counts e), λ k. omega (arith, counts e));
+    }

@@ -1,5 +1,6 @@
 -- Definitions only: judging and comparing on a board with nets, and what the values of the code stand for. Nothing is proved here.
--- The code walks with a map of used edges (judge_walk, MapWalk). On a board within the limits that gives what document 01 lays down: see VerdictLaws.
+-- The code walks with a map of used edges (judge_walk, MapWalk). On a board within the limits that gives what document 01 lays down (VerdictLaws),
+-- and two maps say when routings are alike, by document 02, §3 (ComparisonLaws).
 use mathlib.Core.Path.{_≡_}
 use mathlib.Core.Bool.{Bool, true, false}
 use mathlib.Core.List.{List, [], _∷_}
@@ -28,8 +29,8 @@ use Rattle.judge_report.specs.Reports.{reportIs}
 use Rattle.judge_alike.specs.MapsAlike.{mapsAlike}
 use Rattle.judge_list.specs.declared.Verdict.{Verdict}
 use Rattle.judge_list.specs.declared.Verdict.the-variants as verdict
-use Rattle.judge_list.specs.declared.Listed.{Listed}
-use Rattle.judge_list.specs.declared.Listed.the-variants as listed
+use Rattle.judge_list.specs.declared.BytesChecked.{BytesChecked}
+use Rattle.judge_list.specs.declared.BytesChecked.the-variants as bytes
 use Rattle.judge_list.specs.declared.Comparison.{Comparison}
 use Rattle.judge_list.specs.declared.Comparison.the-variants as comparison
 
@@ -43,14 +44,14 @@ pub record Checks (b : Board) (ns : List Net) (ws : List ℕ) (m m' : List ℕ) 
   pub ends : pathEnd r m' ≡ checkOn b ns ws m
 
 -- the same of bytes: 10 where their count is not a multiple of 4, and then the map is untouched
-abbrev pub ListedAs : Board → List Net → (bs m m' : List ℕ) → Listed → Type 0
-ListedAs b ns bs m m' listed.UnevenBytes = (uneven bs ≡ true) × (m' ≡ m)
-ListedAs b ns bs m m' (listed.Refused r) = (uneven bs ≡ false) × Checks b ns (wordsIn bs) m m' (checked.Refused r)
-ListedAs b ns bs m m' listed.Passed = (uneven bs ≡ false) × Checks b ns (wordsIn bs) m m' checked.Passed
+abbrev pub BytesCheckedAs : Board → List Net → (bs m m' : List ℕ) → BytesChecked → Type 0
+BytesCheckedAs b ns bs m m' bytes.UnevenBytes = (uneven bs ≡ true) × (m' ≡ m)
+BytesCheckedAs b ns bs m m' (bytes.Refused r) = (uneven bs ≡ false) × Checks b ns (wordsIn bs) m m' (checked.Refused r)
+BytesCheckedAs b ns bs m m' bytes.Passed = (uneven bs ≡ false) × Checks b ns (wordsIn bs) m m' checked.Passed
 
 -- what `check_bytes` promises
-pub record ChecksBytes (b : Board) (ns : List Net) (bs : List ℕ) (m m' : List ℕ) (r : Listed) : Type 0 where
-  pub tells : ListedAs b ns bs m m' r
+pub record ChecksBytes (b : Board) (ns : List Net) (bs : List ℕ) (m m' : List ℕ) (r : BytesChecked) : Type 0 where
+  pub tells : BytesCheckedAs b ns bs m m' r
 
 -- a value, where the check passes
 abbrev pub passing : {A : Type 0} → Came (Unit {0}) → A → Result A
@@ -64,7 +65,7 @@ judgedBy b ns ws = passing (checkOn b ns ws unused) (pathsIn (pathsFrom 0 ns ws)
 abbrev pub verdictBy : Board → List Net → List ℕ → Result calls.Report
 verdictBy b ns ws = andThen (judgedBy b ns ws) (λ dss. yes (reportOf (pairs ns) dss))
 
--- the map that a check leaves that passes, or its refusal
+-- the map left by a check that passes, or its refusal
 abbrev pub leaving : Came (Unit {0}) → Result (List ℕ)
 leaving (stopped r m) = no r
 leaving (came u m) = yes m
@@ -76,7 +77,7 @@ mapBy b ns ws = leaving (checkOn b ns ws unused)
 abbrev pub comparisonBy : Board → List Net → (vs ws : List ℕ) → Result Bool
 comparisonBy b ns vs ws = andThen (ofList 0 (mapBy b ns vs)) (λ a. andThen (ofList 1 (mapBy b ns ws)) (λ m. yes (mapsAlike a m)))
 
--- ── document 01's, without refusal 20 ──
+-- ── as laid down, without refusal 20 ──
 -- a session on a board, with these nets and an empty pile
 abbrev pub on : Board → List Net → Session
 on b ns = withNets (bare (plain b)) ns []

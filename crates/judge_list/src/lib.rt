@@ -1,4 +1,4 @@
-// Judging a list of routing words against a board and its nets, and comparing two lists. That the session is sound (20) is tested above.
+// Judging a list of routing words against a board and its nets, from words or bytes, and comparing two. That the session is sound is tested above.
 ghost use mathlib.Core.Path.{_≡_};
 ghost use Prim.Native.Nat.{_≤_};
 ghost use lib.ListN.{length};
@@ -35,7 +35,7 @@ pub enum Comparison {
 }
 
 // What a list of bytes comes to: it passes; 10 a count of bytes that is no multiple of 4; or 41 to 46.
-pub enum Listed {
+pub enum BytesChecked {
     Passed,
     UnevenBytes,
     Refused(Refusal),
@@ -53,19 +53,19 @@ fn check(b: Board, nets: [Place; 64], words: &[u32], used: &mut [u8; 2048]) -> C
 }
 
 // The same of bytes.
-pub fn check_bytes(b: Board, nets: [Place; 64], bytes: &[u8], used: &mut [u8; 2048]) -> Listed
+pub fn check_bytes(b: Board, nets: [Place; 64], bytes: &[u8], used: &mut [u8; 2048]) -> BytesChecked
     ensures { λ r. ⌜ ChecksBytes (boardOf b) (netsOf nets) (now (bytes .entry)) (now (used .entry)) (now (used .exit)) r ⌝ }
 {
     let mut words = [0u32; ROUTING_WORDS];
     match words_bytes::fill_all(bytes, &mut words) {
-        Filled::Uneven => Listed::UnevenBytes,
-        Filled::Long => Listed::Refused(Refusal {
+        Filled::Uneven => BytesChecked::UnevenBytes,
+        Filled::Long => BytesChecked::Refused(Refusal {
             number: 41,
             place: 0,
         }),
         Filled::Words(n) => match check(b, nets, &words[..n], used) {
-            Checked::Passed => Listed::Passed,
-            Checked::Refused(r) => Listed::Refused(r),
+            Checked::Passed => BytesChecked::Passed,
+            Checked::Refused(r) => BytesChecked::Refused(r),
         },
     }
 }

@@ -1,7 +1,8 @@
--- The definitions of judging at work: each refusal with its place, and which of two comes first. The session is the ring.
+-- The definitions of judging at work: each refusal with its place, and which of two comes first. The session is the ring where none is told;
+-- and when two routings are alike.
 -- Assumes nothing.
 use mathlib.Core.Path.{_≡_, refl}
-use mathlib.Core.Bool.{true, false}
+use mathlib.Core.Bool.{Bool, true, false}
 use mathlib.Core.List.{List, [], _∷_, map}
 use Prim.Native.Nat.{ℕ}
 use lib.ListN.{replicate}
@@ -12,10 +13,10 @@ use Rattle.net.specs.declared.Change.the-variants.{Withdrawn}
 use Rattle.words.specs.RoutingWord.{routingWords}
 use Rattle.words.specs.Bytes.{bytesOf}
 use Rattle.session_rules.specs.Session.{Session, withNets}
-use Rattle.call_rules.specs.Result.{yes}
+use Rattle.call_rules.specs.Result.{Result, yes, andThen}
 use Rattle.call_rules.specs.Report.{knockKnees}
 use Rattle.call_rules.specs.Alike.{equallyMany}
-use Rattle.call_rules.specs.Judge.{judgeWords, compareWords, judgeBytes, compareBytes}
+use Rattle.call_rules.specs.Judge.{judged, judgeWords, compareWords, judgeBytes, compareBytes}
 use Rattle.worked_cases.specs.Everything.{everything}
 use Rattle.worked_cases.specs.Boards.{row, net, session, ring, ringOutput, why}
 
@@ -137,22 +138,37 @@ compared-first : why (compareWords ring [] []) ≡ 41 ∷ 0 ∷ 0 ∷ []
 unfolding everything
 compared-first = refl
 
--- two routings of one net on two cells, of 1 and of 3 edges: not alike; each is alike to itself
-lengths : (compareWords (session (row 0 2 ∷ []) (net 1 0 1 1 1 ∷ []))
-    (routingWords (net 1 0 1 1 1 ∷ []) ((Down ∷ []) ∷ [])) (routingWords (net 1 0 1 1 1 ∷ []) ((Right ∷ Down ∷ Left ∷ []) ∷ [])) ≡ yes false)
-    × (compareWords (session (row 0 2 ∷ []) (net 1 0 1 1 1 ∷ []))
-    (routingWords (net 1 0 1 1 1 ∷ []) ((Down ∷ []) ∷ [])) (routingWords (net 1 0 1 1 1 ∷ []) ((Down ∷ []) ∷ [])) ≡ yes true)
-unfolding everything
-lengths = (refl, refl)
-
 -- ── the same copper (document 02, §3) ──
+-- the older sense, of two lists that pass
+abbrev byCounts : Session → List ℕ → List ℕ → Result Bool
+byCounts s vs ws = andThen (judged s vs) (λ dss. andThen (judged s ws) (λ ess. yes (equallyMany dss ess)))
+
+-- two cells, and two routings of one net, of 1 and of 3 edges: not alike in either sense; the first is alike to itself
+abbrev upright : Session
+upright = session (row 0 2 ∷ []) (net 1 0 1 1 1 ∷ [])
+
+abbrev straight : List ℕ
+straight = routingWords (upright .nets) ((Down ∷ []) ∷ [])
+
+abbrev around : List ℕ
+around = routingWords (upright .nets) ((Right ∷ Down ∷ Left ∷ []) ∷ [])
+
+lengths : (compareWords upright straight around ≡ yes false) × (byCounts upright straight around ≡ yes false)
+    × (compareWords upright straight straight ≡ yes true)
+unfolding everything
+lengths = (refl, refl, refl)
+
 -- one cell, and a net from corner to corner round one side of it or the other: equal lengths, not alike
 abbrev corners : Session
 corners = session (row 0 1 ∷ []) (net 1 0 0 1 1 ∷ [])
 
-other-side : (compareWords corners (routingWords (corners .nets) ((Right ∷ Down ∷ []) ∷ [])) (routingWords (corners .nets) ((Down ∷ Right ∷ []) ∷ []))
-    ≡ yes false)
-    × (equallyMany ((Right ∷ Down ∷ []) ∷ []) ((Down ∷ Right ∷ []) ∷ []) ≡ true)
+abbrev over : List ℕ
+over = routingWords (corners .nets) ((Right ∷ Down ∷ []) ∷ [])
+
+abbrev under : List ℕ
+under = routingWords (corners .nets) ((Down ∷ Right ∷ []) ∷ [])
+
+other-side : (compareWords corners over under ≡ yes false) × (byCounts corners over under ≡ yes true)
 unfolding everything
 other-side = (refl, refl)
 
@@ -160,11 +176,29 @@ other-side = (refl, refl)
 abbrev twoNets : Session
 twoNets = session (row 0 1 ∷ []) (net 1 0 0 1 1 ∷ net 2 0 0 1 1 ∷ [])
 
-exchanged : (compareWords twoNets (routingWords (twoNets .nets) ((Right ∷ Down ∷ []) ∷ (Down ∷ Right ∷ []) ∷ []))
-    (routingWords (twoNets .nets) ((Down ∷ Right ∷ []) ∷ (Right ∷ Down ∷ []) ∷ [])) ≡ yes false)
-    × (equallyMany ((Right ∷ Down ∷ []) ∷ (Down ∷ Right ∷ []) ∷ []) ((Down ∷ Right ∷ []) ∷ (Right ∷ Down ∷ []) ∷ []) ≡ true)
+abbrev firstOver : List ℕ
+firstOver = routingWords (twoNets .nets) ((Right ∷ Down ∷ []) ∷ (Down ∷ Right ∷ []) ∷ [])
+
+abbrev secondOver : List ℕ
+secondOver = routingWords (twoNets .nets) ((Down ∷ Right ∷ []) ∷ (Right ∷ Down ∷ []) ∷ [])
+
+exchanged : (compareWords twoNets firstOver secondOver ≡ yes false) × (byCounts twoNets firstOver secondOver ≡ yes true)
 unfolding everything
 exchanged = (refl, refl)
+
+-- two cells, a net down the left side and one round a corner of the right cell: the first net alone has the same edges in both
+abbrev sides : Session
+sides = session (row 0 2 ∷ []) (net 1 0 0 1 0 ∷ net 2 0 2 1 1 ∷ [])
+
+abbrev outside : List ℕ
+outside = routingWords (sides .nets) ((Down ∷ []) ∷ (Down ∷ Left ∷ []) ∷ [])
+
+abbrev inside : List ℕ
+inside = routingWords (sides .nets) ((Down ∷ []) ∷ (Left ∷ Down ∷ []) ∷ [])
+
+later-net : (compareWords sides outside inside ≡ yes false) × (byCounts sides outside inside ≡ yes true)
+unfolding everything
+later-net = (refl, refl)
 
 -- two cells, and a net along the first that then goes round the second, one way or the other: alike
 abbrev withLoop : Session
@@ -187,6 +221,17 @@ loop-put-in : compareWords withLoop (routingWords (withLoop .nets) ((Right ∷ [
 unfolding everything
 loop-put-in = refl
 
+-- no nets: the end word alone, alike to itself
+no-nets : compareWords (session (row 0 1 ∷ []) []) (0xE0000000 ∷ []) (0xE0000000 ∷ []) ≡ yes true
+unfolding everything
+no-nets = refl
+
+-- 20 before 10 and 41
+unsound-lists : (why (compareWords (withNets ring (ring .nets) (Withdrawn (net 1 0 0 0 1) ∷ [])) [] []) ≡ 20 ∷ 0 ∷ [])
+    × (why (compareBytes (withNets ring (ring .nets) (Withdrawn (net 1 0 0 0 1) ∷ [])) (1 ∷ []) []) ≡ 20 ∷ 0 ∷ [])
+unfolding everything
+unsound-lists = (refl, refl)
+
 -- two lists of bytes, each in turn and whole: 41 of the first before 10 of the second; 10 of the second, with its place alone, once the first passes
 compared-bytes : map (λ (bs : List ℕ). why (compareBytes ring bs (1 ∷ []))) ([] ∷ (1 ∷ []) ∷ bytesOf ringOutput ∷ [])
     ≡ (41 ∷ 0 ∷ 0 ∷ []) ∷ (10 ∷ 0 ∷ []) ∷ (10 ∷ 0 ∷ []) ∷ []
@@ -194,9 +239,10 @@ unfolding everything
 compared-bytes = refl
 
 compared-bytes-second : (why (compareBytes ring (bytesOf ringOutput) []) ≡ 41 ∷ 1 ∷ 0 ∷ [])
+    × (why (compareBytes ring (bytesOf ringOutput) (1 ∷ 2 ∷ 3 ∷ 4 ∷ 5 ∷ 6 ∷ [])) ≡ 10 ∷ 0 ∷ [])
     × (compareBytes ring (bytesOf ringOutput) (bytesOf ringOutput) ≡ yes true)
 unfolding everything
-compared-bytes-second = (refl, refl)
+compared-bytes-second = (refl, refl, refl)
 
 -- a net that passes the vertex (1,1) twice, turning there twice, alone: no knock-knee
 twice : judgeWords (session (row 0 2 ∷ row 0 2 ∷ []) (net 1 0 1 1 2 ∷ []))
