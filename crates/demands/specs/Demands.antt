@@ -90,13 +90,17 @@ pub record TellsJudged (s : machine.Session) (bs : List ℕ) (t : Told) : Type 0
   pub reports : WholeWords bs → (dss : List (List Direction)) → judged s (wordsIn bs) ≡ yes dss
       → t ≡ tell 0 (edgesUsed dss) (turnsMade dss) (knockKnees (pairs (s .nets)) dss)
 
--- two lists of words compared against a sound session: the refusal of the first, with 0 before its place; then that of the second, with 1; else
--- "two routings are alike when each net uses the same set of edges in both" (document 02, §3), and only then
+-- the two routings of the session's nets are alike: "each net uses the same set of edges in both" (document 02, §3)
+abbrev pub SameCopper : machine.Session → (dss ess : List (List Direction)) → Type 0
+SameCopper s dss ess = Alike (trails (pairs (s .nets)) dss) (trails (pairs (s .nets)) ess)
+
+-- two lists of words compared against a sound session: the refusal of the first, with 0 before its place; then that of the second, with 1; else yes
+-- exactly where they are alike
 pub record Compares (s : machine.Session) (vs ws : List ℕ) (x : Result Bool) : Type 0 where
   pub first : (q : Refusal) → judged s vs ≡ no q → x ≡ ofList 0 (no q)
   pub second : (dss : List (List Direction)) (q : Refusal) → judged s vs ≡ yes dss → judged s ws ≡ no q → x ≡ ofList 1 (no q)
   pub answers : (dss ess : List (List Direction)) → judged s vs ≡ yes dss → judged s ws ≡ yes ess
-      → (t : Bool) × (x ≡ yes t) × ((t ≡ true) ↔ Alike (trails (pairs (s .nets)) dss) (trails (pairs (s .nets)) ess))
+      → (t : Bool) × (x ≡ yes t) × ((t ≡ true) ↔ SameCopper s dss ess)
 
 -- two lists of bytes, each in turn and whole: 10, with the place 0 alone, and then its words
 pub record ComparesBytes (s : machine.Session) (one two : List ℕ) (x : Result Bool) : Type 0 where
@@ -115,8 +119,7 @@ pub record TellsCompared (s : machine.Session) (one two : List ℕ) (t : Told) :
   pub second : WholeWords one → WholeWords two → (dss : List (List Direction)) (q : Refusal) → judged s (wordsIn one) ≡ yes dss
       → judged s (wordsIn two) ≡ no q → t ≡ tell (q .number) 1 (firstOf (q .place)) 0
   pub answers : WholeWords one → WholeWords two → (dss ess : List (List Direction)) → judged s (wordsIn one) ≡ yes dss → judged s (wordsIn two) ≡ yes ess
-      → (Alike (trails (pairs (s .nets)) dss) (trails (pairs (s .nets)) ess) → t ≡ tell 0 1 0 0)
-      × ((Alike (trails (pairs (s .nets)) dss) (trails (pairs (s .nets)) ess) → ⊥) → t ≡ tell 0 0 0 0)
+      → (SameCopper s dss ess → t ≡ tell 0 1 0 0) × ((SameCopper s dss ess → ⊥) → t ≡ tell 0 0 0 0)
 
 -- judging accepts
 abbrev pub Passes : Judgement → Type 0
@@ -173,7 +176,7 @@ pub record Demand1 : Type 0 where
       → (Unsound (sessionOf s) → likenessOf r ≡ no (refusal 20 0)) × (Sound (sessionOf s) → ComparesBytes (sessionOf s) one two (likenessOf r))
   -- 02, §3: "Any two that are alike in the new sense were alike in the old one": every net uses equally many edges in both
   pub were-alike : (s : machine.Session) (vs ws : List ℕ) (dss ess : List (List Direction)) → judged s vs ≡ yes dss → judged s ws ≡ yes ess
-      → Alike (trails (pairs (s .nets)) dss) (trails (pairs (s .nets)) ess) → equallyMany dss ess ≡ true
+      → SameCopper s dss ess → equallyMany dss ess ≡ true
   pub route : (s : Session) (before : List ℕ) (r : RouteAnswer) (after : List ℕ) → Routes (sessionOf s) before (routeAnswer r) after
       → ((q : Refusal) → routeRefused (sessionOf s) (length before) ≡ some q → (routeAnswer r ≡ no q) × (after ≡ before))
       × (routeRefused (sessionOf s) (length before) ≡ none → (n : ℕ) × (routeAnswer r ≡ yes n) × HandsBack (sessionOf s) before after n)

@@ -21,6 +21,7 @@ use Rattle.call_rules.specs.AlikeLaws.{alike-exact}
 use Rattle.call_rules.specs.Judge.{pathsIn}
 use Rattle.judge_laws.specs.Walks.{uses-append, endsOf}
 use Rattle.judge_laws.specs.Edges.{All, all-edges, joins-edges}
+use Rattle.judge_laws.specs.Alike.{Once, once-rest}
 use Rattle.judge_walk.specs.Slots.{slot, edgeAt}
 use Rattle.judge_walk.specs.SlotLaws.{Lies, edge-lies, slot-small, edge-at-slot}
 use Rattle.judge_walk.specs.EdgeMap.{onPath, netOn, mapOf}
@@ -36,10 +37,6 @@ netsIn ps = map (λ q. q .net) ps
 abbrev pub edgesIn : List PathAt → List (List Edge)
 edgesIn ps = trails (endsOf ps) (pathsIn ps)
 
--- DEFINITION: no edge is used twice
-abbrev Once : List PathAt → Type 0
-Once ps = (e : Edge) → uses e (flatten (edgesIn ps)) ≤ 1
-
 -- DEFINITION: the edges of one path
 abbrev pathEdges : PathAt → List Edge
 pathEdges p = edgesFrom (p .net .ends .first) (directions (p .runs))
@@ -47,9 +44,6 @@ pathEdges p = edgesFrom (p .net .ends .first) (directions (p .runs))
 uses-more : (p : PathAt) (ps : List PathAt) (e : Edge) → uses e (flatten (edgesIn (p ∷ ps))) ≡ uses e (pathEdges p) + uses e (flatten (edgesIn ps))
 unfolding trails flatten
 uses-more p ps e = uses-append e (pathEdges p) (flatten (edgesIn ps))
-
-once-rest : (p : PathAt) (ps : List PathAt) → Once (p ∷ ps) → Once ps
-once-rest p ps o e = omega (arith, o e, uses-more p ps e)
 
 on-path : (e : Edge) (p : PathAt) → (onPath e p ≡ true) ↔ (0 < uses e (pathEdges p))
 unfolding onPath
@@ -65,7 +59,7 @@ no-net (p ∷ ps) e h = elim (bool (onPath e p)) [
 ]
 
 -- an edge that a path uses has no net of a later one
-no-later : (p : PathAt) (ps : List PathAt) → Once (p ∷ ps) → (e : Edge) → onPath e p ≡ true → netOn ps e ≡ 0
+no-later : (p : PathAt) (ps : List PathAt) → Once (flatten (edgesIn (p ∷ ps))) → (e : Edge) → onPath e p ≡ true → netOn ps e ≡ 0
 no-later p ps o e t = let k = on-path e p .0 t in no-net ps e (omega (arith, o e, uses-more p ps e))
 
 -- and no edge has the number of an earlier one
@@ -97,16 +91,16 @@ module _ (p q : PathAt) (ps qs : List PathAt) (n : p .net .number ≡ q .net .nu
       picked (p .net .number) (netOn ps e) (netOn qs e) (not-earlier _ ps z f e) (not-earlier _ qs z g e) (onPath e p) (onPath e q)
       (h e ∙ ap (λ (k : ℕ). cond (onPath e q) k (netOn qs e)) (sym n))
 
-  rest-same : Once (p ∷ ps) → Once (q ∷ qs) → SameNets ps qs
+  rest-same : Once (flatten (edgesIn (p ∷ ps))) → Once (flatten (edgesIn (q ∷ qs))) → SameNets ps qs
   unfolding netOn
   rest-same o r e = elim (bool (onPath e p)) [
     | inl t ↦ no-later p ps o e t ∙ sym (no-later q qs r e (sym (first-same e) ∙ t))
     | inr t ↦ rw (t, sym (first-same e) ∙ t) at (h e)
   ]
 
-pub nets-alike : (k : ℕ) (ps qs : List PathAt) → netsIn ps ≡ netsIn qs → 0 < k → From k (netsIn ps) → Once ps → Once qs → SameNets ps qs
-    → Alike (edgesIn ps) (edgesIn qs)
-unfolding trails
+pub nets-alike : (k : ℕ) (ps qs : List PathAt) → netsIn ps ≡ netsIn qs → 0 < k → From k (netsIn ps) → Once (flatten (edgesIn ps))
+    → Once (flatten (edgesIn qs)) → SameNets ps qs → Alike (edgesIn ps) (edgesIn qs)
+unfolding trails flatten
 nets-alike k [] [] e z f o r h = tt
 nets-alike k [] (q ∷ qs) e z f o r h = absurd (let y : 0 ≡ suc (length (netsIn qs)) = ap length e in omega arith)
 nets-alike k (p ∷ ps) [] e z f o r h = absurd (let y : suc (length (netsIn ps)) ≡ 0 = ap length e in omega arith)
@@ -118,7 +112,8 @@ nets-alike k (p ∷ ps) (q ∷ qs) e z f o r h =
     let g : From (suc (p .net .number)) (netsIn qs) = rw (← s) (f .1) in
     let one = first-same p q ps qs n l (f .1) g h in (
       λ x. (λ y. on-path x q .0 (sym (one x) ∙ on-path x p .1 y), λ y. on-path x p .0 (one x ∙ on-path x q .1 y)),
-      nets-alike (suc (p .net .number)) ps qs s (omega arith) (f .1) (once-rest p ps o) (once-rest q qs r) (rest-same p q ps qs n l (f .1) g h o r),
+      nets-alike (suc (p .net .number)) ps qs s (omega arith) (f .1) (once-rest (pathEdges p) (flatten (edgesIn ps)) o)
+          (once-rest (pathEdges q) (flatten (edgesIn qs)) r) (rest-same p q ps qs n l (f .1) g h o r),
     )
 
 pub alike-nets : (ps qs : List PathAt) → netsIn ps ≡ netsIn qs → Alike (edgesIn ps) (edgesIn qs) → SameNets ps qs

@@ -26,7 +26,7 @@ use Rattle.judge_laws.specs.Edges.{length-edges}
 use Rattle.judge_laws.specs.Exact.{passes-sound}
 
 -- DEFINITION: no edge stands twice in the list
-abbrev Once : List Edge → Type 0
+abbrev pub Once : List Edge → Type 0
 Once es = (e : Edge) → uses e es ≤ 1
 
 -- DEFINITION: the list without an edge, where that first stands
@@ -68,7 +68,7 @@ few-among (e ∷ es) fs o a =
 once-first : (es xs : List Edge) → Once (es ++ xs) → Once es
 once-first es xs o e = omega (arith, o e, uses-append e es xs)
 
-once-rest : (es xs : List Edge) → Once (es ++ xs) → Once xs
+pub once-rest : (es xs : List Edge) → Once (es ++ xs) → Once xs
 once-rest es xs o e = omega (arith, o e, uses-append e es xs)
 
 equally-many : (b : Board) (ps : List Pair) (dss ess : List (List Direction)) → Joins b ps dss → Joins b ps ess
