@@ -118,8 +118,8 @@ pub record TellsCompared (s : machine.Session) (one two : List ℕ) (t : Told) :
   pub second-uneven : WholeWords one → (dss : List (List Direction)) → judged s (wordsIn one) ≡ yes dss → (WholeWords two → ⊥) → t ≡ tell 10 0 0 0
   pub second : WholeWords one → WholeWords two → (dss : List (List Direction)) (q : Refusal) → judged s (wordsIn one) ≡ yes dss
       → judged s (wordsIn two) ≡ no q → t ≡ tell (q .number) 1 (firstOf (q .place)) 0
-  pub answers : WholeWords one → WholeWords two → (dss ess : List (List Direction)) → judged s (wordsIn one) ≡ yes dss → judged s (wordsIn two) ≡ yes ess
-      → (SameCopper s dss ess → t ≡ tell 0 1 0 0) × ((SameCopper s dss ess → ⊥) → t ≡ tell 0 0 0 0)
+  pub answers : WholeWords one → WholeWords two → (dss ess : List (List Direction)) → judged s (wordsIn one) ≡ yes dss
+      → judged s (wordsIn two) ≡ yes ess → (SameCopper s dss ess → t ≡ tell 0 1 0 0) × ((SameCopper s dss ess → ⊥) → t ≡ tell 0 0 0 0)
 
 -- judging accepts
 abbrev pub Passes : Judgement → Type 0
