@@ -1,4 +1,5 @@
-//! Seeded random boards that can be routed: every vertex even, no cut overfull.
+//! Seeded random boards: those that can be routed, every vertex even and no cut overfull; the same with some nets withdrawn, so that pins are bare;
+//! and small ones with any nets.
 
 pub struct Random(u64);
 
@@ -19,10 +20,11 @@ impl Random {
 }
 
 /// Line and column.
-type Vertex = (usize, usize);
+pub type Vertex = (usize, usize);
 /// A first and a second terminal.
-type Net = (Vertex, Vertex);
+pub type Net = (Vertex, Vertex);
 
+#[derive(Clone)]
 pub struct Board {
     pub rows: Vec<(usize, usize)>,
     pub nets: Vec<Net>,
@@ -34,13 +36,29 @@ impl Board {
         Board { rows: vec![(0, n); n], nets: Vec::new() }
     }
 
-    /// A board of up to 31 rows, each within the one before it in a random order from the middle outwards.
+    /// A board of 12 to 31 rows, without nets.
     pub fn uneven(random: &mut Random) -> Board {
-        let mut row = (0, 12 + random.below(20));
+        let widest = 12 + random.below(20);
+        let more = 11 + random.below(20);
+        Board::nested(random, widest, more, 4)
+    }
+
+    /// A board of 1 to 6 rows, without nets.
+    pub fn small(random: &mut Random) -> Board {
+        let widest = 2 + random.below(5);
+        let more = random.below(6);
+        Board::nested(random, widest, more, 2)
+    }
+
+    /// A board of one row of this width and so many more, each within the one before it in a random order from the middle outwards. Rows that are no
+    /// wider than `narrow` shrink no more.
+    fn nested(random: &mut Random, widest: usize, more: usize, narrow: usize) -> Board {
+        let mut row = (0, widest);
         let mut rows = vec![row];
-        for _ in 0..11 + random.below(20) {
-            if random.below(2) == 0 && row.1 - row.0 > 4 {
-                row = (row.0 + random.below(3), row.1 - random.below(2));
+        for _ in 0..more {
+            if random.below(2) == 0 && row.1 - row.0 > narrow {
+                let left = row.0 + random.below(3);
+                row = (left, (row.1 - random.below(2)).max(left + 1));
             }
             let at = if random.below(2) == 0 { 0 } else { rows.len() };
             rows.insert(at, row);
@@ -48,24 +66,55 @@ impl Board {
         Board { rows, nets: Vec::new() }
     }
 
+    /// The board of these bytes, which must be those of a board's words.
+    pub fn read(bytes: &[u8]) -> Board {
+        let mut board = Board { rows: Vec::new(), nets: Vec::new() };
+        for word in bytes.chunks_exact(4) {
+            let w = u32::from_le_bytes([word[0], word[1], word[2], word[3]]);
+            let five = |low: u32| (w >> low & 31) as usize;
+            match w >> 28 {
+                1 => board.rows.push((five(5), five(0))),
+                2 => board.nets.push(((five(15), five(10)), (five(5), five(0)))),
+                _ => (),
+            }
+        }
+        board
+    }
+
     fn cell(&self, row: usize, column: usize) -> bool {
         self.rows.get(row).is_some_and(|&(left, right)| left <= column && column < right)
     }
 
     /// The count of a vertex's edges, 0 where there is none.
-    fn degree(&self, (line, column): Vertex) -> usize {
+    pub fn degree(&self, (line, column): Vertex) -> usize {
         let (above, left) = (line.wrapping_sub(1), column.wrapping_sub(1));
         let round = [self.cell(above, left), self.cell(above, column), self.cell(line, column), self.cell(line, left)];
         (0..4).filter(|&i| round[i] || round[(i + 1) % 4]).count()
     }
 
-    fn all_vertices(&self) -> Vec<Vertex> {
+    /// In reading order.
+    pub fn all_vertices(&self) -> Vec<Vertex> {
         let all = (0..=self.rows.len()).flat_map(|line| (0..32).map(move |column| (line, column)));
         all.filter(|&v| self.degree(v) > 0).collect()
     }
 
     pub fn vertices(&self) -> usize {
         self.all_vertices().len()
+    }
+
+    /// The odd vertices in reading order.
+    pub fn odd_vertices(&self) -> Vec<Vertex> {
+        let terminals = |v: Vertex| self.nets.iter().map(|n| (n.0 == v) as usize + (n.1 == v) as usize).sum::<usize>();
+        self.all_vertices().into_iter().filter(|&v| (self.degree(v) + terminals(v)) % 2 == 1).collect()
+    }
+
+    /// The board without so many of its nets, at most, taken at random.
+    pub fn without(&self, random: &mut Random, count: usize) -> Board {
+        let mut board = self.clone();
+        for _ in 0..count.min(board.nets.len()) {
+            board.nets.remove(random.below(board.nets.len()));
+        }
+        board
     }
 
     /// One terminal at each vertex of degree 3, two or none at one of degree 2; at most 128.
@@ -77,9 +126,7 @@ impl Board {
                 terminals.extend([v, v]);
             }
         }
-        for i in (1..terminals.len()).rev() {
-            terminals.swap(i, random.below(i + 1));
-        }
+        shuffle(random, &mut terminals);
         terminals
     }
 
@@ -95,11 +142,19 @@ impl Board {
     }
 }
 
-/// For each cut, rows first and then columns: edges minus crossing nets.
-struct Margins([i32; 62]);
+fn shuffle(random: &mut Random, vertices: &mut [Vertex]) {
+    for i in (1..vertices.len()).rev() {
+        vertices.swap(i, random.below(i + 1));
+    }
+}
+
+/// For each cut, rows first and then columns from place 31 on: edges minus crossing nets.
+#[derive(Clone)]
+pub struct Margins(pub [i32; 62]);
 
 impl Margins {
-    fn new(board: &Board) -> Margins {
+    /// Those of the board without its nets.
+    pub fn new(board: &Board) -> Margins {
         let mut margins = [0; 62];
         for (i, &(left, right)) in board.rows.iter().enumerate() {
             margins[i] = (right - left + 1) as i32;
@@ -112,7 +167,7 @@ impl Margins {
     }
 
     /// Every cut that the net crosses loses `by`.
-    fn count(&mut self, net: Net, by: i32) {
+    pub fn count(&mut self, net: Net, by: i32) {
         let ((a, b), (c, d)) = net;
         self.0[a.min(c)..a.max(c)].iter_mut().for_each(|m| *m -= by);
         self.0[31 + b.min(d)..31 + b.max(d)].iter_mut().for_each(|m| *m -= by);
@@ -173,6 +228,28 @@ pub fn routable(random: &mut Random, bare: impl Fn(&mut Random) -> Board) -> Boa
             return board;
         }
     }
+}
+
+/// A board with some nets withdrawn, so that 2 to 12 vertices are odd.
+pub fn with_bare_pins(random: &mut Random, board: &Board) -> Board {
+    loop {
+        let count = 1 + random.below(6);
+        let bare = board.without(random, count);
+        if !bare.odd_vertices().is_empty() {
+            return bare;
+        }
+    }
+}
+
+/// A small board with nets between random pins: cuts may be overfull, and up to 16 pins stay bare.
+pub fn any_nets(random: &mut Random) -> Board {
+    let mut board = Board::small(random);
+    let pins = |v: Vertex| std::iter::repeat(v).take(4 - board.degree(v));
+    let mut ends: Vec<Vertex> = board.all_vertices().into_iter().flat_map(pins).collect();
+    shuffle(random, &mut ends);
+    ends.truncate(ends.len() - random.below(17).min(ends.len()));
+    board.nets = ends.chunks_exact(2).filter(|e| e[0] != e[1]).map(|e| (e[0], e[1])).collect();
+    board
 }
 
 /// The board of 31 by 31 cells with a net along each inner line and down each inner column: 60 nets.

@@ -4,12 +4,15 @@
 //!     main once ROUTER FILE      the router proved or plain routes the board of that file, once: for counting instructions
 //!
 //! Before anything is timed, both route every board, and every damaged copy of one, and must answer with the same numbers and the same bytes.
+//! Boards with odd vertices are compared and timed in a block of their own.
 //! Each figure is the median of many rounds; in a round the sizes, the proved router, the plain one and the judge take turns, so that a change of
 //! load meets all of them. A ratio is the median of the rounds' ratios.
 
 mod boards;
 #[path = "../editor/cidrask.rs"]
 mod cidrask;
+mod effort;
+mod odd;
 mod plain;
 
 use boards::{every_edge, longest, routable, Board, Random};
@@ -84,20 +87,26 @@ fn group(random: &mut Random, name: &str, count: usize, bare: impl Fn(&mut Rando
     Group { name: name.to_string(), vertices: mean(&|b| b.vertices()), nets: mean(&|b| b.nets.len()), cases }
 }
 
-/// Copies of boards with a few bits turned over, or cut short: the two must refuse alike. Answers with the counts of refused and of routed copies.
+/// A copy of a board with a few bits turned over, or cut short.
+fn broken(random: &mut Random, board: &[u8]) -> Vec<u8> {
+    let mut bytes = board.to_vec();
+    for _ in 0..1 + random.below(2) {
+        let at = random.below(bytes.len());
+        bytes[at] ^= 1 << random.below(8);
+    }
+    if random.below(20) == 0 {
+        bytes.truncate(random.below(bytes.len()));
+    }
+    bytes
+}
+
+/// Damaged copies of boards: the two must refuse alike. Answers with the counts of refused and of routed copies.
 fn damaged(random: &mut Random, groups: &[Group]) -> (usize, usize) {
     let (mut refused, mut routed) = (0, 0);
     for i in 0..40_000 {
         let cases = &groups[i % groups.len()].cases;
-        let mut bytes = cases[random.below(cases.len())].0.clone();
-        for _ in 0..1 + random.below(2) {
-            let at = random.below(bytes.len());
-            bytes[at] ^= 1 << random.below(8);
-        }
-        if random.below(20) == 0 {
-            bytes.truncate(random.below(bytes.len()));
-        }
-        match same(&bytes).0 {
+        let at = random.below(cases.len());
+        match same(&broken(random, &cases[at].0)).0 {
             Ok(_) => routed += 1,
             Err(_) => refused += 1,
         }
@@ -260,6 +269,8 @@ fn times(seed: u64) {
     let mut buffer = vec![0; BUFFER];
     let (board, single) = slowest(&groups, &mut |c| _ = black_box(proved(black_box(&c.0), &mut buffer)));
     println!("slowest board to route: {:.3} ms; longest single call seen: {:.3} ms", 1e3 * board, 1e3 * single);
+    odd::report(seed, &groups);
+
     let (board, list) = (longest(), every_edge(1, true));
     assert_eq!(judged(&board, &list).0, 0);
     assert_eq!(judged(&board, &list).1[0], 1984);

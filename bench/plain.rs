@@ -1,5 +1,5 @@
-//! A plain Rust router beside which the proved one is timed: the same checks and the same corner steps in the same order, so that it hands back
-//! the same bytes. Nothing is proved here. Safe Rust, each index checked, nets and boards lent and not copied.
+//! A plain Rust router beside which the proved one is timed: the same checks, the same search for helper pairs and the same corner steps in the same
+//! order, so that it hands back the same bytes. Nothing is proved here. Safe Rust, each index checked, nets and boards lent and not copied.
 
 /// The count of words, or a refusal's number and place.
 pub type Answer = Result<usize, Refusal>;
@@ -243,40 +243,109 @@ fn is_sound(board: &Board, nets: &Nets) -> bool {
     ok
 }
 
-fn first_odd(board: &Board, nets: &Nets) -> Option<Vertex> {
+/// The odd vertices in reading order.
+fn odd_vertices(board: &Board, nets: &Nets) -> Vec<Vertex> {
     let mut terminals = [0; 1024];
     for p in nets.iter().flatten() {
         terminals[spot(p.first) as usize] += 1;
         terminals[spot(p.second) as usize] += 1;
     }
+    let mut odd = Vec::new();
     for line in 0..=board.rows.len() as u8 {
         for column in 0..32 {
             let v = Vertex { line, column };
             let around = board.around(v);
             if around.any() && (around.degree() + terminals[spot(v) as usize]) % 2 == 1 {
-                return Some(v);
+                odd.push(v);
             }
         }
     }
-    None
+    odd
 }
 
-fn row_overfull(board: &Board, nets: &Nets, i: u8) -> bool {
+/// Edges minus crossing nets.
+fn row_margin(board: &Board, nets: &Nets, i: u8) -> i32 {
     let edges = (0..32).filter(|&column| board.around(Vertex { line: i, column }).down()).count();
     let crossing = nets.iter().flatten().filter(|p| (p.first.line <= i) != (p.second.line <= i)).count();
-    edges < crossing
+    edges as i32 - crossing as i32
 }
 
-fn column_overfull(board: &Board, nets: &Nets, j: u8) -> bool {
+fn column_margin(board: &Board, nets: &Nets, j: u8) -> i32 {
     let edges = (0..32).filter(|&line| board.around(Vertex { line, column: j }).right()).count();
     let crossing = nets.iter().flatten().filter(|p| (p.first.column <= j) != (p.second.column <= j)).count();
-    edges < crossing
+    edges as i32 - crossing as i32
 }
 
 /// The first overfull cut: 0 for a row or 1 for a column, and its index.
 fn first_overfull(board: &Board, nets: &Nets) -> Option<(usize, usize)> {
-    let row = (0..board.rows.len() as u8).find(|&i| row_overfull(board, nets, i)).map(|i| (0, i as usize));
-    row.or_else(|| (0..31).find(|&j| column_overfull(board, nets, j)).map(|j| (1, j as usize)))
+    let row = (0..board.rows.len() as u8).find(|&i| row_margin(board, nets, i) < 0).map(|i| (0, i as usize));
+    row.or_else(|| (0..31).find(|&j| column_margin(board, nets, j) < 0).map(|j| (1, j as usize)))
+}
+
+// ------------------------------------------------------------ helper pairs for odd vertices
+
+/// What is left at each cut: its margin, less the helper pairs that cross it.
+struct Slack {
+    rows: Vec<i32>,
+    columns: Vec<i32>,
+}
+
+impl Slack {
+    fn new(board: &Board, nets: &Nets) -> Slack {
+        Slack {
+            rows: (0..board.rows.len() as u8).map(|i| row_margin(board, nets, i)).collect(),
+            columns: (0..31).map(|j| column_margin(board, nets, j)).collect(),
+        }
+    }
+
+    /// What is left at the cuts that the pair crosses.
+    fn crossed(&mut self, p: Pair) -> impl Iterator<Item = &mut i32> {
+        let between = |a: u8, b: u8| a.min(b) as usize..a.max(b) as usize;
+        let rows = &mut self.rows[between(p.first.line, p.second.line)];
+        rows.iter_mut().chain(&mut self.columns[between(p.first.column, p.second.column)])
+    }
+
+    /// One pair more, unless a cut that it crosses is full.
+    fn take(&mut self, p: Pair) -> bool {
+        let fits = self.crossed(p).all(|left| *left > 0);
+        if fits {
+            self.crossed(p).for_each(|left| *left -= 1);
+        }
+        fits
+    }
+
+    /// One pair less.
+    fn give_back(&mut self, p: Pair) {
+        self.crossed(p).for_each(|left| *left += 1);
+    }
+}
+
+/// Pairs up the vertices: the first with each later one in turn, and then the rest, in which the second stands where that one stood. The pairs are
+/// pushed as the search comes back from the last of them.
+fn pair_up(odd: &mut [Vertex], slack: &mut Slack, helpers: &mut Vec<Pair>) -> bool {
+    let Some((&mut first, later)) = odd.split_first_mut() else { return true };
+    for k in 0..later.len() {
+        let pair = Pair { first, second: later[k] };
+        if slack.take(pair) {
+            later.swap(0, k);
+            if pair_up(&mut later[1..], slack, helpers) {
+                helpers.push(pair);
+                return true;
+            }
+            later.swap(0, k);
+            slack.give_back(pair);
+        }
+    }
+    false
+}
+
+/// Helper pairs for the odd vertices that leave no cut overfull, if there are any.
+fn helpers_of(board: &Board, nets: &Nets, mut odd: Vec<Vertex>) -> Option<Vec<Pair>> {
+    let mut helpers = Vec::new();
+    if odd.is_empty() {
+        return Some(helpers);
+    }
+    pair_up(&mut odd, &mut Slack::new(board, nets), &mut helpers).then_some(helpers)
 }
 
 // ------------------------------------------------------------ the corner steps
@@ -360,7 +429,8 @@ struct Router {
 }
 
 impl Router {
-    fn new(board: &Board, nets: &Nets) -> Router {
+    /// The nets' pairs in rising number, then the helpers'.
+    fn new(board: &Board, nets: &Nets, helpers: &[Pair]) -> Router {
         let n = board.rows.len();
         let (mut low, mut high) = ([0; 32], [0; 32]);
         for line in 0..=n {
@@ -370,7 +440,7 @@ impl Router {
         }
         let mut live = Vec::with_capacity(1024);
         let mut made = Vec::with_capacity(2112);
-        for (id, p) in nets.iter().flatten().enumerate() {
+        for (id, p) in nets.iter().flatten().chain(helpers).enumerate() {
             let (a, b) = (spot(p.first), spot(p.second));
             live.push(Live { a, b, id: id as u16 });
             made.push(Made { start: a, end: b, halves: None });
@@ -555,6 +625,7 @@ impl Router {
         }
     }
 
+    /// The nets' paths; the helpers' are left out.
     fn words(&self, nets: &Nets) -> Vec<u32> {
         let mut words = Vec::with_capacity(2049);
         let mut moves = Vec::with_capacity(2048);
@@ -583,14 +654,18 @@ pub fn route(board: &[u8], buffer: &mut [u8]) -> Answer {
     if buffer.len() / 4 < 2049 {
         return refuse(31, 0, 0);
     }
-    if let Some(v) = first_odd(&board, &nets) {
-        return refuse(32, v.line as usize, v.column as usize);
+    let odd = odd_vertices(&board, &nets);
+    if odd.len() > 12 {
+        return refuse(32, odd[0].line as usize, odd[0].column as usize);
     }
     if let Some((kind, index)) = first_overfull(&board, &nets) {
         return refuse(33, kind, index);
     }
-    let mut router = Router::new(&board, &nets);
-    router.run().expect("an even board without an overfull cut is never stuck");
+    let Some(helpers) = helpers_of(&board, &nets, odd) else {
+        return refuse(34, 0, 0);
+    };
+    let mut router = Router::new(&board, &nets, &helpers);
+    router.run().expect("a board without an overfull cut, even with its helper pairs, is never stuck");
     let words = router.words(&nets);
     for (bytes, w) in buffer.chunks_exact_mut(4).zip(&words) {
         bytes.copy_from_slice(&w.to_le_bytes());

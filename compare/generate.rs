@@ -73,6 +73,48 @@ pub fn convex_rows(random: &mut Random, most_rows: usize, most_width: usize) -> 
     rows.into()
 }
 
+/// Convex rows with steps of any width, on both sides at once: a chain of spans, each within the last, laid on top or below.
+pub fn stepped_rows(random: &mut Random, most_rows: usize, most_width: usize) -> Vec<(usize, usize)> {
+    let width = 1 + random.below(most_width);
+    let left = random.below(32 - width);
+    let mut span = (left, left + width);
+    let mut rows = std::collections::VecDeque::from([span]);
+    let (count, steep) = (1 + random.below(most_rows), random.pick(&[1, 2, 3]));
+    while rows.len() < count {
+        if random.one_in(steep) {
+            let width = 1 + random.below(span.1 - span.0);
+            let left = span.0 + random.below(span.1 - span.0 - width + 1);
+            span = (left, left + width);
+        }
+        if random.one_in(2) {
+            rows.push_front(span);
+        } else {
+            rows.push_back(span);
+        }
+    }
+    rows.into()
+}
+
+/// The board with its nets mirrored, from column 0 on.
+pub fn mirrored(board: &Board) -> Board {
+    let end = board.rows.iter().map(|row| row.1).max().unwrap_or(0);
+    let at = |v: Vertex| (v.0, end - v.1);
+    Board { rows: board.rows.iter().map(|row| (end - row.1, end - row.0)).collect(), nets: moved(&board.nets, &at) }
+}
+
+/// The board with its nets turned by a quarter, from line 0 and column 0 on: the left side comes to the top.
+pub fn turned(board: &Board) -> Board {
+    let (start, end) = (board.rows.iter().map(|row| row.0).min().unwrap_or(0), board.rows.iter().map(|row| row.1).max().unwrap_or(0));
+    let lines = board.rows.len();
+    let across = |column: usize| (0..lines).filter(|&i| board.rows[i].0 <= column && column < board.rows[i].1).collect::<Vec<_>>();
+    let rows = (start..end).map(across).map(|rows| (lines - 1 - rows[rows.len() - 1], lines - rows[0])).collect();
+    Board { rows, nets: moved(&board.nets, &|v| (v.1 - start, lines - v.0)) }
+}
+
+fn moved(nets: &[Net], at: &dyn Fn(Vertex) -> Vertex) -> Vec<Net> {
+    nets.iter().map(|n| Net { number: n.number, first: at(n.first), second: at(n.second) }).collect()
+}
+
 /// The size of a case's board: mostly small, at times as large as can be.
 pub fn size(random: &mut Random) -> (usize, usize) {
     match random.below(40) {
@@ -100,6 +142,16 @@ pub fn numbered(random: &mut Random, mut pairs: Vec<(Vertex, Vertex)>) -> Vec<Ne
 /// Nets that leave no vertex odd. Where `mend`, nets that cross an overfull cut exchange ends, which leaves full cuts but seldom overfull ones.
 pub fn even_nets(random: &mut Random, rows: &[(usize, usize)], mend: bool) -> Vec<Net> {
     let bare = Board::bare(rows);
+    let pins = even_pins(random, &bare);
+    let mut pairs = joined(random, pins);
+    if mend {
+        mend_cuts(random, &bare, &mut pairs);
+    }
+    numbered(random, pairs)
+}
+
+/// Pins that leave no vertex odd when they are taken, a vertex as often as it has such pins.
+fn even_pins(random: &mut Random, bare: &Board) -> Vec<Vertex> {
     let mut pins: Vec<Vertex> = Vec::new();
     let corners = random.pick(&[1, 2, 4, 1000]);
     for v in bare.vertices() {
@@ -109,6 +161,11 @@ pub fn even_nets(random: &mut Random, rows: &[(usize, usize)], mend: bool) -> Ve
             _ => {}
         }
     }
+    pins
+}
+
+/// The pins in pairs, those of one vertex twice left out.
+fn joined(random: &mut Random, mut pins: Vec<Vertex>) -> Vec<(Vertex, Vertex)> {
     random.shuffle(&mut pins);
     if random.one_in(4) {
         // Near ones together.
@@ -117,8 +174,38 @@ pub fn even_nets(random: &mut Random, rows: &[(usize, usize)], mend: bool) -> Ve
     let mut pairs: Vec<(Vertex, Vertex)> = pins.chunks(2).map(|p| (p[0], p[1])).collect();
     part_same_ends(random, &mut pairs);
     pairs.retain(|p| p.0 != p.1);
-    if mend {
+    pairs
+}
+
+/// How cuts are seen to: not at all, overfull ones are mended, or then nets exchange ends as long as that fills cuts.
+#[derive(Clone, Copy, Debug, PartialEq, Eq)]
+pub enum Care {
+    None,
+    Mended,
+    Filled,
+}
+
+/// Nets that leave `count` vertices odd, an even number; fewer where there are fewer vertices with pins.
+pub fn odd_nets(random: &mut Random, rows: &[(usize, usize)], count: usize, care: Care) -> Vec<Net> {
+    let bare = Board::bare(rows);
+    let mut pins = even_pins(random, &bare);
+    let mut vertices: Vec<Vertex> = bare.vertices().into_iter().filter(|&v| bare.pins(v) > 0).collect();
+    random.shuffle(&mut vertices);
+    vertices.truncate(count.min(vertices.len() / 2 * 2));
+    for v in vertices {
+        // A taken pin is left bare; a corner without a terminal gets one.
+        match pins.iter().position(|&pin| pin == v) {
+            Some(at) => drop(pins.swap_remove(at)),
+            None => pins.push(v),
+        }
+    }
+    let mut pairs = joined(random, pins);
+    if care != Care::None {
         mend_cuts(random, &bare, &mut pairs);
+    }
+    if care == Care::Filled {
+        let times = 10 * pairs.len();
+        fill_cuts(random, &bare, &mut pairs, times);
     }
     numbered(random, pairs)
 }
@@ -160,6 +247,36 @@ fn mend_cuts(random: &mut Random, bare: &Board, pairs: &mut [(Vertex, Vertex)]) 
     }
 }
 
+/// The cuts that a pair crosses, as indices into the cuts of a board.
+fn crossed((u, v): (Vertex, Vertex), rows: usize) -> impl Iterator<Item = usize> {
+    let columns = rows + u.1.min(v.1)..rows + u.1.max(v.1);
+    (u.0.min(v.0)..u.0.max(v.0)).chain(columns)
+}
+
+/// Two pairs at a time exchange ends, where they then cross at least as many cuts and leave none overfull.
+fn fill_cuts(random: &mut Random, bare: &Board, pairs: &mut [(Vertex, Vertex)], times: usize) {
+    let rows = bare.rows.len();
+    let mut margins: Vec<i32> = bare.cuts().iter().map(|&cut| bare.cut_edges(cut)).collect();
+    pairs.iter().for_each(|&p| crossed(p, rows).for_each(|cut| margins[cut] -= 1));
+    if margins.iter().any(|&margin| margin < 0) {
+        return;
+    }
+    for _ in 0..times {
+        let (i, j) = (random.below(pairs.len()), random.below(pairs.len()));
+        let ((a, b), (c, d)) = (pairs[i], pairs[j]);
+        let (one, two) = if random.one_in(2) { ((a, c), (b, d)) } else { ((a, d), (b, c)) };
+        if i == j || one.0 == one.1 || two.0 == two.1 {
+            continue;
+        }
+        let mut after = margins.clone();
+        [(a, b), (c, d)].into_iter().for_each(|p| crossed(p, rows).for_each(|cut| after[cut] += 1));
+        [one, two].into_iter().for_each(|p| crossed(p, rows).for_each(|cut| after[cut] -= 1));
+        if after.iter().sum::<i32>() <= margins.iter().sum::<i32>() && after.iter().all(|&margin| margin >= 0) {
+            (pairs[i], pairs[j], margins) = (one, two, after);
+        }
+    }
+}
+
 /// Nets on any pins, vertices odd or not.
 pub fn any_nets(random: &mut Random, rows: &[(usize, usize)]) -> Vec<Net> {
     let bare = Board::bare(rows);
@@ -170,13 +287,22 @@ pub fn any_nets(random: &mut Random, rows: &[(usize, usize)]) -> Vec<Net> {
     numbered(random, pairs)
 }
 
+/// Nets that leave some vertices odd, mostly as few as can be routed.
+pub fn some_odd_nets(random: &mut Random, rows: &[(usize, usize)]) -> Vec<Net> {
+    let count = random.pick(&[2, 4, 6, 8, 10, 12, 12, 14]);
+    let care = random.pick(&[Care::None, Care::Mended, Care::Filled, Care::Filled]);
+    odd_nets(random, rows, count, care)
+}
+
 /// A board that is accepted, of the given size at most.
 pub fn true_board(random: &mut Random, (most_rows, most_width): (usize, usize)) -> Board {
-    let rows = convex_rows(random, most_rows, most_width);
-    let nets = match random.below(8) {
+    let stepped = random.one_in(4);
+    let rows = if stepped { stepped_rows(random, most_rows, most_width) } else { convex_rows(random, most_rows, most_width) };
+    let nets = match random.below(12) {
         0..=1 => any_nets(random, &rows),
         2..=3 => even_nets(random, &rows, false),
-        _ => even_nets(random, &rows, true),
+        4..=7 => even_nets(random, &rows, true),
+        _ => some_odd_nets(random, &rows),
     };
     Board { rows, nets }
 }
@@ -279,7 +405,7 @@ fn bounds(random: &mut Random) -> Vec<u8> {
     let mut board = Board::bare(&rows);
     if count <= 31 && random.below(3) > 0 {
         let mend = random.below(3) > 0;
-        board.nets = even_nets(random, &rows, mend);
+        board.nets = if random.one_in(3) { some_odd_nets(random, &rows) } else { even_nets(random, &rows, mend) };
     }
     let mut words = board.words();
     let extra = random.pick(&[0, 0, 0, 1, 2]);

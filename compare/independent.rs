@@ -1,6 +1,6 @@
-//! The requirements read anew, from their words alone: boards and their words, convexity, pins, cuts, odd vertices,
-//! the judge of routing words, and whether two routings are alike. Nothing here is taken from the proved library; it is what
-//! the library is held against.
+//! The requirements read anew, from their words alone: boards and their words, convexity, pins, cuts, odd vertices and their pairings,
+//! the revised cut test of source document 004, the judge of routing words, and whether two routings are alike. Nothing here is taken from the
+//! proved library; it is what the library is held against.
 
 #![allow(dead_code)]
 
@@ -214,14 +214,126 @@ impl Board {
         self.cuts().into_iter().find(|&cut| self.margin(cut) < 0)
     }
 
-    pub fn first_odd(&self) -> Option<Vertex> {
+    /// Every odd vertex, in reading order.
+    pub fn odd_vertices(&self) -> Vec<Vertex> {
         let mut ends = [[0usize; 32]; 32];
         for n in &self.nets {
             ends[n.first.0][n.first.1] += 1;
             ends[n.second.0][n.second.1] += 1;
         }
-        self.vertices().into_iter().find(|&v| (self.degree(v) + ends[v.0][v.1]) % 2 == 1)
+        self.vertices().into_iter().filter(|&v| (self.degree(v) + ends[v.0][v.1]) % 2 == 1).collect()
     }
+}
+
+// ---------------------------------------------------------------- odd vertices paired off
+
+/// More odd vertices than these are refused.
+pub const MOST_ODD: usize = 12;
+
+/// Pairs off the vertices in every way; `fits` is asked of the pairs laid so far, none at first, and a way is left where it does not hold.
+/// Whether a way was found in which it holds to the end; its pairs are then left.
+pub fn pair_off(vertices: &[Vertex], pairs: &mut Vec<(Vertex, Vertex)>, fits: &mut dyn FnMut(&[(Vertex, Vertex)]) -> bool) -> bool {
+    if !fits(pairs) {
+        return false;
+    }
+    let Some((&first, others)) = vertices.split_first() else { return true };
+    for (i, &partner) in others.iter().enumerate() {
+        let rest = [&others[..i], &others[i + 1..]].concat();
+        pairs.push((first, partner));
+        if pair_off(&rest, pairs, fits) {
+            return true;
+        }
+        pairs.pop();
+    }
+    false
+}
+
+impl Board {
+    /// In how many ways the odd vertices can be paired off so that no cut is overfull with the pairs as further nets, counted up to `most`.
+    pub fn pairings(&self, most: usize) -> usize {
+        let (odd, margins, mut count) = (self.odd_vertices(), self.margins(), 0);
+        let crossed = |pairs: &[(Vertex, Vertex)], cut: Cut| pairs.iter().filter(|p| before(p.0, cut) != before(p.1, cut)).count() as i32;
+        let mut fits = |pairs: &[(Vertex, Vertex)]| {
+            let fits = margins.iter().all(|&(cut, margin)| crossed(pairs, cut) <= margin);
+            let whole = 2 * pairs.len() == odd.len();
+            count += (fits && whole) as usize;
+            fits && (!whole || count == most)
+        };
+        pair_off(&odd, &mut Vec::new(), &mut fits);
+        count
+    }
+
+    /// Whether disjoint paths for all nets exist: whether there is such a pairing.
+    /// - Where paths exist, the edges that they leave have an odd count at the odd vertices and an even one elsewhere. So trails along these
+    ///   edges, no edge used twice, pair the odd vertices off. Paths and trails together take an edge for each crossing of each cut.
+    /// - Where there is such a pairing, each odd vertex has a pin for its pair's end, for it has three edges and no terminal or two and one.
+    ///   With the pairs no vertex is odd and no cut is overfull, so there are paths for nets and pairs, and those of the pairs are dropped.
+    pub fn paths_exist(&self) -> bool {
+        self.pairings(1) == 1
+    }
+}
+
+// ---------------------------------------------------------------- the revised cut test of source document 004
+
+/// Whether a vertex lies above the row, or to the left of the column.
+fn before(v: Vertex, cut: Cut) -> bool {
+    match cut {
+        Cut::Row(i) => v.0 <= i,
+        Cut::Column(j) => v.1 <= j,
+    }
+}
+
+fn is_row(cut: Cut) -> bool {
+    matches!(cut, Cut::Row(_))
+}
+
+impl Board {
+    pub fn edges(&self) -> Vec<Edge> {
+        let from = |v: Vertex| [RIGHT, DOWN].into_iter().filter(move |&d| self.edge(v, d)).map(move |d| (v, step(v, d)));
+        self.vertices().into_iter().flat_map(from).collect()
+    }
+
+    /// The edges, and one more for each net between its terminals.
+    fn edges_and_nets(&self) -> Vec<Edge> {
+        let nets = self.nets.iter().map(|n| (n.first, n.second));
+        self.edges().into_iter().chain(nets).collect()
+    }
+
+    /// The cuts that have edges, each with its margin.
+    pub fn margins(&self) -> Vec<(Cut, i32)> {
+        let own = self.cuts().into_iter().filter(|&cut| self.cut_edges(cut) > 0);
+        own.map(|cut| (cut, self.margin(cut))).collect()
+    }
+
+    /// The parity demand of each cut that has edges. The saturated rows, those with margin 0, part the vertices to the left of a column into
+    /// sets; the saturated columns those above a row. The demand is the count of odd sets.
+    pub fn parity_demands(&self) -> Vec<i32> {
+        let (margins, edges) = (self.margins(), self.edges_and_nets());
+        let saturated: Vec<Cut> = margins.iter().filter(|(_, margin)| *margin == 0).map(|&(cut, _)| cut).collect();
+        let demand = |&(cut, _): &(Cut, i32)| {
+            let parting: Vec<Cut> = saturated.iter().copied().filter(|&other| is_row(other) != is_row(cut)).collect();
+            odd_sets(&edges, cut, &parting)
+        };
+        margins.iter().map(demand).collect()
+    }
+
+    /// Whether no cut's crossing nets and parity demand together are more than its edges.
+    pub fn revised_cuts_hold(&self) -> bool {
+        self.margins().iter().zip(self.parity_demands()).all(|(&(_, margin), demand)| demand <= margin)
+    }
+}
+
+/// The vertices before a cut are parted by others across it. A set is odd when the edges with one end in it and one outside it are odd in number.
+fn odd_sets(edges: &[Edge], cut: Cut, parting: &[Cut]) -> i32 {
+    // The sets by number; None for the vertices behind the cut.
+    let set = |v: Vertex| before(v, cut).then(|| parting.iter().filter(|&&other| before(v, other)).count());
+    let mut leaving = vec![0; parting.len() + 1];
+    for &(u, v) in edges {
+        if set(u) != set(v) {
+            [u, v].into_iter().filter_map(set).for_each(|i| leaving[i] += 1);
+        }
+    }
+    leaving.iter().filter(|&&count| count % 2 == 1).count() as i32
 }
 
 // ---------------------------------------------------------------- board words
@@ -347,19 +459,28 @@ pub fn net_word(n: &Net) -> u32 {
 
 // ---------------------------------------------------------------- routing
 
-/// What stands before a routing: room, odd vertices, overfull cuts. None: a routing is owed.
+/// What stands before a routing: room, too many odd vertices, overfull cuts, no paths. None: a routing is owed.
 pub fn route_refused(board: &Board, buffer_length: usize) -> Option<Refusal> {
     if buffer_length / 4 < 2049 {
         return Some(Refusal { number: 31, place: [0, 0] });
     }
-    if let Some((line, column)) = board.first_odd() {
-        return Some(Refusal { number: 32, place: [line as u32, column as u32] });
+    let odd = board.odd_vertices();
+    if odd.len() > MOST_ODD {
+        return Some(Refusal { number: 32, place: [odd[0].0 as u32, odd[0].1 as u32] });
     }
-    let place = match board.first_overfull()? {
-        Cut::Row(i) => [0, i as u32],
-        Cut::Column(j) => [1, j as u32],
-    };
-    Some(Refusal { number: 33, place })
+    match board.first_overfull() {
+        Some(Cut::Row(i)) => Some(Refusal { number: 33, place: [0, i as u32] }),
+        Some(Cut::Column(j)) => Some(Refusal { number: 33, place: [1, j as u32] }),
+        None if !board.paths_exist() => Some(Refusal { number: 34, place: [0, 0] }),
+        None => None,
+    }
+}
+
+/// The board of request §4: the revised cut test holds, and no routing exists.
+pub fn bare_pins_board() -> Board {
+    let ends = [((0, 2), (1, 4)), ((2, 5), (4, 4)), ((5, 3), (4, 1)), ((3, 0), (1, 1)), ((0, 3), (5, 2)), ((3, 5), (2, 0))];
+    let nets = (1..).zip(ends).map(|(number, (first, second))| Net { number, first, second }).collect();
+    Board { rows: vec![(2, 3), (1, 4), (0, 5), (1, 4), (2, 3)], nets }
 }
 
 /// The routing words of paths given by their steps, one path for each net in order.

@@ -3,8 +3,11 @@
 //!     main [SEED]              all parts
 //!     main SEED PART CASE      one case again
 //!
-//! Parts: a, boards true and damaged through routing; b, lists true and damaged through judging; c, random small boards against the exhaustive
-//! router; d, every assignment of nets on small boards against it; e, pairs of lists true and damaged through the comparison of two routings.
+//! Parts: a, boards true and damaged through routing; b, lists true and damaged through judging; c, random small boards without odd vertices
+//! against the exhaustive router; d, every assignment of nets on small boards against it; e, pairs of lists true and damaged through the
+//! comparison of two routings; f, small boards with odd vertices, by hand and at random, against the exhaustive router.
+//! Whether a board with odd vertices has a routing is decided by trying every way to pair them off. On small boards this way is itself held
+//! against the exhaustive router.
 //! The first difference ends the run with status 1 and prints seed, part, case and the input's bytes. So does a run whose inputs reach too little.
 
 #[path = "../editor/cidrask.rs"]
@@ -12,6 +15,7 @@ mod cidrask;
 mod exhaustive;
 mod generate;
 mod independent;
+mod odd;
 mod pairs;
 
 use cidrask::{cidrask_alike, cidrask_judge, cidrask_route};
@@ -25,6 +29,7 @@ const CASES_A: u64 = 220_000;
 const CASES_B: u64 = 120_000;
 const CASES_C: u64 = 6_000;
 const CASES_E: u64 = 30_000;
+const CASES_F: u64 = 6_000;
 /// Routing words for a board of their own.
 const OTHER_LIST: [u32; 5] = [0x40100001, 0x54000001, 0x40200001, 0x58000001, 0xE0000002];
 /// Bytes before and after a buffer that must stay as they are.
@@ -32,7 +37,7 @@ const GUARD: usize = 16;
 
 /// The refusals that reading, routing and judging of bytes can give. 22 is not among them: a number that is on the board
 /// already is not above the last one, and gets 13 before any net is added.
-const REFUSALS: [u32; 20] = [10, 11, 12, 13, 14, 15, 16, 21, 23, 24, 25, 31, 32, 33, 41, 42, 43, 44, 45, 46];
+const REFUSALS: [u32; 21] = [10, 11, 12, 13, 14, 15, 16, 21, 23, 24, 25, 31, 32, 33, 34, 41, 42, 43, 44, 45, 46];
 
 #[derive(Default)]
 struct Run {
@@ -115,6 +120,9 @@ impl Run {
         if !lent.unchanged() || !numbers.guarded() || third != UNTOUCHED {
             self.difference("routing wrote to what it is not lent for writing", board, &[]);
         }
+        if let Ok(b) = &expected {
+            self.count_odd(b, refused);
+        }
         if let Some(r) = refused {
             self.count_refused(&r);
             if (result, first, second) != (r.number, r.place[0] as u64, r.place[1] as u64) {
@@ -134,6 +142,9 @@ impl Run {
         }
         if let Ok(b) = &expected {
             self.count_routed(b, first as usize);
+            if !b.odd_vertices().is_empty() && !b.revised_cuts_hold() {
+                self.difference("routing hands back words where the revised cut test fails", board, &memory[start..start + count]);
+            }
         }
         Some(memory[start..start + count].to_vec())
     }
@@ -264,7 +275,7 @@ impl Run {
     }
 
     /// A random even board of up to 5 by 5 cells.
-    fn part_c(&mut self, case: u64, found: &mut [u64; 4]) {
+    fn part_c(&mut self, case: u64, found: &mut Found) {
         (self.part, self.case) = ('c', case);
         let mut random = Random::of_case(self.seed, 'c', case);
         let size = random.pick(&[3, 3, 4, 5]);
@@ -275,39 +286,69 @@ impl Run {
     }
 
     /// These pairs as nets on this board.
-    fn part_d(&mut self, case: u64, bare: &Board, pairs: &[(Vertex, Vertex)], found: &mut [u64; 4]) {
+    fn part_d(&mut self, case: u64, bare: &Board, pairs: &[(Vertex, Vertex)], found: &mut Found) {
         (self.part, self.case) = ('d', case);
         let mut random = Random::of_case(self.seed, 'd', case);
         let nets = numbered(&mut random, pairs.to_vec());
         self.small(&mut random, &Board { rows: bare.rows.clone(), nets }, u64::MAX, found);
     }
 
-    /// One board with its nets: routing is accepted exactly when the exhaustive router finds paths.
-    /// `found` counts boards with paths, without, not decided within the steps, and odd.
-    fn small(&mut self, random: &mut Random, board: &Board, steps: u64, found: &mut [u64; 4]) {
+    /// One board with its nets and at most 12 odd vertices: the exhaustive router finds paths exactly when the odd vertices can be paired off,
+    /// and routing is accepted exactly then.
+    fn small(&mut self, random: &mut Random, board: &Board, steps: u64, found: &mut Found) {
         let bytes = bytes_of(&board.words());
-        let routed = self.route_and_judge(random, &bytes, 8196).is_some();
-        if board.first_odd().is_some() {
-            found[3] += 1;
-            return;
+        let answer = exhaustive::route(board, steps);
+        let paths = match &answer {
+            Answer::Undecided => None,
+            Answer::None => Some(false),
+            Answer::Paths(_) => Some(true),
+        };
+        if paths.is_some_and(|paths| paths != board.paths_exist()) {
+            self.difference(&format!("the exhaustive router finds paths: {paths:?}, but pairing off the odd vertices tells otherwise"), &bytes, &[]);
         }
-        match exhaustive::route(board, steps) {
-            Answer::Undecided => found[2] += 1,
-            Answer::None => {
-                found[1] += 1;
-                if routed {
-                    self.difference("routed, but the exhaustive router finds no paths", &bytes, &[]);
-                }
+        let routed = self.route_and_judge(random, &bytes, 8196).is_some();
+        if paths.is_some_and(|paths| paths != routed) {
+            self.difference(&format!("routed: {routed}, but the exhaustive router finds paths: {paths:?}"), &bytes, &[]);
+        }
+        found.count(board, paths);
+        if let Answer::Paths(paths) = answer {
+            let list = bytes_of(&routing_words(board, &paths));
+            if self.judge(&bytes, &list).is_none() {
+                self.difference("both judges refuse the exhaustive router's paths", &bytes, &list);
             }
-            Answer::Paths(paths) => {
-                found[0] += 1;
-                let list = bytes_of(&routing_words(board, &paths));
-                if !routed {
-                    self.difference("refused, but the exhaustive router finds paths", &bytes, &list);
-                }
-                if self.judge(&bytes, &list).is_none() {
-                    self.difference("both judges refuse the exhaustive router's paths", &bytes, &list);
-                }
+        }
+    }
+}
+
+/// What the exhaustive router decided of small boards.
+#[derive(Default)]
+struct Found {
+    paths: u64,
+    none: u64,
+    undecided: u64,
+    /// Those with odd vertices.
+    odd_paths: u64,
+    odd_none: u64,
+    /// Those of the last on which no cut is overfull, and of these the ones on which the revised cut test holds.
+    no_overfull: u64,
+    revised: u64,
+}
+
+impl Found {
+    fn count(&mut self, board: &Board, paths: Option<bool>) {
+        let odd = !board.odd_vertices().is_empty() as u64;
+        match paths {
+            None => self.undecided += 1,
+            Some(true) => {
+                self.paths += 1;
+                self.odd_paths += odd;
+            }
+            Some(false) => {
+                self.none += 1;
+                self.odd_none += odd;
+                let no_overfull = board.first_overfull().is_none();
+                self.no_overfull += no_overfull as u64;
+                self.revised += (no_overfull && board.revised_cuts_hold()) as u64;
             }
         }
     }
@@ -438,10 +479,11 @@ fn boards_within(rows: usize, columns: usize) -> Vec<Board> {
     boards
 }
 
-/// The small boards, those for every assignment of nets and those for every even one.
+/// The small boards, those for every assignment of nets and those for every even one. On the last of the first, one assignment without
+/// paths passes the revised cut test.
 fn small_boards() -> (Vec<Board>, Vec<Board>) {
     let mut every = boards_within(2, 2);
-    every.extend([Board::bare(&[(0, 3)]), Board::bare(&[(0, 1), (0, 1), (0, 1)])]);
+    every.extend([Board::bare(&[(0, 3)]), Board::bare(&[(0, 1), (0, 1), (0, 1)]), Board::bare(&[(0, 3), (0, 1)])]);
     let mut only_even = boards_within(3, 3);
     only_even.retain(|b| !every.contains(b) && b.vertices().iter().map(|&v| b.pins(v)).sum::<usize>() <= 14);
     (every, only_even)
@@ -452,7 +494,7 @@ fn part_d(run: &mut Run, only: Option<u64>) -> u64 {
     let (every, only_even) = small_boards();
     let mut case = 0;
     for (boards, even, what) in [(&every, false, "every assignment"), (&only_even, true, "every even assignment")] {
-        let (mut found, start) = ([0u64; 4], Instant::now());
+        let (mut found, start) = (Found::default(), Instant::now());
         for bare in boards {
             assignments(bare, even, &mut |pairs| {
                 if only.is_none_or(|one| one == case) {
@@ -462,20 +504,33 @@ fn part_d(run: &mut Run, only: Option<u64>) -> u64 {
             });
         }
         if only.is_none() {
-            print_small(&format!("{what} on {} boards", boards.len()), found, start);
+            print_small(&format!("{what} on {} boards", boards.len()), &found, start);
+        }
+        if only.is_none() && !even {
+            let Found { odd_paths, no_overfull, revised, .. } = found;
+            let due = [
+                ("boards with odd vertices and paths", odd_paths, 30_000),
+                ("boards without paths on which no cut is overfull", no_overfull, 1_600),
+                ("of these boards that pass the revised cut test", revised, 1),
+            ];
+            end_if_short("every assignment reaches", due.map(|(what, seen, least)| (what.to_string(), seen, least)).into());
         }
     }
     case
 }
 
-fn print_small(what: &str, found: [u64; 4], start: Instant) {
-    let [paths, none, undecided, odd] = found;
-    if paths < 100 || none < 100 || undecided * 20 > paths + none {
+fn print_small(what: &str, found: &Found, start: Instant) {
+    let Found { paths, none, undecided, odd_paths, odd_none, no_overfull, revised } = found;
+    if *paths < 100 || *none < 100 || undecided * 20 > paths + none {
         println!("FAILED: exhaustive, {what}: too little was decided: {paths} with paths, {none} without, {undecided} not decided");
         std::process::exit(1);
     }
     let time = start.elapsed().as_secs_f64();
-    println!("exhaustive, {what}: {paths} with paths, {none} without, {undecided} not decided, {odd} odd; {time:.1} s");
+    println!("exhaustive, {what}: {paths} with paths, {none} without, {undecided} not decided; {time:.1} s");
+    if odd_paths + odd_none > 0 {
+        println!("of them with odd vertices {odd_paths} with paths and {odd_none} without; pairing these off tells the same of every board");
+        println!("of the last {no_overfull} without an overfull cut, {revised} of them passing the revised cut test");
+    }
 }
 
 // ---------------------------------------------------------------- the whole run
@@ -502,6 +557,7 @@ fn reached(run: &Run) -> Vec<(String, u64, u64)> {
     let mut all: Vec<(String, u64, u64)> = reached.map(|(what, seen, least)| (what.to_string(), seen, least)).into();
     all.extend(kinds().map(|kind| (format!("inputs of the kind \"{kind}\""), run.counted(kind), 1_000)));
     all.extend(REFUSALS.map(|number| (format!("refusals by {number}"), run.refused(number), 50)));
+    all.extend(odd::reached(run));
     all
 }
 
@@ -527,18 +583,22 @@ fn print_run(run: &Run) {
     println!("refusal 22: {} (13 comes before it)", run.refused(22));
 }
 
-/// Parts c and d: small boards through the exhaustive router.
+/// Parts c, d and f: small boards through the exhaustive router.
 fn exhaustive(run: &mut Run) {
-    let (mut found, start) = ([0; 4], Instant::now());
+    let (mut found, start) = (Found::default(), Instant::now());
     (0..CASES_C).for_each(|case| run.part_c(case, &mut found));
-    print_small("random even boards up to 5 by 5", found, start);
+    print_small("random even boards up to 5 by 5", &found, start);
     part_d(run, None);
+    odd::whole(run);
 }
 
 /// All parts; the small boards on a thread of their own.
 fn whole(run: &mut Run) {
     let mut other = Run { seed: run.seed, ..Run::default() };
-    let small = std::thread::spawn(move || exhaustive(&mut other));
+    let small = std::thread::spawn(move || {
+        exhaustive(&mut other);
+        other
+    });
     let start = Instant::now();
     (0..CASES_A).for_each(|case| run.part_a(case));
     println!("part a: {CASES_A} boards, {} routings handed back; {:.1} s", run.routed, start.elapsed().as_secs_f64());
@@ -548,15 +608,16 @@ fn whole(run: &mut Run) {
     print_run(run);
     end_if_short("parts a and b reach", reached(run));
     pairs::whole(run.seed);
-    if small.join().is_err() {
+    let Ok(other) = small.join() else {
         println!("FAILED: the small boards were broken off");
         std::process::exit(1);
-    }
+    };
+    odd::print_34([run, &other]);
     println!("no difference");
 }
 
 fn usage() -> ! {
-    eprintln!("usage: compare/run [SEED [PART CASE]], with part a, b, c, d or e");
+    eprintln!("usage: compare/run [SEED [PART CASE]], with part a, b, c, d, e or f");
     std::process::exit(2)
 }
 
@@ -564,9 +625,10 @@ fn again(run: &mut Run, part: &str, case: u64) {
     match part {
         "a" => run.part_a(case),
         "b" => run.part_b(case),
-        "c" => run.part_c(case, &mut [0; 4]),
+        "c" => run.part_c(case, &mut Found::default()),
         "d" if case < part_d(run, Some(case)) => {}
         "e" => run.part_e(case),
+        "f" => run.part_f(case, &mut Found::default()),
         _ => usage(),
     }
     println!("no difference in this case");

@@ -253,7 +253,7 @@ impl Run {
     /// A board with paths for its nets, and whether they were routed by the library.
     fn first_paths(&mut self, random: &mut Random) -> (Board, Paths, bool) {
         let board = pair_board(random);
-        if random.one_in(4) {
+        if random.one_in(6) {
             if let Some(list) = self.route_and_judge(random, &bytes_of(&board.words()), 8196) {
                 return (board, steps_of(&words_of(&list).unwrap()), true);
             }
@@ -323,12 +323,12 @@ const DUE: [(&str, u64); 12] = [
     ("pair: a routed list with random trails", 1_000),
     ("pair: for a damaged board", 4_800),
     ("alike: the same bytes", 30_000),
-    ("alike: other bytes", 2_000),
+    ("alike: other bytes", 1_700),
     ("not alike", 30_000),
     ("not alike: equal lengths for every net", 13_000),
     ("not alike: the same edges in all", 6_000),
-    ("not alike: every net's edges of the first list within the second's", 1_500),
-    ("not alike: every net's edges of the second list within the first's", 1_500),
+    ("not alike: every net's edges of the first list within the second's", 1_400),
+    ("not alike: every net's edges of the second list within the first's", 1_400),
     ("refused: the board of a pair", 3_400),
     ("refused: both lists, the second by another number", 18_000),
     ("refused: both lists, the second alone by 10", 4_500),

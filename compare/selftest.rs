@@ -1,11 +1,16 @@
 //! The independent side tried on its own: the ring and the boards a to i of the requirements, pairs of routings whose answer is known,
-//! the three readings of convexity against each other, and the exhaustive router on boards whose answer is known.
+//! the three readings of convexity against each other, the exhaustive router on boards whose answer is known, odd vertices and their pairings,
+//! and the revised cut test on boards worked out by hand and against other ways to work it out.
 
 mod exhaustive;
+#[allow(dead_code)]
+mod generate;
 mod independent;
 
 use exhaustive::{route, Answer};
+use generate::{convex_rows, mirrored, odd_nets, stepped_rows, turned, Care, Random};
 use independent::*;
+use std::collections::BTreeMap;
 
 const RING: [u32; 6] = [0x10000001, 0x20100001, 0x20200421, 0x20308420, 0x20408000, 0xF0000104];
 const RING_ROUTED: [u32; 9] =
@@ -50,7 +55,7 @@ fn ring_and_boards() {
     // b
     let b = with_nets(&[(0, 1)], &[(1, (0, 0), (1, 1)), (2, (0, 0), (1, 1))]);
     assert_eq!((b.margin(Cut::Row(0)), b.margin(Cut::Column(0))), (0, 0));
-    assert!(b.first_odd().is_none() && routes(&b));
+    assert!(b.odd_vertices().is_empty() && routes(&b));
     // c
     let mut c = b.clone();
     c.nets.push(Net { number: 3, first: (0, 1), second: (1, 0) });
@@ -61,11 +66,11 @@ fn ring_and_boards() {
     // d
     let d = with_nets(&[(0, 2)], &[(1, (0, 1), (1, 1))]);
     assert_eq!(d.margin(Cut::Row(0)), 2);
-    assert!(d.first_odd().is_none() && routes(&d));
+    assert!(d.odd_vertices().is_empty() && routes(&d));
     // e
     let e = Board::bare(&[(0, 2)]);
-    assert_eq!(e.first_odd(), Some((0, 1)));
-    assert_eq!(route_refused(&e, 8196), Some(Refusal { number: 32, place: [0, 1] }));
+    assert_eq!(e.odd_vertices(), [(0, 1), (1, 1)]);
+    assert_eq!(route_refused(&e, 8196), None);
     // f, g, h
     assert!(!Board::bare(&[(0, 1), (1, 2)]).convex());
     assert!(!Board::bare(&[(0, 2), (0, 1), (0, 2)]).convex());
@@ -207,6 +212,155 @@ fn refusals_of_pairs() {
     assert_eq!([alike(&ring, uneven, &passes), alike(&ring, &passes, uneven), alike(&ring, uneven, uneven)], [ten; 3]);
 }
 
+/// Counts of odd vertices, and what they lead to.
+fn odd_vertices() {
+    let bare = |right: usize| Board::bare(&[(0, right)]);
+    let top_and_bottom: Vec<Vertex> = (0..2).flat_map(|line| (1..7).map(move |column| (line, column))).collect();
+    assert_eq!(bare(7).odd_vertices(), top_and_bottom);
+    assert_eq!(route_refused(&bare(7), 8196), None);
+    assert_eq!(bare(8).odd_vertices().len(), 14);
+    assert_eq!(route_refused(&bare(8), 8196), Some(Refusal { number: 32, place: [0, 1] }));
+    assert_eq!(route_refused(&bare(8), 8195), Some(refused(31, 0)));
+    // A terminal at a vertex with three edges, one of two at a corner.
+    let one = with_nets(&[(0, 2)], &[(1, (0, 1), (0, 2))]);
+    assert_eq!(one.odd_vertices(), [(0, 2), (1, 1)]);
+    let two = with_nets(&[(0, 2)], &[(1, (0, 1), (0, 2)), (2, (1, 0), (0, 2))]);
+    assert_eq!(two.odd_vertices(), [(1, 0), (1, 1)]);
+    // An overfull cut comes before no paths.
+    let three = with_nets(&[(0, 1)], &[(1, (0, 0), (1, 1)), (2, (0, 1), (1, 0)), (3, (0, 1), (1, 1))]);
+    assert_eq!(three.odd_vertices(), [(0, 0), (1, 0)]);
+    assert_eq!(route_refused(&three, 8196), Some(refused(33, 0)));
+    assert!(!routes(&three));
+}
+
+/// Every way to pair vertices off comes once: (n - 1)(n - 3)...1 ways.
+fn ways_to_pair_off() {
+    for (count, ways) in [(0, 1), (2, 1), (4, 3), (6, 15), (8, 105), (10, 945), (12, 10_395)] {
+        let vertices: Vec<Vertex> = (0..count).map(|column| (column % 3, column)).collect();
+        let mut seen = std::collections::HashSet::new();
+        let found = pair_off(&vertices, &mut Vec::new(), &mut |pairs| {
+            if 2 * pairs.len() < count {
+                return true;
+            }
+            let mut ends: Vec<Vertex> = pairs.iter().flat_map(|pair| [pair.0, pair.1]).collect();
+            ends.sort_by_key(|v| v.1);
+            assert_eq!(ends, vertices);
+            assert!(seen.insert(pairs.to_vec()));
+            false
+        });
+        assert!(!found && seen.len() == ways);
+    }
+}
+
+/// Boards without paths although no cut is overfull: two nets across one cell, a board of 13 edges, and the one of request §4.
+fn no_paths() -> [Board; 3] {
+    let cell = with_nets(&[(0, 1)], &[(1, (0, 0), (1, 1)), (2, (0, 1), (1, 0))]);
+    let nets = [(1, (2, 1), (0, 0)), (2, (2, 0), (0, 3)), (3, (0, 2), (1, 3))];
+    [cell, with_nets(&[(0, 3), (0, 1)], &nets), bare_pins_board()]
+}
+
+fn boards_without_paths() {
+    for (board, odd) in no_paths().iter().zip([4, 8, 12]) {
+        assert!(board.convex() && read(&bytes_of(&board.words())).as_ref() == Ok(board));
+        assert_eq!(board.odd_vertices().len(), odd);
+        assert_eq!((board.first_overfull(), board.pairings(usize::MAX)), (None, 0));
+        assert_eq!(route_refused(board, 8196), Some(refused(34, 0)));
+        assert!(!routes(board));
+    }
+    // One net fewer on the cell: two odd vertices, and a path.
+    let mut cell = no_paths()[0].clone();
+    cell.nets.pop();
+    assert_eq!((cell.odd_vertices().len(), cell.pairings(usize::MAX)), (2, 1));
+    assert!(routes(&cell) && route_refused(&cell, 8196).is_none());
+    // Four odd vertices and no nets: each of the three ways to pair them off fits.
+    assert_eq!(Board::bare(&[(0, 3)]).pairings(usize::MAX), 3);
+    assert_eq!(Board::bare(&[(0, 3)]).pairings(2), 2);
+}
+
+/// The revised cut test by hand.
+fn revised_cuts() {
+    let numbers = |board: &Board| (board.margins().iter().map(|m| m.1).collect::<Vec<_>>(), board.parity_demands());
+    let [cell, small, block] = no_paths();
+    // Row and column are full, and part the vertex above or to the left from the others: each vertex has two edges and a net.
+    assert_eq!(numbers(&cell), (vec![0, 0], vec![2, 2]));
+    assert!(!cell.revised_cuts_hold());
+    // Rows 0 and 1, columns 0 to 2. Row 1 and column 2 are full. To the left of column 0 row 1 parts off (2, 0), to the left of column 1
+    // it parts off three odd vertices above; above row 0 column 2 parts off (0, 3).
+    assert_eq!(numbers(&small), (vec![1, 0, 1, 1, 0], vec![1, 0, 1, 1, 0]));
+    assert!(small.revised_cuts_hold());
+    // Rows 0 to 4, columns 0 to 4; the first and the last of each are full. Row 2 and column 2 have two odd sets each, at the ends.
+    assert_eq!(numbers(&block), (vec![0, 2, 2, 2, 0, 0, 2, 2, 2, 0], vec![0, 0, 2, 0, 0, 0, 0, 2, 0, 0]));
+    assert!(block.revised_cuts_hold());
+    assert_eq!(numbers(&Board::bare(&[(0, 2)])), (vec![3, 2, 2], vec![1, 0, 0]));
+}
+
+/// The parity demands by counting the odd vertices in each set.
+fn demands_by_odd_vertices(board: &Board) -> Vec<i32> {
+    let behind = |v: Vertex, cut: Cut| match cut {
+        Cut::Row(i) => v.0 > i,
+        Cut::Column(j) => v.1 > j,
+    };
+    let margins = board.margins();
+    let mut demands = Vec::new();
+    for &(cut, _) in &margins {
+        let mut sets: BTreeMap<Vec<bool>, i32> = BTreeMap::new();
+        for v in board.odd_vertices().into_iter().filter(|&v| !behind(v, cut)) {
+            let parting = margins.iter().filter(|(other, margin)| *margin == 0 && matches!(other, Cut::Row(_)) != matches!(cut, Cut::Row(_)));
+            *sets.entry(parting.map(|&(other, _)| behind(v, other)).collect()).or_insert(0) += 1;
+        }
+        demands.push(sets.values().filter(|&&count| count % 2 == 1).count() as i32);
+    }
+    demands
+}
+
+/// Whether a pairing fits, by trying each as nets of the board.
+fn paths_by_trying(board: &Board) -> bool {
+    let odd = board.odd_vertices();
+    pair_off(&odd, &mut Vec::new(), &mut |pairs| {
+        let mut more = board.clone();
+        more.nets.extend(pairs.iter().map(|pair| Net { number: 0, first: pair.0, second: pair.1 }));
+        2 * pairs.len() < odd.len() || more.first_overfull().is_none() && more.odd_vertices().is_empty()
+    })
+}
+
+/// Random boards: what holds of their odd vertices, pairings, parity demands and images.
+fn odd_boards() -> usize {
+    let mut counts = [0; 4];
+    for case in 0..4_000 {
+        let mut random = Random::of_case(7, 't', case);
+        let size = random.pick(&[2, 4, 6]);
+        let rows = if random.one_in(2) { convex_rows(&mut random, size, size) } else { stepped_rows(&mut random, size, size) };
+        let (count, care) = (random.pick(&[0, 2, 4, 6, 8]), random.pick(&[Care::None, Care::Mended, Care::Filled]));
+        let nets = odd_nets(&mut random, &rows, count, care);
+        let board = Board { rows, nets };
+        assert!(board.convex() && read(&bytes_of(&board.words())).as_ref() == Ok(&board));
+        let odd = board.odd_vertices().len();
+        assert!(odd == count || odd < count && board.vertices().iter().filter(|&&v| board.pins(v) > 0).count() < count + 2);
+        assert_eq!(board.parity_demands(), demands_by_odd_vertices(&board));
+        assert_eq!(board.paths_exist(), paths_by_trying(&board));
+        let (holds, exist) = (board.revised_cuts_hold(), board.paths_exist());
+        assert!(holds || !exist);
+        assert!(odd > 0 || holds == board.first_overfull().is_none() && exist == holds);
+        images(&board, holds, exist);
+        counts[2 * (board.first_overfull().is_none() as usize) + exist as usize] += 1;
+    }
+    assert!(counts[0] > 200 && counts[1] == 0 && counts[2] > 500 && counts[3] > 2_000, "{counts:?}");
+    counts.iter().sum()
+}
+
+/// Mirrored and turned boards have the same answers; mirrored twice or turned four times a board is as it was, from column 0 on.
+fn images(board: &Board, holds: bool, exist: bool) {
+    let (back, mut image) = (mirrored(&mirrored(board)), board.clone());
+    for _ in 0..4 {
+        image = turned(&image);
+        for other in [&image, &mirrored(&image)] {
+            assert!(other.convex() && read(&bytes_of(&other.words())).as_ref() == Ok(other));
+            assert_eq!((other.revised_cuts_hold(), other.paths_exist()), (holds, exist));
+        }
+    }
+    assert_eq!(image, back);
+}
+
 /// The three readings of convexity agree on every board of up to three rows within five columns, and of four within four.
 fn convexity() -> usize {
     let mut tried = 0;
@@ -231,6 +385,12 @@ fn main() {
     refusals();
     pairs();
     refusals_of_pairs();
+    odd_vertices();
+    ways_to_pair_off();
+    boards_without_paths();
+    revised_cuts();
+    let odd = odd_boards();
     let boards = convexity();
-    println!("self test: the ring, boards a to i, the refusals, pairs of routings; convexity on {boards} boards three ways: passed");
+    println!("self test: the ring, boards a to i, the refusals, pairs of routings; odd vertices, pairings and the revised cut test by hand");
+    println!("and on {odd} boards; convexity on {boards} boards three ways: passed");
 }

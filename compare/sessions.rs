@@ -3,6 +3,7 @@
 //!     sessions [SEED]          all cases
 //!     sessions SEED s CASE     one case again
 //!
+//! The call paths asks for a routing. Which one is handed back is left open, so its words are judged for the nets that the calls before leave.
 //! The first difference ends the run with status 1 and prints seed, case, the text and both outputs. So does a run whose texts reach too little.
 //! With SESSIONS_COUNTS set in the environment, all that was reached is printed with its count.
 
@@ -11,7 +12,7 @@ mod generate;
 mod independent;
 
 use generate::{convex_rows, Random};
-use independent::{Board, Net, Vertex};
+use independent::{bytes_of, judge, route_refused, Board, Net, Vertex};
 use std::collections::{BTreeMap, VecDeque};
 use std::io::Write;
 use std::process::{Command, Stdio};
@@ -23,6 +24,10 @@ const CASES: u64 = 3_000;
 const MOST_BYTES: usize = 65_536;
 /// The most changes on a pile.
 const PILE: usize = 64;
+/// The bytes of a buffer that any routing has room in.
+const ROOM: usize = 4 * 2049;
+/// Stands in the answers for the words of a routing.
+const ROUTING: &str = "a routing of the nets on the board";
 
 /// A refusal's number and place.
 type Refused = (u32, u32);
@@ -47,6 +52,8 @@ struct Machine {
     /// How many changes full piles have lost.
     lost: u64,
     output: String,
+    /// The boards whose routings the output has, in order.
+    routed: Vec<Board>,
     counts: Counts,
 }
 
@@ -105,7 +112,15 @@ fn take(board: &mut Board, number: u32) -> Option<Net> {
 
 impl Machine {
     fn new() -> Machine {
-        Machine { board: Board::bare(&[]), pile: VecDeque::new(), flaw: None, lost: 0, output: String::new(), counts: Counts::new() }
+        Machine {
+            board: Board::bare(&[]),
+            pile: VecDeque::new(),
+            flaw: None,
+            lost: 0,
+            output: String::new(),
+            routed: Vec::new(),
+            counts: Counts::new(),
+        }
     }
 
     /// A row more; the session starts afresh.
@@ -239,7 +254,7 @@ impl Machine {
     fn line(&mut self, line: &str) {
         let mut words = line.split(' ').filter(|word| !word.is_empty());
         let call = words.next().unwrap_or("");
-        if !["row", "add", "adds", "withdraw", "back"].contains(&call) {
+        if !["row", "add", "adds", "withdraw", "back", "paths"].contains(&call) {
             return self.count_passed_over(call);
         }
         let numbers: Vec<usize> = words.map(number).collect();
@@ -251,6 +266,7 @@ impl Machine {
         match call {
             "row" => self.row(numbers.first().copied().unwrap_or(0), numbers.get(1).copied().unwrap_or(0)),
             "adds" => self.list(&numbers),
+            "paths" => self.paths(),
             _ => {
                 let result = match call {
                     "add" => self.add(&net_of(&numbers)),
@@ -281,6 +297,25 @@ impl Machine {
         };
     }
 
+    /// The call paths and its answer: a routing, or a refusal with two numbers for the place of 32 and 33.
+    fn paths(&mut self) {
+        let refused = match self.unsound() {
+            Err((number, place)) => Some((number, vec![place])),
+            Ok(()) => route_refused(&self.board, ROOM).map(|r| match r.number {
+                32 | 33 => (r.number, r.place.to_vec()),
+                _ => (r.number, vec![r.place[0]]),
+            }),
+        };
+        self.count_paths(refused.as_ref().map(|r| r.0));
+        self.output += &match refused {
+            Some((number, place)) => format!("refused {number} {}\n", place.iter().map(u32::to_string).collect::<Vec<_>>().join(" ")),
+            None => {
+                self.routed.push(self.board.clone());
+                format!("{ROUTING}\n")
+            }
+        };
+    }
+
     /// After the text: the nets, then the pile from its top.
     fn finish(&mut self) {
         assert!(self.lifts(), "the machine's own session became unsound");
@@ -296,12 +331,41 @@ impl Machine {
     }
 }
 
-/// What the text's calls are answered.
-fn answered(text: &str) -> (String, Counts) {
+/// The machine after a text, with its answers.
+fn answered(text: &str) -> Machine {
     let mut machine = Machine::new();
     text.split('\n').for_each(|line| machine.line(line));
     machine.finish();
-    (machine.output, machine.counts)
+    machine
+}
+
+/// A line that holds a routing word: eight digits and a line feed.
+fn word_of(line: &str) -> Option<u32> {
+    let digits = line.strip_suffix('\n').filter(|digits| digits.len() == 8)?;
+    let all = digits.bytes().all(|digit| digit.is_ascii_digit() || (b'A'..=b'F').contains(&digit));
+    all.then(|| u32::from_str_radix(digits, 16).ok())?
+}
+
+/// The program's answers with the words of each routing judged, for the machine's boards in order, and one line put for them.
+fn with_routings_judged(output: &str, routed: &[Board]) -> String {
+    let (mut text, mut words, mut boards) = (String::new(), Vec::new(), routed.iter());
+    for line in output.split_inclusive('\n') {
+        match word_of(line) {
+            Some(word) => words.push(word),
+            None => text += line,
+        }
+        let ends = words.last().is_some_and(|word| word >> 28 == 14);
+        if ends || word_of(line).is_none() && !words.is_empty() {
+            let list = bytes_of(&std::mem::take(&mut words));
+            text += &match boards.next().map(|board| judge(board, &list)) {
+                Some(Ok(_)) => format!("{ROUTING}\n"),
+                judged => format!("no routing: {judged:?}\n"),
+            };
+        }
+    }
+    // Words without an end at the end.
+    words.iter().for_each(|word| text += &format!("{word:08X}\n"));
+    text
 }
 
 // ---------------------------------------------------------------- what was reached
@@ -324,8 +388,25 @@ impl Machine {
         }
     }
 
+    /// What a call of paths came to: the number of its refusal, or a routing.
+    fn count_paths(&mut self, refused: Option<u32>) {
+        if let Some(number) = refused {
+            return self.count(&format!("paths refused {number}"));
+        }
+        self.count("paths: a routing");
+        if !self.board.odd_vertices().is_empty() {
+            self.count("paths: a routing, odd vertices");
+        }
+        if self.board.nets.len() >= 16 {
+            self.count("paths: a routing, 16 nets or more");
+        }
+        if self.lost > 0 || self.pile.iter().any(|change| matches!(change, Change::Withdrawn(_))) {
+            self.count("paths: a routing, after withdrawals or lost changes");
+        }
+    }
+
     fn count_passed_over(&mut self, word: &str) {
-        let like_a_call = ["row", "add", "withdraw", "back"].iter().any(|call| word.starts_with(call));
+        let like_a_call = ["row", "add", "withdraw", "back", "paths"].iter().any(|call| word.starts_with(call));
         self.count(match word {
             "" => "line without a word",
             _ if like_a_call => "line passed over that begins as a call does",
@@ -382,7 +463,7 @@ impl Machine {
 }
 
 /// What has to be reached in a whole run, and how often at least. Each bound is two thirds or less of what each of the seeds 1985, 1 to 5 reaches.
-const FLOORS: [(&str, u64); 62] = [
+const FLOORS: [(&str, u64); 70] = [
     ("call", 150_000),
     ("add accepted", 20_000),
     ("add refused 20 at 0", 2_000),
@@ -443,6 +524,14 @@ const FLOORS: [(&str, u64); 62] = [
     ("row: a number above 249", 15),
     ("row: a number missing", 10),
     ("a row dropped a session with changes", 100),
+    ("paths refused 20", 750),
+    ("paths refused 32", 2_600),
+    ("paths refused 33", 5_700),
+    ("paths refused 34", 38),
+    ("paths: a routing", 2_200),
+    ("paths: a routing, 16 nets or more", 70),
+    ("paths: a routing, after withdrawals or lost changes", 1_400),
+    ("paths: a routing, odd vertices", 1_900),
     ("line passed over", 3_500),
     ("line passed over that begins as a call does", 3_000),
 ];
@@ -549,9 +638,9 @@ const LARGE: [&str; 16] = [
 ];
 
 /// Lines that are passed over, whatever numbers follow.
-const PASSED_OVER: [&str; 34] = [
+const PASSED_OVER: [&str; 36] = [
     "", "", "#", "a", "ad", "addsx", "addx", "adds1", "add1", "added", "addadd", "addss", "Add", "ADDS", "xadd", "r", "ro", "rows", "row0", "Row",
-    "b", "bac", "backs", "back1", "Back", "backback", "w", "withdra", "withdraws", "withdrawn", "net", "path", "accepted", "7",
+    "b", "bac", "backs", "back1", "Back", "backback", "w", "withdra", "withdraws", "withdrawn", "net", "path", "Paths", "pathss", "accepted", "7",
 ];
 
 /// Writes a text line by line. Its own machine tells what would be right or wrong next.
@@ -859,6 +948,10 @@ impl Writer {
         self.say("back", &[]);
     }
 
+    fn say_paths(&mut self) {
+        self.say("paths", &[]);
+    }
+
     /// A line that is passed over, with numbers as a call would have them.
     fn say_nothing(&mut self) {
         let word = self.random.pick(&PASSED_OVER);
@@ -880,6 +973,9 @@ impl Writer {
             if self.random.one_in(15) {
                 self.say_nothing();
             }
+            if self.random.one_in(12) {
+                self.say_paths();
+            }
             match self.random.pick(&kinds) {
                 0 => self.say_add(),
                 1 if self.full() && self.random.below(5) > 0 => self.say_withdraw(),
@@ -899,6 +995,9 @@ impl Writer {
     fn bursts(&mut self, count: usize) {
         let last = self.calls + count;
         while self.calls < last {
+            if self.random.one_in(2) {
+                self.say_paths();
+            }
             let kind = self.random.below(6);
             let times = self.random.pick(&[1, 3, 8, 20, 70]);
             for _ in 0..times {
@@ -933,6 +1032,7 @@ impl Writer {
             self.say("adds", &list);
             let (withdrawals, backs) = (self.random.pick(&[0, 1, 5, 64]), self.random.pick(&[0, 1, 5, 66]));
             (0..withdrawals).for_each(|_| self.say_withdraw());
+            self.say_paths();
             (0..backs).for_each(|_| self.say_back());
         }
         self.mixture(10);
@@ -1013,7 +1113,7 @@ fn text(random: Random) -> String {
 // ---------------------------------------------------------------- texts answered by hand
 
 /// Texts and their answers, worked out from the requirements.
-const BY_HAND: [(&str, &str); 12] = [
+const BY_HAND: [(&str, &str); 15] = [
     // Each refusal of an add in turn; a vertex of degree 2 has two pins.
     (
         "row 0 1\nadd 1 0 0 1 1\nadd 1 0 0 1 1\nadd 0 0 0 1 1\nadd 65 0 0 1 1\nadd 2 0 2 1 1\nadd 2 0 0 2 0\nadd 2 0 0 0 0\nadd 2 0 0 1 1\n\
@@ -1062,6 +1162,22 @@ const BY_HAND: [(&str, &str); 12] = [
     // Rows out of bounds.
     ("row 1 1\nback\n", "refused 20 0\n"),
     ("row 0 32\nadds\n", "refused 20 0 after 0\n"),
+    // Routings: of no nets, of one net between odd vertices; none of two nets across a cell; an overfull cut.
+    (
+        "paths\nrow 0 1\npaths\nadds 1 0 0 1 1 2 0 1 1 0\npaths\nback\npaths\nadds 2 0 0 1 1 3 0 1 1 0\npaths\nwithdraw 2\nwithdraw 3\n\
+         withdraw 1\n",
+        "refused 20 0\na routing of the nets on the board\naccepted 2\nrefused 34 0\naccepted\na routing of the nets on the board\n\
+         accepted 2\nrefused 33 0 0\naccepted\naccepted\naccepted\nwithdrawn 1 0 0 1 1\nwithdrawn 3 0 1 1 0\nwithdrawn 2 0 0 1 1\n\
+         added 3 0 1 1 0\nadded 2 0 0 1 1\nadded 1 0 0 1 1\n",
+    ),
+    // 12 odd vertices, then 14.
+    ("row 0 7\npaths\nrow 0 7\npaths\n", "a routing of the nets on the board\nrefused 32 0 1\n"),
+    // The board of request §4.
+    (
+        "row 2 3\nrow 1 4\nrow 0 5\nrow 1 4\nrow 2 3\nadds 1 0 2 1 4 2 2 5 4 4 3 5 3 4 1 4 3 0 1 1 5 0 3 5 2 6 3 5 2 0\npaths\n\
+         back\nback\nback\nback\nback\nback\n",
+        "accepted 6\nrefused 34 0\naccepted\naccepted\naccepted\naccepted\naccepted\naccepted\n",
+    ),
 ];
 
 /// A net that comes and goes: of 65 changes the first is lost, and when 64 are taken back the net is there still.
@@ -1077,8 +1193,9 @@ fn by_hand() {
     let mut all: Vec<(String, String)> = BY_HAND.iter().map(|(text, answers)| (text.to_string(), answers.to_string())).collect();
     all.push(lost_by_hand());
     for (text, answers) in all {
-        assert_eq!(answered(&text).0, answers, "the machine on a text answered by hand:\n{text}");
-        compare("a text answered by hand", &text, &answers);
+        let machine = answered(&text);
+        assert_eq!(machine.output, answers, "the machine on a text answered by hand:\n{text}");
+        compare("a text answered by hand", &text, &machine);
     }
 }
 
@@ -1102,30 +1219,31 @@ fn replayed(text: &str) -> (String, bool) {
     (String::from_utf8_lossy(&output.stdout).into_owned(), output.status.success())
 }
 
-fn difference(what: &str, text: &str, program: &str, machine: &str) -> ! {
-    let same = program.lines().zip(machine.lines()).take_while(|(a, b)| a == b).count();
-    println!("DIFFERENCE: {what}, line {} of the answers", same + 1);
-    println!("---- the text\n{text}\n---- {PROGRAM}\n{program}\n---- independent\n{machine}\n----");
+fn difference(what: &str, text: &str, output: &str, machine: &Machine) -> ! {
+    let (judged, answers) = (with_routings_judged(output, &machine.routed), &machine.output);
+    let same = judged.lines().zip(answers.lines()).take_while(|(a, b)| a == b).count();
+    println!("DIFFERENCE: {what}, line {} of the answers, a routing taken as one", same + 1);
+    println!("---- the text\n{text}\n---- {PROGRAM}\n{output}\n---- the same, routings judged\n{judged}\n---- independent\n{answers}\n----");
     std::process::exit(1)
 }
 
-fn compare(what: &str, text: &str, answers: &str) {
+fn compare(what: &str, text: &str, machine: &Machine) {
     assert!(text.len() <= MOST_BYTES);
     let (output, well) = replayed(text);
-    if output != answers {
-        difference(what, text, &output, answers);
+    if with_routings_judged(&output, &machine.routed) != machine.output {
+        difference(what, text, &output, machine);
     }
     if !well {
-        difference(&format!("{what}: the program ended badly"), text, &output, answers);
+        difference(&format!("{what}: the program ended badly"), text, &output, machine);
     }
 }
 
 /// One case. Answers with what it reached.
 fn case(seed: u64, case: u64) -> Counts {
     let text = text(Random::of_case(seed, 's', case));
-    let (answers, counts) = answered(&text);
-    compare(&format!("seed {seed} part s case {case}"), &text, &answers);
-    counts
+    let machine = answered(&text);
+    compare(&format!("seed {seed} part s case {case}"), &text, &machine);
+    machine.counts
 }
 
 fn whole(seed: u64) {
@@ -1149,10 +1267,11 @@ fn whole(seed: u64) {
     let lists = seen("list: stopped at the first") + seen("list: stopped in the middle") + seen("list: stopped at the last");
     let time = start.elapsed().as_secs_f64();
     println!(
-        "sessions: {CASES} texts with {} calls, {} lists of nets that went on whole and {lists} that were stopped; {time:.1} s; no difference",
+        "sessions: {CASES} texts with {} calls, {} lists of nets that went on whole and {lists} that were stopped,",
         seen("call"),
         seen("list: whole"),
     );
+    println!("{} routings and {} refused by 34; {time:.1} s; no difference", seen("paths: a routing"), seen("paths refused 34"));
 }
 
 fn usage() -> ! {

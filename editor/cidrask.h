@@ -44,9 +44,10 @@
  *   24  both terminals are one vertex                                                 its word's index
  *   25  a terminal has no pin, or its pins are all taken by the nets before           its word's index
  *   31  the buffer has room for fewer than 2,049 words                                0
- *   32  a vertex is odd: the first, line by line and column by column                 its line; its column
+ *   32  more than 12 vertices are odd: the first, line by line and column by column   its line; its column
  *   33  a row or column is crossed by more nets than it has edges: the first, rows
  *       from the top, then columns from the left                                      0 row or 1 column; its index
+ *   34  no row or column is crossed by too many nets, and yet there is no routing     0
  *   41  the list has no words or more than 2,049                                      0
  *   42  a routing word not of the kind due, with an unnamed bit set, of length 0, or
  *       in the direction of the run before                                            its index
@@ -73,7 +74,9 @@ extern "C" {
 /* Reads a board and routes its nets into a buffer, which counts as its whole groups of four bytes.
  * Accepted: a routing's words stand at the start of the buffer; *first is their count, and *second is 0. The bytes after them are untouched.
  * Refused: *first and *second are the place, *second 0 where it is one number; the whole buffer is untouched.
- * Order: 10, 11; each word in turn through 12 to 15; 16; each net in turn through 21, 23, 24, 25; 31, 32, 33. No other number comes. */
+ * Order: 10, 11; each word in turn through 12 to 15; 16; each net in turn through 21, 23, 24, 25; 31, 32, 33, 34. No other number comes.
+ * Where at most 12 vertices are odd, a routing is given exactly when pairwise edge-disjoint paths joining all nets exist. Where none is odd, 34 never
+ * comes. */
 uint32_t cidrask_route(const uint8_t *board, size_t board_length, uint8_t *buffer, size_t buffer_length, uint64_t *first, uint64_t *second);
 
 /* Reads a board and judges a list of routing words against it; the board may be odd or have overfull rows and columns.

@@ -9,4 +9,5 @@ pub mod Alike
 pub mod AlikeLaws
 pub mod Judge
 pub mod Route
+pub mod RouteLaws
 pub mod Editor

@@ -79,6 +79,7 @@ fn route_told(answer: RouteAnswer) -> Told
             third: 0,
         },
         RouteAnswer::Overfull(x) => cut_told(x),
+        RouteAnswer::NoRouting => refused(34, 0),
     }
 }
 

@@ -1,7 +1,7 @@
 -- Boards with odd vertices: nets can be joined exactly when some pairing of the odd vertices by helper pairs leaves no cut overfull.
 -- Assumes a problem on a convex board, whose vertices may be odd.
 use mathlib.Core.Path.{_≡_, ap, _∙_, sym}
-use mathlib.Core.List.{List, _++_}
+use mathlib.Core.List.{List, [], _++_}
 use mathlib.Core.Logic.{_↔_}
 use native.Mathlib.Omega.{arith}
 use Rattle.count.specs.Truth.{one}
@@ -9,14 +9,16 @@ use Rattle.board.specs.Board.{Board, IsVertex}
 use Rattle.board.specs.declared.Vertex.{Vertex}
 use Rattle.board.specs.declared.Direction.{Direction}
 use Rattle.net.specs.declared.Pair.{Pair}
+use Rattle.cut.specs.Cut.{overfullCuts}
 use Rattle.cut.specs.Odd.{odd?}
 use Rattle.routing_rules.specs.Routing.{Routing, Routable}
 use Rattle.count.specs.Parity.{oddNumber}
 use Rattle.corner.specs.Problem.{Problem, Helpers, Paired}
 use Rattle.corner.specs.Tallies.{all-map, all-append}
-use Rattle.corner.specs.Shape.{Here}
-use Rattle.corner.specs.Placed.{oddAt, HelpersOn}
-use Rattle.corner.specs.Pairing.{paired-cuts, paired-routed}
+use Rattle.corner.specs.Shape.{Here, Good}
+use Rattle.corner.specs.Placed.{CutCondition, oddAt, HelpersOn}
+use Rattle.corner.specs.Pairing.{paired-cuts, paired-good, paired-routed}
+use Rattle.corner.specs.Order.{good-same, append-same}
 use Rattle.corner.specs.Links.{pathsOf}
 use Rattle.corner.specs.Paths.{routable-disjoint, routing-routable}
 use Rattle.corner.specs.Lines.{linesOf}
@@ -50,12 +52,19 @@ module _ (b : Board) (ps : List Pair) (P : Problem b ps) where
     each = λ v h. omega (arith, H .each v (problem-here b ps P v h), terminals-standing hs v, odd-one v (problem-here b ps P v h));
   }
 
+  keeps-cuts : (hs : List Pair) → Helpers b ps hs → overfullCuts b (hs ++ ps) ≡ [] → CutCondition (linesOf b) (hs ++ ps)
+  keeps-cuts hs H e =
+      shape-cuts b ps P (hs ++ ps) (overfull-none b (hs ++ ps) (P .within) (all-append (IsVertex b) hs ps (H .stand) (P .stand)) e)
+
+  -- the nets and helper pairs that leave no cut overfull are good together, the nets first
+  pub helped-good : (hs : List Pair) → Helpers b ps hs → overfullCuts b (hs ++ ps) ≡ [] → Good (linesOf b) (ps ++ hs)
+  helped-good hs H e = good-same (linesOf b) (hs ++ ps) (ps ++ hs) (append-same hs ps)
+      (paired-good (linesOf b) ps hs (problem-loose b ps P) (shape-helpers hs H) (keeps-cuts hs H e))
+
   -- enough: the nets with the helper pairs have a routing, and the helper pairs' paths are left out
   pub odd-routing : Paired b ps → (dss : List (List Direction)) × Routing b ps dss
   odd-routing (hs, H, e) =
-      let st = all-append (IsVertex b) hs ps (H .stand) (P .stand) in
-      let C = shape-cuts b ps P (hs ++ ps) (overfull-none b (hs ++ ps) (P .within) st e) in
-      let R = paired-routed (linesOf b) ps hs (problem-loose b ps P) (shape-helpers hs H) C in
+      let R = paired-routed (linesOf b) ps hs (problem-loose b ps P) (shape-helpers hs H) (keeps-cuts hs H e) in
       (pathsOf ps (R .trails), shape-routing b ps P R)
 
   -- needed: what a routing leaves unused joins the odd vertices in pairs

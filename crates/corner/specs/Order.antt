@@ -1,9 +1,9 @@
 -- Whether a problem is good depends on the pairs only, not on their order nor on which end comes first; and a trivial pair can go.
 -- Assumes nothing.
-use mathlib.Core.Path.{refl, ap, _∙_, sym}
+use mathlib.Core.Path.{_≡_, refl, ap, _∙_, sym}
 use mathlib.Core.Bool.{Bool, not}
-use mathlib.Core.List.{List, _∷_}
-use Prim.Native.Nat.{_+_, _-_}
+use mathlib.Core.List.{List, [], _∷_, _++_}
+use Prim.Native.Nat.{ℕ, _+_, _-_}
 use native.Mathlib.Omega.{arith}
 use borrow.Author.Tests.{not-false}
 use Rattle.count.specs.Truth.{one}
@@ -49,6 +49,15 @@ good-drop S v ps G = record {
   );
   cuts = λ X. let k = G .cuts X in (k .0, omega (arith, k .1, leaving-cons (side X) v v ps, apart-same (side X v) (side X v) refl));
 }
+
+-- one list after the other, in either order
+tally-append : (f : Vertex → Vertex → ℕ) (ps qs : List Pair) → tally f (ps ++ qs) ≡ tally f ps + tally f qs
+unfolding tally
+tally-append f [] qs = omega arith
+tally-append f (p ∷ ps) qs = omega (arith, tally-append f ps qs)
+
+pub append-same : (ps qs : List Pair) → SamePairs (ps ++ qs) (qs ++ ps)
+append-same ps qs f s = omega (arith, tally-append f ps qs, tally-append f qs ps)
 
 -- taking a pair out and putting it in front is one way to reorder
 pub take-same : (u v : Vertex) (ps rest : List Pair) → Take u v ps rest → SamePairs ps (pair u v ∷ rest)

@@ -19,7 +19,7 @@ use Rattle.count.specs.Sums.{sum-le, sum-none, sum-get, sum-lt, zero-or-some}
 use Rattle.corner.specs.Pairs.{pair, tally, standing}
 use Rattle.net.specs.Same.{same-true, same-self}
 use Rattle.corner.specs.Tallies.{all-append, standing-cons, standing-nil, standing-append}
-use Rattle.corner.specs.Shape.{size, Shape, present, Here, deg, Shaped}
+use Rattle.corner.specs.Shape.{size, Shape, present, Here, deg, Shaped, Good}
 use Rattle.corner.specs.Placed.{Placed, CutCondition, Loose, oddAt, HelpersOn}
 use Rattle.corner.specs.Presence.{present-yes, present-true}
 use Rattle.corner.specs.Trails.{joined, total, Routed, Disjoint}
@@ -172,5 +172,8 @@ paired-cuts S ps B D =
     let p = pair-up S (B .shaped) (odds S ps) ps (tidy (joined S) ps D) (omega arith) in
     (p .0, p .1, cuts-needed S (p .0 ++ ps) (B .shaped) (disjoint (joined S) (p .0 ++ ps) (p .2)))
 
+pub paired-good : (S : Shape) (ps hs : List Pair) → Loose S ps → HelpersOn S ps hs → CutCondition S (hs ++ ps) → Good S (hs ++ ps)
+paired-good S ps hs B H C = good S (hs ++ ps) (helped S ps hs B H) C
+
 pub paired-routed : (S : Shape) (ps hs : List Pair) → Loose S ps → HelpersOn S ps hs → CutCondition S (hs ++ ps) → Routed (joined S) ps
-paired-routed S ps hs B H C = unpair S hs ps (good-routed S (hs ++ ps) (good S (hs ++ ps) (helped S ps hs B H) C))
+paired-routed S ps hs B H C = unpair S hs ps (good-routed S (hs ++ ps) (paired-good S ps hs B H C))

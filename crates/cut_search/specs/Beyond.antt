@@ -35,18 +35,23 @@ module _ (b : Board) (ps : List Pair) where
   no-vertex-even v e = rw e refl
 
   -- the rest of a line
+  pub line-none : (l c : ℕ) → c ≡ columnsOf b l → select (odd? b ps) (map (at l) (rising c (32 - c))) ≡ []
+  line-none l c e = none-map (odd? b ps) (at l) c (32 - c) .1
+      (λ m p q. no-vertex-even (at l m) (no-vertex-right b l m (omega arith) (omega arith)))
+
   pub line-done : (l c : ℕ) (rest : List Vertex) → c ≡ columnsOf b l
       → first (odd? b ps) (map (at l) (rising c (32 - c)) ++ rest) ≡ first (odd? b ps) rest
-  line-done l c rest e = first-skip (odd? b ps) (map (at l) (rising c (32 - c))) rest
-      (none-map (odd? b ps) (at l) c (32 - c) .1
-      (λ m p q. no-vertex-even (at l m) (no-vertex-right b l m (omega arith) (omega arith))))
+  line-done l c rest e = first-skip (odd? b ps) (map (at l) (rising c (32 - c))) rest (line-none l c e)
 
   -- the rest of the lines
-  pub lines-done : (l : ℕ) → l ≡ linesOf b → first (odd? b ps) (linesFrom l) ≡ none
+  pub lines-none : (l : ℕ) → l ≡ linesOf b → select (odd? b ps) (linesFrom l) ≡ []
   unfolding linesFrom
-  lines-done l e = ap head? (none-flat (odd? b ps) (λ k. map (at k) (upTo 32)) l (32 - l) .1
+  lines-none l e = none-flat (odd? b ps) (λ k. map (at k) (upTo 32)) l (32 - l) .1
       (λ m p q. none-map (odd? b ps) (at m) 0 32 .1
-      (λ k r s. no-vertex-even (at m k) (no-vertex-below b m k (omega arith) (omega arith)))))
+      (λ k r s. no-vertex-even (at m k) (no-vertex-below b m k (omega arith) (omega arith))))
+
+  pub lines-done : (l : ℕ) → l ≡ linesOf b → first (odd? b ps) (linesFrom l) ≡ none
+  lines-done l e = ap head? (lines-none l e)
 
 -- ── columns ──
 pub further-left : (m : ℕ) (h : Held) → m ≤ further m h

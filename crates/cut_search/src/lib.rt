@@ -99,7 +99,7 @@ pub fn first_overfull(b: Board, nets: [Place; 64]) -> FoundCut
 }
 
 // Is v a vertex whose degree plus this count of terminals is odd?
-fn is_odd(b: Board, terminals: u8, v: Vertex) -> bool
+pub fn is_odd(b: Board, terminals: u8, v: Vertex) -> bool
     ensures { λ r. ⌜ r ≡ oddWith (boardOf b) terminals v ⌝ }
 {
     if board::is_vertex(b, v) {

@@ -21,7 +21,7 @@ use Rattle.board_block.specs.declared.Block as code-block
 use Rattle.board.specs.declared.Direction.{Direction}
 use Rattle.board_convex.specs.Test.{isConvex}
 use Rattle.net.specs.declared.Net.{Net}
-use Rattle.routing_rules.specs.Routing.{trails, Routing}
+use Rattle.routing_rules.specs.Routing.{trails, Routing, Routable}
 use Rattle.session_rules.specs.Refusal.{Refusal, refusal}
 use Rattle.session_rules.specs.Machine as calls
 use Rattle.session_rules.specs.Machine.{accepted, wentOn}
@@ -121,6 +121,12 @@ pub record TellsCompared (s : machine.Session) (one two : List ℕ) (t : Told) :
   pub answers : WholeWords one → WholeWords two → (dss ess : List (List Direction)) → judged s (wordsIn one) ≡ yes dss
       → judged s (wordsIn two) ≡ yes ess → (SameCopper s dss ess → t ≡ tell 0 1 0 0) × ((SameCopper s dss ess → ⊥) → t ≡ tell 0 0 0 0)
 
+-- a routing call that 20, 31, 32 and 33 let pass (document 02, §4): "A routing is then given exactly when edge-disjoint paths for all nets exist",
+-- and 34 exactly "where no cut is overfull and no routing exists". Given n says that a routing of n words was handed back, Refused that 34 was told
+pub record Decided (s : machine.Session) (Given : ℕ → Type 0) (Refused : Type 0) : Type 0 where
+  pub given : ((n : ℕ) × Given n) ↔ Routable (s .block .board) (pairs (s .nets))
+  pub refused : Refused ↔ (Routable (s .block .board) (pairs (s .nets)) → ⊥)
+
 -- judging accepts
 abbrev pub Passes : Judgement → Type 0
 Passes r = (x : Report) × (judgementOf r ≡ yes x)
@@ -177,18 +183,25 @@ pub record Demand1 : Type 0 where
   -- 02, §3: "Any two that are alike in the new sense were alike in the old one": every net uses equally many edges in both
   pub were-alike : (s : machine.Session) (vs ws : List ℕ) (dss ess : List (List Direction)) → judged s vs ≡ yes dss → judged s ws ≡ yes ess
       → SameCopper s dss ess → equallyMany dss ess ≡ true
+  -- routing: first 20, 31, 32 "now only where more than 12 vertices are odd" and 33, by `routeRefused`
   pub route : (s : Session) (before : List ℕ) (r : RouteAnswer) (after : List ℕ) → Routes (sessionOf s) before (routeAnswer r) after
       → ((q : Refusal) → routeRefused (sessionOf s) (length before) ≡ some q → (routeAnswer r ≡ no q) × (after ≡ before))
-      × (routeRefused (sessionOf s) (length before) ≡ none → (n : ℕ) × (routeAnswer r ≡ yes n) × HandsBack (sessionOf s) before after n)
+      × (routeRefused (sessionOf s) (length before) ≡ none → Decided (sessionOf s)
+      (λ n. (routeAnswer r ≡ yes n) × HandsBack (sessionOf s) before after n)
+      ((routeAnswer r ≡ no (refusal 34 0)) × (after ≡ before)))
   pub route-bytes : (s : Session) (before : List ℕ) (r : RouteAnswer) (after : List ℕ) → RoutesBytes (sessionOf s) before (routeAnswer r) after
       → ((q : Refusal) → routeRefused (sessionOf s) (length before / 4) ≡ some q → (routeAnswer r ≡ no q) × (after ≡ before))
-      × (routeRefused (sessionOf s) (length before / 4) ≡ none → (n : ℕ) × (routeAnswer r ≡ yes n) × HandsBackBytes (sessionOf s) before after n)
+      × (routeRefused (sessionOf s) (length before / 4) ≡ none → Decided (sessionOf s)
+      (λ n. (routeAnswer r ≡ yes n) × HandsBackBytes (sessionOf s) before after n)
+      ((routeAnswer r ≡ no (refusal 34 0)) × (after ≡ before)))
   -- for C: the board's bytes are read first; a refusal is told by its number and place, and leaves the buffer as it was
   pub c-route : (board before : List ℕ) (number first second : ℕ) (after : List ℕ) → RoutePromise board before number first second after
       → ((q : Refusal) → readBytes board ≡ no q → (tell number first second 0 ≡ refusedTold q) × (after ≡ before))
       × ((s : machine.Session) → readBytes board ≡ yes s
       → ((q : Refusal) → routeRefused s (length before / 4) ≡ some q → (tell number first second 0 ≡ refusedTold q) × (after ≡ before))
-      × (routeRefused s (length before / 4) ≡ none → (n : ℕ) × (tell number first second 0 ≡ tell 0 n 0 0) × HandsBackBytes s before after n))
+      × (routeRefused s (length before / 4) ≡ none → Decided s
+      (λ n. (tell number first second 0 ≡ tell 0 n 0 0) × HandsBackBytes s before after n)
+      ((tell number first second 0 ≡ tell 34 0 0 0) × (after ≡ before))))
   pub c-judge : (board list : List ℕ) (number first second third : ℕ) → JudgePromise board list number first second third
       → ((q : Refusal) → readBytes board ≡ no q → tell number first second third ≡ refusedTold q)
       × ((s : machine.Session) → readBytes board ≡ yes s → TellsJudged s list (tell number first second third))

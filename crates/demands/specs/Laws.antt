@@ -14,6 +14,8 @@ use Rattle.count.specs.TruthLaws.{bool, not-true}
 use Rattle.board_block.specs.Block.{Block}
 use Rattle.board.specs.declared.Direction.{Direction}
 use Rattle.net.specs.declared.Net.{Net}
+use Rattle.routing_rules.specs.Routing.{Routable}
+use Rattle.corner.specs.Paths.{routing-routable, tidied}
 use Rattle.session_rules.specs.Refusal.{Refusal, refusal}
 use Rattle.session_rules.specs.Session as machine
 use Rattle.session_rules.specs.Session.{pairs}
@@ -35,7 +37,18 @@ use Rattle.call_rules.specs.Writing.{boardWords, writeBoard, countOf, bufferAft
 use Rattle.call_rules.specs.Report.{Report, reportOf}
 use Rattle.call_rules.specs.AlikeLaws.{alike-exact}
 use Rattle.call_rules.specs.Judge.{judged, ifSound, ifEven, judgeWords, ofList, alikeOn, compareWords, judgeBytes, compareBytes}
-use Rattle.call_rules.specs.Route.{routeRefused, HandsBack, HandsBackBytes, Routes, RoutesBytes, refused, given}
+use Rattle.call_rules.specs.Route.{
+  routeRefused,
+  WhyRefused,
+  by-count,
+  none-exists,
+  HandsBack,
+  HandsBackBytes,
+  Routes,
+  RoutesBytes,
+  refused,
+  given,
+}
 use Rattle.call_rules.specs.Editor.{EditorRoutes, unread, read, editorJudge, editorAlike}
 use Rattle.route_call.specs.Answers.{routeAnswer}
 use Rattle.cidrask.specs.Told.{tell, refusedTold, routeTold, judgeTold, alikeTold}
@@ -60,6 +73,7 @@ use Rattle.demands.specs.Demands.{
   Compares,
   ComparesBytes,
   TellsCompared,
+  Decided,
   Passes,
   OfRouting,
   Demand1,
@@ -93,37 +107,73 @@ buffer-kept : (before : List ℕ) (x : Result (List ℕ)) (r : Refusal) → coun
 buffer-kept before (no q) r e = refl
 buffer-kept before (yes ws) r e = absurd (let z : _≡_ {A = ℕ} 0 1 = cc in omega arith)
 
--- a routing call, by what the definition refuses
-by-refusal : (s : machine.Session) (before after : List ℕ) (a : Result ℕ) → Routes s before a after
-    → ((q : Refusal) → routeRefused s (length before) ≡ some q → (a ≡ no q) × (after ≡ before))
-    × (routeRefused s (length before) ≡ none → (n : ℕ) × (a ≡ yes n) × HandsBack s before after n)
-by-refusal s before after a (refused {r} e) = (
-  λ q f. (ap no (let g : some r ≡ some q = sym e ∙ f in cc), refl),
-  λ f. absurd (let g : some r ≡ none = sym e ∙ f in let z : _≡_ {A = ℕ} 0 1 = cc in omega arith),
-)
-by-refusal s before after a (given {count = n} e H) = (
-  λ q f. absurd (let g : none ≡ some q = sym e ∙ f in let z : _≡_ {A = ℕ} 0 1 = cc in omega arith),
-  λ f. (n, refl, H),
-)
+-- ── a routing call, by what the definition refuses ──
+-- `told` gives the numbers by which an answer is told, or the answer itself; those of a routing are not those of 34
+module _ {T : Type 0} (told : Result ℕ → T) (differ : (n : ℕ) → told (yes n) ≡ told (no (refusal 34 0)) → ⊥) (s : machine.Session) (room : ℕ) where
+  -- DEFINITION: what is shown of an answer, where HandedBack n says that a routing of n words was handed back
+  abbrev Shown : Result ℕ → (Same : Type 0) (HandedBack : ℕ → Type 0) → Type 0
+  Shown a Same HandedBack =
+      ((q : Refusal) → routeRefused s room ≡ some q → (told a ≡ told (no q)) × Same)
+      × (routeRefused s room ≡ none
+      → Decided s (λ n. (told a ≡ told (yes n)) × HandedBack n) ((told a ≡ told (no (refusal 34 0))) × Same))
 
-by-refusal-bytes : (s : machine.Session) (before after : List ℕ) (a : Result ℕ) → RoutesBytes s before a after
-    → ((q : Refusal) → routeRefused s (length before / 4) ≡ some q → (a ≡ no q) × (after ≡ before))
-    × (routeRefused s (length before / 4) ≡ none → (n : ℕ) × (a ≡ yes n) × HandsBackBytes s before after n)
-by-refusal-bytes s before after a (refused {r} e) = (
-  λ q f. (ap no (let g : some r ≡ some q = sym e ∙ f in cc), refl),
-  λ f. absurd (let g : some r ≡ none = sym e ∙ f in let z : _≡_ {A = ℕ} 0 1 = cc in omega arith),
-)
-by-refusal-bytes s before after a (given {count = n} e H) = (
-  λ q f. absurd (let g : none ≡ some q = sym e ∙ f in let z : _≡_ {A = ℕ} 0 1 = cc in omega arith),
-  λ f. (n, refl, H),
-)
+  module _ (Same : Type 0) (HandedBack : ℕ → Type 0) (joined : (n : ℕ) → HandedBack n → Routable (s .block .board) (pairs (s .nets))) where
+    shown-refused : {r : Refusal} → WhyRefused s room r → Same → Shown (no r) Same HandedBack
+    shown-refused (by-count {r} e) same = (
+      λ q f. (ap (λ (p : Refusal). told (no p)) (let g : some r ≡ some q = sym e ∙ f in cc), same),
+      λ f. absurd (let g : some r ≡ none = sym e ∙ f in let z : _≡_ {A = ℕ} 0 1 = cc in omega arith),
+    )
+    shown-refused (none-exists e none-is) same =
+        let n : Routable (s .block .board) (pairs (s .nets)) → ⊥ = λ k.
+        let t = tidied (s .block .board) (pairs (s .nets)) k in none-is (t .0) (t .1) in (
+          λ q f. absurd (let g : none ≡ some q = sym e ∙ f in let z : _≡_ {A = ℕ} 0 1 = cc in omega arith),
+          λ f. record {
+            given = (λ k. absurd (n (joined (k .0) (k .1 .1))), λ k. absurd (n k));
+            refused = (λ k. n, λ k. (refl, same));
+          },
+        )
+
+    shown-given : (n : ℕ) → routeRefused s room ≡ none → HandedBack n → Shown (yes n) Same HandedBack
+    shown-given n e H = (
+      λ q f. absurd (let g : none ≡ some q = sym e ∙ f in let z : _≡_ {A = ℕ} 0 1 = cc in omega arith),
+      λ f. record {
+        given = (λ k. joined n H, λ k. (n, (refl, H)));
+        refused = (λ k. absurd (differ n (k .0)), λ k. absurd (k (joined n H)));
+      },
+    )
+
+  words-shown : (before after : List ℕ) (a : Result ℕ) → length before ≡ room → Routes s before a after
+      → Shown a (after ≡ before) (HandsBack s before after)
+  words-shown before after a l (refused {r} w) = shown-refused (before ≡ before) (HandsBack s before before)
+      (λ n H. routing-routable (s .block .board) (pairs (s .nets)) (H .paths) (H .routing)) (subst (λ (k : ℕ). WhyRefused s k r) l w) refl
+  words-shown before after a l (given {count = n} e H) = shown-given (after ≡ before) (HandsBack s before after)
+      (λ k G. routing-routable (s .block .board) (pairs (s .nets)) (G .paths) (G .routing)) n (ap (routeRefused s) (sym l) ∙ e) H
+
+  bytes-shown : (before after : List ℕ) (a : Result ℕ) → length before / 4 ≡ room → RoutesBytes s before a after
+      → Shown a (after ≡ before) (HandsBackBytes s before after)
+  bytes-shown before after a l (refused {r} w) = shown-refused (before ≡ before) (HandsBackBytes s before before)
+      (λ n H. routing-routable (s .block .board) (pairs (s .nets)) (H .paths) (H .routing)) (subst (λ (k : ℕ). WhyRefused s k r) l w) refl
+  bytes-shown before after a l (given {count = n} e H) = shown-given (after ≡ before) (HandsBackBytes s before after)
+      (λ k G. routing-routable (s .block .board) (pairs (s .nets)) (G .paths) (G .routing)) n (ap (routeRefused s) (sym l) ∙ e) H
+
+-- the answer itself
+abbrev itself : Result ℕ → Result ℕ
+itself a = a
+
+differ-itself : (n : ℕ) → yes n ≡ no (refusal 34 0) → ⊥
+differ-itself n e = let z : _≡_ {A = ℕ} 0 1 = cc in omega arith
+
+-- and as C is told it
+differ-told : (n : ℕ) → tell 0 n 0 0 ≡ tell 34 0 0 0 → ⊥
+differ-told n e = let z : _≡_ {A = ℕ} 0 34 = ap (λ (t : Told). t .number) e in omega arith
 
 -- C is told what reading refuses, or what the routing call on the session read answers
 c-routed : (board before after : List ℕ) (a : Result ℕ) (t : Told) → t ≡ routeTold a → EditorRoutes board before a after
     → ((q : Refusal) → readBytes board ≡ no q → (t ≡ refusedTold q) × (after ≡ before))
     × ((s : machine.Session) → readBytes board ≡ yes s
     → ((q : Refusal) → routeRefused s (length before / 4) ≡ some q → (t ≡ refusedTold q) × (after ≡ before))
-    × (routeRefused s (length before / 4) ≡ none → (n : ℕ) × (t ≡ tell 0 n 0 0) × HandsBackBytes s before after n))
+    × (routeRefused s (length before / 4) ≡ none
+    → Decided s (λ n. (t ≡ tell 0 n 0 0) × HandsBackBytes s before after n) ((t ≡ tell 34 0 0 0) × (after ≡ before))))
 c-routed board before after a t f (unread {r} e) = (
   λ q g. let same : r ≡ q = (let h : _≡_ {A = Result machine.Session} (no r) (no q) = sym e ∙ g in cc) in (f ∙ ap refusedTold same, refl),
   λ s g. absurd (let h : _≡_ {A = Result machine.Session} (no r) (yes s) = sym e ∙ g in let z : _≡_ {A = ℕ} 0 1 = cc in omega arith),
@@ -132,10 +182,8 @@ c-routed board before after a t f (read {s = m} e R) = (
   λ q g. absurd (let h : yes m ≡ no q = sym e ∙ g in let z : _≡_ {A = ℕ} 0 1 = cc in omega arith),
   λ s g.
       let same : m ≡ s = (let h : yes m ≡ yes s = sym e ∙ g in cc) in
-      let k = by-refusal-bytes s before after a (subst (λ (x : machine.Session). RoutesBytes x before a after) same R) in (
-        λ q h. let p = k .0 q h in (f ∙ ap routeTold (p .0), p .1),
-        λ h. let p = k .1 h in (p .0, f ∙ ap routeTold (p .1), p .2),
-      ),
+      rw f (bytes-shown routeTold differ-told s (length before / 4) before after a refl
+      (subst (λ (x : machine.Session). RoutesBytes x before a after) same R)),
 )
 
 -- ── judging ──
@@ -285,8 +333,8 @@ demand-1 = record {
     P .buffer,
     λ q e. P .buffer ∙ buffer-kept before (writeBoard (sessionOf s) (length before)) q (sym (P .answers) ∙ e),
   );
-  route = λ s before r after R. by-refusal (sessionOf s) before after (routeAnswer r) R;
-  route-bytes = λ s before r after R. by-refusal-bytes (sessionOf s) before after (routeAnswer r) R;
+  route = λ s before r after R. words-shown itself differ-itself (sessionOf s) (length before) before after (routeAnswer r) refl R;
+  route-bytes = λ s before r after R. bytes-shown itself differ-itself (sessionOf s) (length before / 4) before after (routeAnswer r) refl R;
   judge = λ s ws r e.
       let m = sessionOf s in let x = reported m (judged m ws) in let f = e ∙ judge-is m ws in
       (λ n. f ∙ unsound-first m x n, λ S. judges m ws (judgementOf r) (f ∙ sound-then m x S));

@@ -1,6 +1,6 @@
 -- Routing into bytes: the words of the routing, put at the start of the buffer of bytes.
 -- Assumes what routing into words promises.
-use mathlib.Core.Path.{_≡_, refl, ap, sym, _∙_}
+use mathlib.Core.Path.{_≡_, refl, ap, sym, subst, _∙_}
 use mathlib.Core.List.{List, _++_, append-assoc}
 use mathlib.Core.Logic.{inl, inr}
 use mathlib.Core.Option.{Option, none, some}
@@ -18,7 +18,19 @@ use Rattle.words.specs.RoutingWord.{routingWords}
 use Rattle.words_bytes.specs.Put.{putInto}
 use Rattle.words_bytes.specs.PutLaws.{bytes-length}
 use Rattle.call_rules.specs.Result.{Result, no, yes}
-use Rattle.call_rules.specs.Route.{routeRoom, routeRefused, HandsBack, HandsBackBytes, Routes, RoutesBytes, refused, given}
+use Rattle.call_rules.specs.Route.{
+  routeRoom,
+  routeRefused,
+  WhyRefused,
+  by-count,
+  none-exists,
+  HandsBack,
+  HandsBackBytes,
+  Routes,
+  RoutesBytes,
+  refused,
+  given,
+}
 use Rattle.route_call.specs.Answers.{routeAnswer, written}
 use Rattle.route_call.specs.declared.RouteAnswer.{RouteAnswer}
 use Rattle.route_call.specs.declared.RouteAnswer.the-variants as answer
@@ -34,6 +46,10 @@ same-refused : (s : Session) (n : ℕ) → routeRefused s (min n (routeRoom s)) 
 unfolding routeRefused
 same-refused s n = rw (same-short n (routeRoom s)) refl
 
+same-why : (s : Session) (n : ℕ) {r : Refusal} → WhyRefused s (min n (routeRoom s)) r → WhyRefused s n r
+same-why s n (by-count e) = by-count (sym (same-refused s n) ∙ e)
+same-why s n (none-exists e h) = none-exists (sym (same-refused s n) ∙ e) h
+
 -- how many words a result tells of
 abbrev pub countIn : Result ℕ → ℕ
 countIn (no r) = 0
@@ -45,6 +61,7 @@ written-is answer.Unsound = refl
 written-is answer.ShortBuffer = refl
 written-is (answer.Odd v) = refl
 written-is (answer.Overfull x) = refl
+written-is answer.NoRouting = refl
 
 module _ (s : Session) where
   -- the words fit where the buffer keeps its length
@@ -58,7 +75,7 @@ module _ (s : Session) where
       → length words ≡ min (length before / 4) (routeRoom s)
       → RoutesBytes s before a (putInto before (take (countIn a) (words' ++ rest)))
   unfolding bytesOf
-  into-bytes rest {before} {words} (refused {r} e) k = refused {r = r} (sym (same-refused s (length before / 4)) ∙ ap (routeRefused s) (sym k) ∙ e)
+  into-bytes rest {before} {words} (refused {r} e) k = refused {r = r} (same-why s (length before / 4) (subst (λ (n : ℕ). WhyRefused s n r) k e))
   into-bytes rest {before} {words} {words'} (given {count = n} e H) k =
       let ws = routingWords (s .nets) (H .paths) in
       let t : take n (words' ++ rest) ≡ ws = rw (H .words, H .counted, append-assoc ws (drop (length ws) words) rest)

@@ -1,7 +1,7 @@
 pub mod Answers
+pub mod Sessions
 pub mod AnswerLaws
 pub mod Filled
-pub mod Sessions
 pub mod Starting
 pub mod Ending
 pub mod InBytes

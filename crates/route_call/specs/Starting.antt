@@ -1,12 +1,13 @@
--- The arrays that hold a board's lines and a table of pairs are a start of the router; the table of the nets alone is such a table.
--- Assumes pairs that are good on the board's lines, and zeroed notes; of the nets alone, a sound session with no odd vertex and no overfull cut.
+-- The arrays that hold a board's lines and a table of pairs are a start of the router; the table of the nets and helper pairs is such a table.
+-- Assumes pairs that are good on the board's lines, and zeroed notes; of nets and helper pairs, what `Helped` says.
 use mathlib.Core.Path.{_≡_, refl, ap, ap₂, _∙_, sym, subst}
 use mathlib.Core.Bool.{false}
-use mathlib.Core.List.{List, [], _∷_, append-nil}
+use mathlib.Core.List.{List, [], _∷_, _++_}
 use mathlib.Core.Logic.{inl, inr}
 use Prim.Native.Nat.{ℕ, zero, suc, _+_, _≤_, _<_}
 use native.Mathlib.Omega.{arith}
-use lib.ListN.{length, getD, replicate, length-replicate}
+use lib.ListN.{length, getD, take, replicate, length-replicate}
+use lib.Seq.{length-take-le}
 use Rattle.count.specs.Sum.{sum, sum-zero, sum-suc, sum-eq}
 use Rattle.board.specs.Board.{Board, height, at}
 use Rattle.board.specs.declared.Vertex.{Vertex}
@@ -17,7 +18,8 @@ use Rattle.corner.specs.Shape.{Here, Shaped, Good, last, size}
 use Rattle.corner.specs.Presence.{last-suc}
 use Rattle.corner.specs.Lines.{linesOf}
 use Rattle.corner.specs.Order.{good-same}
-use Rattle.corner.specs.Boards.{problem-good}
+use Rattle.corner.specs.OddBoards.{helped-good}
+use Rattle.corner_pins.specs.Few.{few-pairs}
 use Rattle.router_notes.specs.Limits.{pairLimit, vertexLimit}
 use Rattle.router_notes.specs.Notes.{Item, item}
 use Rattle.router_notes.specs.Inv.{turnI}
@@ -33,8 +35,10 @@ use Rattle.router_start.specs.Lines.{Lined}
 use Rattle.router_start.specs.LineLaws.{lined-lo, lined-hi, lined-alike}
 use Rattle.router_start.specs.Table.{wordOf, noPair, Clear, Table, Fills}
 use Rattle.router_start.specs.TableLaws.{fills-table}
-use Rattle.route_call.specs.Answers.{Even, Roomy}
-use Rattle.route_call.specs.AnswerLaws.{even-sound}
+use Rattle.session_rules.specs.Sound.{Sound}
+use Rattle.session_laws.specs.Exact.{sound-exact}
+use Rattle.pairing_search.specs.declared.FoundPairs.{FoundPairs}
+use Rattle.route_call.specs.Answers.{Helped}
 use Rattle.route_call.specs.Filled.{firstWork, Filled}
 use Rattle.route_call.specs.Sessions.{problem-of}
 
@@ -160,15 +164,28 @@ module _ (b : Board) (ps : List Pair) (G : Good (linesOf b) ps) (some : 1 ≤ he
     hi = lined-hi b L (room few) ∙ length-replicate {A = ℕ} 32 0;
   }
 
--- ── the nets alone ──
-pub nets-filled : (s : Session) → Even s → Roomy s → (ps : List Pair) → pairs (s .nets) ≡ ps → {n : ℕ} {la lb ids s1 s2 : List ℕ} → n ≤ 64
-    → Fills ps n pairZeros pairZeros pairZeros pairZeros pairZeros la lb ids s1 s2 → Filled s n la lb ids s1 s2
-nets-filled s E R ps e most F = record {
-  ps = ps;
-  helpers = [];
-  nets-first = append-nil (pairs (s .nets)) ∙ e;
-  table = fills-table clear-zeros most F;
-  most = most;
-  good = subst (λ (qs : List Pair). Good (linesOf (s .block .board)) qs) e
-      (problem-good (s .block .board) (pairs (s .nets)) (problem-of s (even-sound s E)) (E .even) R);
-}
+-- ── the nets, and helper pairs after them ──
+module _ (s : Session) (r : FoundPairs) (H : Helped s r) where
+  S : Sound s
+  S = sound-exact s .0 (H .sound)
+
+  -- there is room for all of them
+  pub helped-room : (ps : List Pair) → pairs (s .nets) ≡ ps → (n : ℕ) → n ≡ length ps → n + r .count ≤ 64
+  helped-room ps e n k = omega (
+    arith,
+    few-pairs (s .block .board) (pairs (s .nets)) (take (r .count) (r .pairs)) (problem-of s S) (H .helpers),
+    length-take-le (r .count) (r .pairs) (omega (arith, H .most, H .long)),
+    ap length e,
+  )
+
+  pub helped-filled : (ps : List Pair) → pairs (s .nets) ≡ ps → {n : ℕ} {la lb ids s1 s2 : List ℕ} → n ≤ 64
+      → Fills (ps ++ take (r .count) (r .pairs)) n pairZeros pairZeros pairZeros pairZeros pairZeros la lb ids s1 s2 → Filled s n la lb ids s1 s2
+  helped-filled ps e most F = record {
+    ps = ps ++ take (r .count) (r .pairs);
+    helpers = take (r .count) (r .pairs);
+    nets-first = ap (λ (qs : List Pair). qs ++ take (r .count) (r .pairs)) e;
+    table = fills-table clear-zeros most F;
+    most = most;
+    good = subst (λ (qs : List Pair). Good (linesOf (s .block .board)) (qs ++ take (r .count) (r .pairs))) e
+        (helped-good (s .block .board) (pairs (s .nets)) (problem-of s S) (take (r .count) (r .pairs)) (H .helpers) (H .roomy));
+  }

@@ -5,7 +5,7 @@ ghost use lib.ListN.{length};
 ghost use Rattle.session.specs.View.{sessionOf};
 ghost use Rattle.session_rules.specs.Sound.{Sound};
 ghost use Rattle.call_rules.specs.Route.{routeRoom, HandsBack, Routes, RoutesBytes};
-ghost use Rattle.route_call.specs.Answers.{Even, Roomy, routeAnswer, written};
+ghost use Rattle.route_call.specs.Answers.{FirstOdd, FewOdd, Roomy, Helped, routeAnswer, written};
 ghost use Rattle.route_call.specs.Filled.{firstWork, Filled};
 use board::Vertex;
 use cut::Cut;
@@ -13,6 +13,8 @@ use cut_search::FoundCut;
 use cut_search::FoundVertex;
 use numbers::least;
 use numbers::wide;
+use pairing_search::FoundPairs;
+use pairing_search::Odds;
 use router_ends::Work;
 use router_notes::PAIRS;
 use router_notes::VERTICES;
@@ -22,14 +24,15 @@ use words::ROUTING_WORDS;
 // The words that routing asks for.
 const WORDS: usize = ROUTING_WORDS;
 
-// What routing answers: the count of words written, or a refusal: 20 an unsound session, 31 a buffer under 2,049 words, 32 the first odd
-// vertex, 33 the first overfull cut.
+// What routing answers: the count of words written, or a refusal: 20 an unsound session, 31 a buffer under 2,049 words, 32 the first of more than 12
+// odd vertices, 33 the first overfull cut, 34 no routing though no cut is overfull.
 pub enum RouteAnswer {
     Routed(usize),
     Unsound,
     ShortBuffer,
     Odd(Vertex),
     Overfull(Cut),
+    NoRouting,
 }
 
 // Where the router starts: on all the lines of a board of so many rows, with n pairs.
@@ -92,9 +95,9 @@ fn wire_table(
     router_writer::write_paths(&side, &vert, &half, s1, s2, &d1, &d2, nets, out)
 }
 
-// The same from the nets' pairs alone: no vertex is odd, so there are no helpers.
-fn wire(s: Session, out: &mut [u32]) -> usize
-    requires { ⌜ Even (sessionOf s) × Roomy (sessionOf s) ⌝ }
+// The same with helper pairs that leave no cut overfull. Their paths are left out.
+fn wire(s: Session, helpers: FoundPairs, out: &mut [u32]) -> usize
+    requires { ⌜ Helped (sessionOf s) helpers ⌝ }
     requires { ⌜ routeRoom (sessionOf s) ≤ length (now out) ⌝ }
     ensures { λ r. ⌜ HandsBack (sessionOf s) (now (out .entry)) (now (out .exit)) r ⌝ }
 {
@@ -105,12 +108,40 @@ fn wire(s: Session, out: &mut [u32]) -> usize
     let mut s1 = [0u16; PAIRS];
     let mut s2 = [0u16; PAIRS];
     let n = router_start::fill_table(nets, &mut la, &mut lb, &mut ids, &mut s1, &mut s2);
-    wire_table(s, n, &mut la, &mut lb, &mut ids, &mut s1, &mut s2, out)
+    let pairs = helpers.pairs;
+    let all = router_start::fill_helpers(
+        pairs,
+        helpers.count,
+        n,
+        &mut la,
+        &mut lb,
+        &mut ids,
+        &mut s1,
+        &mut s2,
+    );
+    wire_table(s, all, &mut la, &mut lb, &mut ids, &mut s1, &mut s2, out)
 }
 
-// Where no vertex is odd: the first overfull cut, or a routing.
-fn route_even(s: Session, out: &mut [u32]) -> RouteAnswer
-    requires { ⌜ Even (sessionOf s) ⌝ }
+// Where no cut is overfull: a routing, or that there is none.
+fn route_open(s: Session, odds: Odds, out: &mut [u32]) -> RouteAnswer
+    requires { ⌜ FewOdd (sessionOf s) odds × Roomy (sessionOf s) ⌝ }
+    requires { ⌜ routeRoom (sessionOf s) ≤ length (now out) ⌝ }
+    ensures { λ r. ⌜ Routes (sessionOf s) (now (out .entry)) (routeAnswer r) (now (out .exit)) ⌝ }
+{
+    let board = s.block.board;
+    let nets = s.nets;
+    let helpers = pairing_search::helpers_of(board, nets, odds);
+    if helpers.found {
+        let count = wire(s, helpers, out);
+        RouteAnswer::Routed(count)
+    } else {
+        RouteAnswer::NoRouting
+    }
+}
+
+// Where at most 12 vertices are odd: the first overfull cut; or a routing, or that there is none.
+fn route_few(s: Session, odds: Odds, out: &mut [u32]) -> RouteAnswer
+    requires { ⌜ FewOdd (sessionOf s) odds ⌝ }
     requires { ⌜ routeRoom (sessionOf s) ≤ length (now out) ⌝ }
     ensures { λ r. ⌜ Routes (sessionOf s) (now (out .entry)) (routeAnswer r) (now (out .exit)) ⌝ }
 {
@@ -119,10 +150,23 @@ fn route_even(s: Session, out: &mut [u32]) -> RouteAnswer
     let found = cut_search::first_overfull(board, nets);
     match found {
         FoundCut::At(x) => RouteAnswer::Overfull(x),
-        FoundCut::Nothing => {
-            let count = wire(s, out);
-            RouteAnswer::Routed(count)
-        }
+        FoundCut::Nothing => route_open(s, odds, out),
+    }
+}
+
+// Where v is the first odd vertex: v where more than 12 are odd, otherwise as above.
+fn route_odd(s: Session, v: Vertex, out: &mut [u32]) -> RouteAnswer
+    requires { ⌜ FirstOdd (sessionOf s) v ⌝ }
+    requires { ⌜ routeRoom (sessionOf s) ≤ length (now out) ⌝ }
+    ensures { λ r. ⌜ Routes (sessionOf s) (now (out .entry)) (routeAnswer r) (now (out .exit)) ⌝ }
+{
+    let board = s.block.board;
+    let nets = s.nets;
+    let odds = pairing_search::odd_vertices(board, nets);
+    if odds.many {
+        RouteAnswer::Odd(v)
+    } else {
+        route_few(s, odds, out)
     }
 }
 
@@ -140,8 +184,8 @@ pub fn route(s: Session, out: &mut [u32]) -> RouteAnswer
     let nets = s.nets;
     let odd = cut_search::first_odd(board, nets);
     match odd {
-        FoundVertex::At(v) => RouteAnswer::Odd(v),
-        FoundVertex::Nothing => route_even(s, out),
+        FoundVertex::At(v) => route_odd(s, v, out),
+        FoundVertex::Nothing => route_few(s, pairing_search::no_odds(), out),
     }
 }
 
@@ -155,6 +199,7 @@ fn written(answer: RouteAnswer) -> usize
         RouteAnswer::ShortBuffer => 0,
         RouteAnswer::Odd(_) => 0,
         RouteAnswer::Overfull(_) => 0,
+        RouteAnswer::NoRouting => 0,
     }
 }
 

@@ -2,7 +2,7 @@
 -- the place numbers, parted by spaces (two numbers for 32 and 33, else one)"). Nothing is proved here.
 use mathlib.Core.Path.{_≡_}
 use mathlib.Core.List.{List}
-use mathlib.Core.Option.{none, some}
+use mathlib.Core.Option.{none}
 use Prim.Native.Nat.{ℕ}
 use lib.ListN.{take}
 use Rattle.text.specs.Hex.{hexLines}
@@ -14,7 +14,7 @@ use Rattle.session_rules.specs.Refusal.{Refusal}
 use Rattle.session_rules.specs.Session.{Session, pairs}
 use Rattle.call_rules.specs.Result.{Result, no, yes}
 use Rattle.call_rules.specs.Shape.{routingLimit}
-use Rattle.call_rules.specs.Route.{routeRefused}
+use Rattle.call_rules.specs.Route.{routeRefused, WhyRefused}
 
 abbrev pub refusalText : Refusal → List ℕ
 refusalText r = refusedLine (r .number) (r .place)
@@ -26,6 +26,6 @@ answerText (no r) after = refusalText r
 
 -- the text for a session that is routed into the least buffer: the refusal, or the words of a routing
 pub data RouteText (s : Session) : (text : List ℕ) → Type 0 where
-  refused : {r : Refusal} → routeRefused s routingLimit ≡ some r → RouteText s (refusalText r)
+  refused : {r : Refusal} → WhyRefused s routingLimit r → RouteText s (refusalText r)
   given : (paths : List (List Direction)) → routeRefused s routingLimit ≡ none → Routing (s .block .board) (pairs (s .nets)) paths
       → RouteText s (hexLines (routingWords (s .nets) paths))

@@ -33,6 +33,7 @@ fn answer_text(answer: RouteAnswer, words: &[u32; ROUTING_WORDS], out: &mut [u8;
         RouteAnswer::ShortBuffer => text::refused(31, 0, out),
         RouteAnswer::Odd(v) => text::refused_at(32, wide(v.line), wide(v.column), out),
         RouteAnswer::Overfull(x) => cut_text(x, out),
+        RouteAnswer::NoRouting => text::refused(34, 0, out),
     }
 }
 

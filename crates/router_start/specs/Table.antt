@@ -1,7 +1,7 @@
 -- Definitions only: the table of pairs. Row i has the ends of pair i as words, and the number i; each pair is noted with the ends that it was made
 -- with. Nothing is proved here.
 use mathlib.Core.Path.{_≡_}
-use mathlib.Core.List.{List, map}
+use mathlib.Core.List.{List, _++_, map}
 use Prim.Native.Nat.{ℕ, _+_, _*_, _<_}
 use lib.ListN.{length, getD, set}
 use Rattle.count.specs.Lists.{upTo}
@@ -54,6 +54,11 @@ pub record Fills (ps : List Pair) (n : ℕ) (la lb ids s1 s2 la' lb' ids' s1' s2
   pub ids-is : ids' ≡ inFront (upTo (length ps)) ids
   pub s1-is : s1' ≡ inFront (map firstWord ps) s1
   pub s2-is : s2' ≡ inFront (map secondWord ps) s2
+
+-- where ps fill the first k rows of cleared arrays, they and then hs fill the first r
+pub record FillsOn (hs : List Pair) (k : ℕ) (la lb ids s1 s2 : List ℕ) (r : ℕ) (la' lb' ids' s1' s2' : List ℕ) : Type 0 where
+  pub fills : (ps : List Pair) (la₀ lb₀ ids₀ s1₀ s2₀ : List ℕ) → Clear la₀ lb₀ ids₀ s1₀ s2₀ → Fills ps k la₀ lb₀ ids₀ s1₀ s2₀ la lb ids s1 s2
+      → Fills (ps ++ hs) r la₀ lb₀ ids₀ s1₀ s2₀ la' lb' ids' s1' s2'
 
 -- row k is written
 pub record Row (p : Pair) (k : ℕ) (la lb ids s1 s2 la' lb' ids' s1' s2' : List ℕ) : Type 0 where

@@ -1,12 +1,13 @@
 -- The table of pairs is filled row by row from what the places hold; and a table that is filled has the pairs' rows.
 -- Assumes arrays with room.
 use mathlib.Core.Path.{_≡_, refl, ap, _∙_, sym, subst}
-use mathlib.Core.List.{List, [], _∷_, _++_, append-nil, map, map-append}
+use mathlib.Core.List.{List, [], _∷_, _++_, append-nil, append-assoc, map, map-append}
 use mathlib.Core.Logic.{inl, inr}
 use Prim.Native.Nat.{ℕ, zero, suc, _+_, _≤_, _<_}
 use native.Mathlib.Omega.{arith}
 use native.Mathlib.Numerals.{add-one}
 use lib.ListN.{length, getD, set, take, length-append, length-map, List·getD-map}
+use lib.Seq.{take-suc}
 use Rattle.count.specs.TruthLaws.{le-or-lt}
 use Rattle.count.specs.Lists.{rising, upTo}
 use Rattle.net.specs.View.{nothing, heldThen, pairsOf}
@@ -18,7 +19,7 @@ use Rattle.router_notes.specs.Limits.{pairLimit}
 use Rattle.router_ends.specs.View.{Low}
 use Rattle.router_start.specs.Front.{inFront}
 use Rattle.router_start.specs.FrontLaws.{front-size, front-get, front-past, front-more}
-use Rattle.router_start.specs.Table.{firstWord, secondWord, noPair, Clear, Table, Fills, Row, TakesIn}
+use Rattle.router_start.specs.Table.{firstWord, secondWord, noPair, Clear, Table, Fills, FillsOn, Row, TakesIn}
 
 -- ── the columns of a table ──
 -- the next pair's word
@@ -101,6 +102,24 @@ pairs-few (p ∷ nets) (suc i) = then-few (p .held) (pairsOf (take i nets)) i (p
 pub fills-none : (nets : List Place) (la lb ids s1 s2 : List ℕ) → Fills (pairsOf (take 0 nets)) 0 la lb ids s1 s2 la lb ids s1 s2
 unfolding pairsOf
 fills-none nets la lb ids s1 s2 = record { count = refl; la-is = refl; lb-is = refl; ids-is = refl; s1-is = refl; s2-is = refl }
+
+-- ── more pairs after those that are in ──
+pub fills-on-none : (hs : List Pair) (k : ℕ) (la lb ids s1 s2 : List ℕ) → FillsOn (take 0 hs) k la lb ids s1 s2 (k + 0) la lb ids s1 s2
+fills-on-none hs k la lb ids s1 s2 = record {
+  fills = λ ps la₀ lb₀ ids₀ s1₀ s2₀ C F. let z : k + 0 ≡ k = omega arith in rw (append-nil ps, z) F;
+}
+
+pub fills-on-more : (hs : List Pair) (k i : ℕ) → i < length hs → k + i < 64
+    → {la lb ids s1 s2 la' lb' ids' s1' s2' la'' lb'' ids'' s1'' s2'' : List ℕ}
+    → FillsOn (take i hs) k la lb ids s1 s2 (k + i) la' lb' ids' s1' s2'
+    → Row (getD hs i noPair) (k + i) la' lb' ids' s1' s2' la'' lb'' ids'' s1'' s2''
+    → FillsOn (take (i + 1) hs) k la lb ids s1 s2 (k + (i + 1)) la'' lb'' ids'' s1'' s2''
+fills-on-more hs k i h few F R = record {
+  fills = λ ps la₀ lb₀ ids₀ s1₀ s2₀ C G.
+      let z : k + (i + 1) ≡ k + i + 1 = omega arith in
+      rw (z, add-one i, take-suc hs i noPair h, ← append-assoc ps (take i hs) (getD hs i noPair ∷ []))
+      (fills-row C few (F .fills ps la₀ lb₀ ids₀ s1₀ s2₀ C G) (getD hs i noPair) R);
+}
 
 -- ── the rows of a table that is filled ──
 module _ {la lb ids s1 s2 : List ℕ} (C : Clear la lb ids s1 s2) {ps : List Pair} {n : ℕ} (few : n ≤ 64) {la' lb' ids' s1' s2' : List ℕ}

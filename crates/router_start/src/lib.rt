@@ -1,11 +1,11 @@
 // How the router starts: the lines of a board, and the table of the pairs that are to be joined.
 ghost use mathlib.Core.Path.{_≡_};
 ghost use Prim.Native.Nat.{_+_, _-_, _≤_, _<_};
-ghost use lib.ListN.{length};
+ghost use lib.ListN.{length, take};
 ghost use Rattle.board.specs.View.{boardOf};
 ghost use Rattle.net.specs.View.{pairsOf};
 ghost use Rattle.router_start.specs.Lines.{Lined};
-ghost use Rattle.router_start.specs.Table.{wordOf, Clear, Fills, Row, TakesIn};
+ghost use Rattle.router_start.specs.Table.{wordOf, Clear, Fills, FillsOn, Row, TakesIn};
 use board::Board;
 use board::Vertex;
 use net::Held;
@@ -115,4 +115,26 @@ pub fn fill_table(
         k = fill_place(nets[i], k, la, lb, ids, s1, s2);
     }
     k
+}
+
+// The first `count` of six helper pairs in the rows from row k on; answers with the row after them.
+pub fn fill_helpers(
+    pairs: [Pair; 6],
+    count: usize,
+    k: usize,
+    la: &mut [u16; PAIRS],
+    lb: &mut [u16; PAIRS],
+    ids: &mut [u16; PAIRS],
+    s1: &mut [u16; PAIRS],
+    s2: &mut [u16; PAIRS],
+) -> usize
+    requires { ⌜ (count ≤ 6) × (k + count ≤ 64) ⌝ }
+    ensures { λ r. ⌜ FillsOn (take count pairs) k (now (la .entry)) (now (lb .entry)) (now (ids .entry)) (now (s1 .entry)) (now (s2 .entry))
+        r (now (la .exit)) (now (lb .exit)) (now (ids .exit)) (now (s1 .exit)) (now (s2 .exit)) ⌝ }
+    ensures { λ r. ⌜ r ≡ k + count ⌝ }
+{
+    for i in 0..count {
+        fill_row(pairs[i], k + i, la, lb, ids, s1, s2);
+    }
+    k + count
 }

@@ -1,43 +1,71 @@
--- Definitions only: demand 3, over a list of calls with what each handed back. Nothing is proved here: Routing has `demand-3`.
+-- Definitions only: demand 3, over a list of calls with what each handed back; for routing as document 02, §4 has it. Nothing is proved here:
+-- Routing has `demand-3`.
 use mathlib.Core.Path.{_≡_}
 use mathlib.Core.List.{List}
-use mathlib.Core.Logic.{_↔_}
+use mathlib.Core.Logic.{_↔_, _⊎_}
 use Prim.Native.Nat.{ℕ, _/_, _≤_}
 use lib.ListN.{length}
 use Rattle.board.specs.Board.{IsVertex}
 use Rattle.board.specs.declared.Vertex.{Vertex}
-use Rattle.cut.specs.Order.{Even, FirstOverfull}
+use Rattle.cut.specs.Cut.{Overfull}
+use Rattle.cut.specs.Odd.{oddVertices}
+use Rattle.cut.specs.Order.{IsCut, Even, FirstOverfull}
 use Rattle.cut.specs.declared.Cut.{Cut}
 use Rattle.routing_rules.specs.Routing.{Routable}
-use Rattle.session_rules.specs.Refusal.{Refusal}
+use Rattle.session_rules.specs.Refusal.{Refusal, refusal}
 use Rattle.session_rules.specs.Session.{Session, pairs}
 use Rattle.session_rules.specs.Machine.{after, answers}
 use Rattle.session_rules.specs.Sound.{bare}
 use Rattle.session.specs.declared.Session as code
 use Rattle.session.specs.View.{sessionOf}
 use Rattle.call_rules.specs.Result.{Result, no, yes}
-use Rattle.call_rules.specs.Route.{routeRoom, overfullRefusal, HandsBack, HandsBackBytes}
+use Rattle.call_rules.specs.Route.{routeRoom, oddLimit, overfullRefusal, HandsBack, HandsBackBytes}
 use Rattle.route_call.specs.declared.RouteAnswer.{RouteAnswer}
 use Rattle.route_call.specs.Answers.{routeAnswer}
 use Rattle.session_history.specs.Made.{Made, changed, routed, routedBytes, last, callsOf, answersOf, Everywhere}
 
--- "while every vertex's degree plus its terminals is even"
-abbrev pub AllEven : Session → Type 0
-AllEven m = (v : Vertex) → IsVertex (m .block .board) v → Even (m .block .board) (pairs (m .nets)) v
+-- "boards of up to 12 odd vertices" (document 02, §4)
+abbrev pub FewOdd : Session → Type 0
+FewOdd m = length (oddVertices (m .block .board) (pairs (m .nets))) ≤ oddLimit
+
+-- no row or column is crossed by more nets than it has edges
+abbrev pub NoneOverfull : Session → Type 0
+NoneOverfull m = (x : Cut) → IsCut (m .block .board) x → Overfull (m .block .board) (pairs (m .nets)) x → ⊥
+
+-- "names the first row or column crossed by more nets than edges"
+abbrev pub NamesCut : Session → Result ℕ → Type 0
+NamesCut m answer = (x : Cut) × (answer ≡ no (overfullRefusal x)) × FirstOverfull (m .block .board) (pairs (m .nets)) x
 
 -- what a routing call answered, where HandedBack n says that it handed back a routing of n words
 pub record Rightly (m : Session) (answer : Result ℕ) (HandedBack : ℕ → Type 0) : Type 0 where
   -- "a routing of all the nets that the machine then holds is handed back exactly when pairwise edge-disjoint paths joining them exist"
   pub exactly : ((n : ℕ) × (answer ≡ yes n) × HandedBack n) ↔ Routable (m .block .board) (pairs (m .nets))
-  -- "Where none exist, that call names the first row or column crossed by more nets than edges."
+  -- "Where none exist, that call names the first row or column crossed by more nets than edges", or gives 34 where there is none (02, §4)
   pub named : (Routable (m .block .board) (pairs (m .nets)) → ⊥)
-      → (x : Cut) × (answer ≡ no (overfullRefusal x)) × FirstOverfull (m .block .board) (pairs (m .nets)) x
+      → NamesCut m answer ⊎ ((answer ≡ no (refusal 34 0)) × NoneOverfull m)
 
 -- "Wherever routing is called .. with 2,049 words or more", m being the machine's session then
 abbrev pub RoutedRightly : Session → Made → Type 0
-RoutedRightly m (routed before r after) = routeRoom m ≤ length before → AllEven m → Rightly m (routeAnswer r) (HandsBack m before after)
-RoutedRightly m (routedBytes before r after) = routeRoom m ≤ length before / 4 → AllEven m → Rightly m (routeAnswer r) (HandsBackBytes m before after)
+RoutedRightly m (routed before r after) = routeRoom m ≤ length before → FewOdd m → Rightly m (routeAnswer r) (HandsBack m before after)
+RoutedRightly m (routedBytes before r after) = routeRoom m ≤ length before / 4 → FewOdd m → Rightly m (routeAnswer r) (HandsBackBytes m before after)
 RoutedRightly m (changed c a t) = Unit {0}
+
+-- ── boards with no odd vertex, as document 01 has it ──
+-- "while every vertex's degree plus its terminals is even"
+abbrev pub AllEven : Session → Type 0
+AllEven m = (v : Vertex) → IsVertex (m .block .board) v → Even (m .block .board) (pairs (m .nets)) v
+
+-- a routing exactly where paths exist; where none exist, the first overfull cut: 34 never comes
+pub record RightlyEven (m : Session) (answer : Result ℕ) (HandedBack : ℕ → Type 0) : Type 0 where
+  pub exactly : ((n : ℕ) × (answer ≡ yes n) × HandedBack n) ↔ Routable (m .block .board) (pairs (m .nets))
+  pub named : (Routable (m .block .board) (pairs (m .nets)) → ⊥) → NamesCut m answer
+  pub never : answer ≡ no (refusal 34 0) → ⊥
+
+abbrev pub RoutedEven : Session → Made → Type 0
+RoutedEven m (routed before r after) = routeRoom m ≤ length before → AllEven m → RightlyEven m (routeAnswer r) (HandsBack m before after)
+RoutedEven m (routedBytes before r after) =
+    routeRoom m ≤ length before / 4 → AllEven m → RightlyEven m (routeAnswer r) (HandsBackBytes m before after)
+RoutedEven m (changed c a t) = Unit {0}
 
 -- two routing calls are "given or refused" alike: each refusal of the one is that of the other
 abbrev pub RefusedAlike : RouteAnswer → RouteAnswer → Type 0
@@ -50,3 +78,5 @@ pub record Demand3 (s : code.Session) (ms : List Made) : Type 0 where
   -- and each add, withdrawal and take-back", and each list of nets, "was answered as the machine answers."
   pub answered : answersOf ms ≡ answers (bare (sessionOf s .block)) (callsOf ms)
   pub routings : Everywhere RoutedRightly (bare (sessionOf s .block)) ms
+  -- and where every vertex is even, in document 01's own words
+  pub even-routings : Everywhere RoutedEven (bare (sessionOf s .block)) ms

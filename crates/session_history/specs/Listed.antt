@@ -1,7 +1,7 @@
 -- A list of nets added in one call, beside the same nets in calls of their own, up to the one refused: the sessions handed back stand for the same
 -- (`as-singly`), so that "A routing after such a call is given or refused as after the single adds" (document 02, §1): `routed-as-singly`.
 -- Assumes of each call only its promise.
-use mathlib.Core.Path.{_≡_, refl, sym, _∙_, ap}
+use mathlib.Core.Path.{_≡_, refl, sym, subst, _∙_, ap}
 use mathlib.Core.Bool.{false}
 use mathlib.Core.List.{List, [], _∷_}
 use mathlib.Core.Logic.{_↔_, inl, inr}
@@ -10,8 +10,11 @@ use Prim.Native.Nat.{ℕ, _+_, _/_}
 use native.Mathlib.Omega.{arith}
 use lib.ListN.{length, take}
 use Rattle.count.specs.TruthLaws.{bool}
+use Rattle.board.specs.declared.Direction.{Direction}
 use Rattle.net.specs.declared.Net.{Net}
+use Rattle.routing_rules.specs.Routing.{Routing}
 use Rattle.session_rules.specs.Session as machine
+use Rattle.session_rules.specs.Session.{pairs}
 use Rattle.session_rules.specs.Refusal.{Refusal}
 use Rattle.session_rules.specs.Machine.{Call, addAll, wentOn, step, after}
 use Rattle.session_rules.specs.Sound.{Sound, sound?, call}
@@ -22,7 +25,8 @@ use Rattle.session.specs.declared.Session.{Session}
 use Rattle.session.specs.View.{sessionOf}
 use Rattle.session.specs.Promise.{CallPromise}
 use Rattle.call_rules.specs.Result.{Result, no, yes}
-use Rattle.call_rules.specs.Route.{routeRefused, Routes, RoutesBytes, refused, given}
+use Rattle.call_rules.specs.Route.{routeRefused, WhyRefused, Routes, RoutesBytes, refused, given}
+use Rattle.call_rules.specs.RouteLaws.{same-refusal, not-given}
 use Rattle.route_call.specs.declared.RouteAnswer.{RouteAnswer}
 use Rattle.session_history.specs.Made.{Made, changed, routed, routedBytes, Meets, Chain, last, callsOf}
 use Rattle.session_history.specs.Demand.{RefusedAlike}
@@ -43,29 +47,32 @@ unsound-chain s (routed before r after ∷ ms) e k = unsound-chain s ms e (k .1)
 unsound-chain s (routedBytes before r after ∷ ms) e k = unsound-chain s ms e (k .1)
 
 -- ── a routing call is refused exactly where the definition refuses it ──
--- DEFINITION: an answer is a refusal exactly where o is that refusal
-abbrev Refuses : Option Refusal → Result ℕ → Type 0
-Refuses o a = (q : Refusal) → (a ≡ no q) ↔ (o ≡ some q)
+-- DEFINITION: an answer is a refusal exactly where it is the definition's
+abbrev Refuses : machine.Session → ℕ → Result ℕ → Type 0
+Refuses m n a = (q : Refusal) → (a ≡ no q) ↔ WhyRefused m n q
 
-when-refused : (o : Option Refusal) (r : Refusal) → o ≡ some r → Refuses o (no r)
-when-refused o r e q = (λ f. e ∙ ap some (cc), λ f. ap no (let g : some r ≡ some q = sym e ∙ f in cc))
-
-when-given : (o : Option Refusal) (n : ℕ) → o ≡ none → Refuses o (yes n)
-when-given o n e q = (
-  λ f. absurd (let z : _≡_ {A = ℕ} 0 1 = cc in omega arith),
-  λ f. absurd (let g : none ≡ some q = sym e ∙ f in let z : _≡_ {A = ℕ} 0 1 = cc in omega arith),
+when-refused : (m : machine.Session) (n : ℕ) {r : Refusal} → WhyRefused m n r → Refuses m n (no r)
+when-refused m n {r} w q = (
+  λ e. subst (λ (p : Refusal). WhyRefused m n p) (cc) w,
+  λ v. ap no (same-refusal m n w v),
 )
 
-refuses : (m : machine.Session) {before after : List ℕ} {a : Result ℕ} → Routes m before a after → Refuses (routeRefused m (length before)) a
-refuses m (refused {r} e) = when-refused _ r e
-refuses m (given {count = n} e H) = when-given _ n e
+when-given : (m : machine.Session) (n k : ℕ) (paths : List (List Direction)) → routeRefused m n ≡ none
+    → Routing (m .block .board) (pairs (m .nets)) paths → Refuses m n (yes k)
+when-given m n k paths e R q = (
+  λ f. absurd (let z : _≡_ {A = ℕ} 0 1 = cc in omega arith),
+  λ w. absurd (not-given m n w e paths R),
+)
 
-refuses-bytes : (m : machine.Session) {before after : List ℕ} {a : Result ℕ} → RoutesBytes m before a after
-    → Refuses (routeRefused m (length before / 4)) a
-refuses-bytes m (refused {r} e) = when-refused _ r e
-refuses-bytes m (given {count = n} e H) = when-given _ n e
+refuses : (m : machine.Session) {before after : List ℕ} {a : Result ℕ} → Routes m before a after → Refuses m (length before) a
+refuses m (refused w) = when-refused m _ w
+refuses m (given {count = k} e H) = when-given m _ k (H .paths) e (H .routing)
 
-alike : {o : Option Refusal} {a b : Result ℕ} → Refuses o a → Refuses o b → (q : Refusal) → (a ≡ no q) ↔ (b ≡ no q)
+refuses-bytes : (m : machine.Session) {before after : List ℕ} {a : Result ℕ} → RoutesBytes m before a after → Refuses m (length before / 4) a
+refuses-bytes m (refused w) = when-refused m _ w
+refuses-bytes m (given {count = k} e H) = when-given m _ k (H .paths) e (H .routing)
+
+alike : {m : machine.Session} {n : ℕ} {a b : Result ℕ} → Refuses m n a → Refuses m n b → (q : Refusal) → (a ≡ no q) ↔ (b ≡ no q)
 alike f g q = (λ e. g q .1 (f q .0 e), λ e. f q .1 (g q .0 e))
 
 -- ── the one call, and the single adds ──

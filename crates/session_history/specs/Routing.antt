@@ -1,25 +1,23 @@
--- Demand 3 for routing calls: wherever one is made in a list of calls, a routing is handed back exactly when there is one, and otherwise the
--- first overfull cut is named.
+-- Demand 3 for routing calls: wherever one is made in a list of calls, and at most 12 vertices are odd then, a routing is handed back exactly when
+-- there is one; otherwise the first overfull cut is named, or 34 given where there is none. Where no vertex is odd, 34 never comes (`rightly-even`).
 -- Assumes of each call only its promise.
 use mathlib.Core.Path.{_≡_, refl, ap, sym, _∙_}
 use mathlib.Core.List.{List, [], _∷_, head?}
-use mathlib.Core.Logic.{_↔_}
+use mathlib.Core.Logic.{_↔_, inl, inr}
 use mathlib.Core.Option.{Option, none, some}
 use Prim.Native.Nat.{ℕ, _/_, _≤_}
 use native.Mathlib.Omega.{arith}
 use lib.ListN.{length}
-use borrow.Author.Tests.{le-ltb}
 use Rattle.count.specs.Lists.{head-none}
-use Rattle.board.specs.Board.{IsVertex}
-use Rattle.board.specs.declared.Vertex.{Vertex}
 use Rattle.cut.specs.Cut.{overfullCuts}
 use Rattle.cut.specs.Odd.{oddVertices}
-use Rattle.cut.specs.Order.{Even, FirstOverfull}
-use Rattle.cut.specs.First.{no-odd, first-overfull}
+use Rattle.cut.specs.First.{no-odd, no-overfull, first-overfull}
 use Rattle.cut.specs.declared.Cut.{Cut}
+use Rattle.cut.specs.declared.Cut.the-variants.{Row, Column}
 use Rattle.routing_rules.specs.Routing.{Routable}
-use Rattle.corner.specs.Theorem.{routable}
-use Rattle.session_rules.specs.Refusal.{Refusal}
+use Rattle.corner.specs.Paths.{routing-routable, tidied}
+use Rattle.corner.specs.Theorem.{needed-cuts, routable}
+use Rattle.session_rules.specs.Refusal.{Refusal, refusal}
 use Rattle.session_rules.specs.Session.{Session, withNets, pairs}
 use Rattle.session_rules.specs.Machine.{after, answers}
 use Rattle.session_rules.specs.Sound.{Sound, Fresh, bare}
@@ -30,8 +28,9 @@ use Rattle.call_rules.specs.Result.{Result, no, yes}
 use Rattle.call_rules.specs.Route.{
   routeRoom,
   overfullRefusal,
-  overfullRefused,
-  routeRefused,
+  WhyRefused,
+  by-count,
+  none-exists,
   HandsBack,
   HandsBackBytes,
   Routes,
@@ -39,65 +38,97 @@ use Rattle.call_rules.specs.Route.{
   refused,
   given,
 }
+use Rattle.call_rules.specs.RouteLaws.{passed-roomy, refused-cut}
 use Rattle.route_call.specs.Answers.{routeAnswer}
 use Rattle.route_call.specs.Sessions.{problem-of}
 use Rattle.session_history.specs.Made.{Made, changed, routed, routedBytes, Meets, Chain}
-use Rattle.session_history.specs.Demand.{AllEven, Rightly, RoutedRightly, Demand3}
+use Rattle.session_history.specs.Demand.{FewOdd, NoneOverfull, Rightly, RoutedRightly, AllEven, RightlyEven, RoutedEven, Demand3}
 use Rattle.session_history.specs.History.{as-the-machine, everywhere}
 
 -- ── one routing call ──
-module _ (m : Session) (S : Sound m) (E : AllEven m) {room : ℕ} (long : routeRoom m ≤ room) where
+no-yes : {A : Type 0} (r : Refusal) (a : A) → no r ≡ yes a → ⊥
+no-yes r a e = let z : _≡_ {A = ℕ} 0 1 = cc in omega arith
+
+module _ (m : Session) (S : Sound m) (few : FewOdd m) {room : ℕ} (long : routeRoom m ≤ room) where
+  refused-rightly : {r : Refusal} → WhyRefused m room r → (HandedBack : ℕ → Type 0) → Rightly m (no r) HandedBack
+  refused-rightly (by-count {r} e) H =
+      let (x, f, g) = refused-cut m room (sound-exact m .1 S) long few r e in record {
+        exactly = (
+          λ k. absurd (no-yes r (k .0) (k .1)),
+          λ R. absurd (let q : none ≡ some x = sym (head-none (overfullCuts (m .block .board) (pairs (m .nets))) .1
+              (needed-cuts (m .block .board) (pairs (m .nets)) (S .within) R)) ∙ f in let z : _≡_ {A = ℕ} 0 1 = cc in omega arith),
+        );
+        named = λ n. inl (x, ap no g, first-overfull (m .block .board) (pairs (m .nets)) x .0 f);
+      }
+  refused-rightly (none-exists e n) H = record {
+    exactly = (
+      λ k. absurd (no-yes (refusal 34 0) (k .0) (k .1)),
+      λ R. absurd (let t = tidied (m .block .board) (pairs (m .nets)) R in n (t .0) (t .1)),
+    );
+    named = λ j. inr (refl, no-overfull (m .block .board) (pairs (m .nets)) .0 (passed-roomy m room (sound-exact m .1 S) long few e));
+  }
+
+  given-rightly : (n : ℕ) → Routable (m .block .board) (pairs (m .nets)) → (HandedBack : ℕ → Type 0) → HandedBack n → Rightly m (yes n) HandedBack
+  given-rightly n R H k = record { exactly = (λ j. R, λ j. (n, refl, k)); named = λ j. absurd (j R) }
+
+words-rightly : (m : Session) → Sound m → FewOdd m → {before after : List ℕ} {a : Result ℕ} → routeRoom m ≤ length before → Routes m before a after
+    → Rightly m a (HandsBack m before after)
+words-rightly m S few long (refused e) = refused-rightly m S few long e (HandsBack m _ _)
+words-rightly m S few long (given {after} {count} e H) = given-rightly m S few long count
+    (routing-routable (m .block .board) (pairs (m .nets)) (H .paths) (H .routing)) (HandsBack m _ after) H
+
+bytes-rightly : (m : Session) → Sound m → FewOdd m → {before after : List ℕ} {a : Result ℕ} → routeRoom m ≤ length before / 4
+    → RoutesBytes m before a after
+    → Rightly m a (HandsBackBytes m before after)
+bytes-rightly m S few long (refused e) = refused-rightly m S few long e (HandsBackBytes m _ _)
+bytes-rightly m S few long (given {after} {count} e H) = given-rightly m S few long count
+    (routing-routable (m .block .board) (pairs (m .nets)) (H .paths) (H .routing)) (HandsBackBytes m _ after) H
+
+-- ── where no vertex is odd ──
+module _ (m : Session) (S : Sound m) (E : AllEven m) where
   even : oddVertices (m .block .board) (pairs (m .nets)) ≡ []
   even = no-odd (m .block .board) (pairs (m .nets)) (S .within) .1 E
 
-  -- only an overfull cut is left to refuse it
-  left : routeRefused m room ≡ overfullRefused (head? (overfullCuts (m .block .board) (pairs (m .nets))))
-  unfolding routeRefused
-  left = rw (sound-exact m .1 S, le-ltb room (routeRoom m) long, even) refl
+  even-few : FewOdd m
+  even-few = rw even (omega arith)
 
-  theorem : Routable (m .block .board) (pairs (m .nets)) ↔ (overfullCuts (m .block .board) (pairs (m .nets)) ≡ [])
-  theorem = routable (m .block .board) (pairs (m .nets)) (problem-of m S) even
+  -- the theorem of document 004: paths exist where no cut is overfull
+  roomy-routable : NoneOverfull m → Routable (m .block .board) (pairs (m .nets))
+  roomy-routable n =
+      routable (m .block .board) (pairs (m .nets)) (problem-of m S) even .1 (no-overfull (m .block .board) (pairs (m .nets)) .1 n)
 
-  some-refused : (o : Option Cut) (r : Refusal) → overfullRefused o ≡ some r → (x : Cut) × (o ≡ some x) × (r ≡ overfullRefusal x)
-  some-refused none r e = absurd (let z : _≡_ {A = ℕ} 0 1 = cc in omega arith)
-  some-refused (some x) r e = (x, refl, cc)
+  pub rightly-even : (answer : Result ℕ) (HandedBack : ℕ → Type 0) → Rightly m answer HandedBack → RightlyEven m answer HandedBack
+  rightly-even answer H R = record {
+    exactly = R .exactly;
+    named = λ n. elim (R .named n) [
+      | inl c ↦ c
+      | inr c ↦ absurd (n (roomy-routable (c .1)))
+    ];
+    never = λ e.
+        let n : Routable (m .block .board) (pairs (m .nets)) → ⊥ = λ P.
+        let k = R .exactly .1 P in no-yes (refusal 34 0) (k .0) (sym e ∙ k .1) in
+        elim (R .named n) [
+          | inl c ↦ cut-34 (c .0) (sym (c .1) ∙ e)
+          | inr c ↦ n (roomy-routable (c .1))
+        ];
+  }
+    where
+      cut-34 : (x : Cut) → _≡_ {A = Result ℕ} (no (overfullRefusal x)) (no (refusal 34 0)) → ⊥
+      cut-34 (Row i) q = let e : overfullRefusal (Row i) ≡ refusal 34 0 = cc in omega (arith, ap (λ (r : Refusal). r .number) e)
+      cut-34 (Column j) q = let e : overfullRefusal (Column j) ≡ refusal 34 0 = cc in omega (arith, ap (λ (r : Refusal). r .number) e)
 
-  none-refused : (o : Option Cut) → overfullRefused o ≡ none → o ≡ none
-  none-refused none e = refl
-  none-refused (some x) e = absurd (let z : _≡_ {A = ℕ} 0 1 = cc in omega arith)
-
-  refused-rightly : (r : Refusal) → routeRefused m room ≡ some r → (HandedBack : ℕ → Type 0) → Rightly m (no r) HandedBack
-  refused-rightly r e H =
-      let (x, f, g) = some-refused (head? (overfullCuts (m .block .board) (pairs (m .nets)))) r (sym left ∙ e) in record {
-        exactly = (
-          λ k. absurd (let q = k .1 in let z : _≡_ {A = ℕ} 0 1 = cc in omega arith),
-          λ R. absurd (let q : none ≡ some x = sym (head-none (overfullCuts (m .block .board) (pairs (m .nets))) .1 (theorem .0 R)) ∙ f in
-              let z : _≡_ {A = ℕ} 0 1 = cc in omega arith),
-        );
-        named = λ n. (x, ap no g, first-overfull (m .block .board) (pairs (m .nets)) x .0 f);
-      }
-
-  given-rightly : (n : ℕ) → routeRefused m room ≡ none → (HandedBack : ℕ → Type 0) → HandedBack n → Rightly m (yes n) HandedBack
-  given-rightly n e H k =
-      let R = theorem .1 (head-none (overfullCuts (m .block .board) (pairs (m .nets))) .0
-      (none-refused (head? (overfullCuts (m .block .board) (pairs (m .nets)))) (sym left ∙ e))) in
-      record { exactly = (λ j. R, λ j. (n, refl, k)); named = λ j. absurd (j R) }
-
-words-rightly : (m : Session) → Sound m → AllEven m → {before after : List ℕ} {a : Result ℕ} → routeRoom m ≤ length before → Routes m before a after
-    → Rightly m a (HandsBack m before after)
-words-rightly m S E long (refused {r} e) = refused-rightly m S E long r e (HandsBack m _ _)
-words-rightly m S E long (given {after} {count} e H) = given-rightly m S E long count e (HandsBack m _ after) H
-
-bytes-rightly : (m : Session) → Sound m → AllEven m → {before after : List ℕ} {a : Result ℕ} → routeRoom m ≤ length before / 4
-    → RoutesBytes m before a after
-    → Rightly m a (HandsBackBytes m before after)
-bytes-rightly m S E long (refused {r} e) = refused-rightly m S E long r e (HandsBackBytes m _ _)
-bytes-rightly m S E long (given {after} {count} e H) = given-rightly m S E long count e (HandsBackBytes m _ after) H
-
+-- ── wherever a call is made ──
 each : (s : code.Session) (m : Made) → Sound (sessionOf s) → Meets s m → RoutedRightly (sessionOf s) m
-each s (routed before r after) S k = λ long E. words-rightly (sessionOf s) S E long k
-each s (routedBytes before r after) S k = λ long E. bytes-rightly (sessionOf s) S E long k
+each s (routed before r after) S k = λ long few. words-rightly (sessionOf s) S few long k
+each s (routedBytes before r after) S k = λ long few. bytes-rightly (sessionOf s) S few long k
 each s (changed c a t) S k = tt
+
+each-even : (s : code.Session) (m : Made) → Sound (sessionOf s) → Meets s m → RoutedEven (sessionOf s) m
+each-even s (routed before r after) S k = λ long E.
+    rightly-even (sessionOf s) S E (routeAnswer r) _ (words-rightly (sessionOf s) S (even-few (sessionOf s) S E) long k)
+each-even s (routedBytes before r after) S k = λ long E.
+    rightly-even (sessionOf s) S E (routeAnswer r) _ (bytes-rightly (sessionOf s) S (even-few (sessionOf s) S E) long k)
+each-even s (changed c a t) S k = tt
 
 -- ── demand 3 ──
 -- a fresh session is the machine's start
@@ -110,4 +141,5 @@ demand-3 s ms F k =
       session = rw (← e) (h .session);
       answered = rw (← e) (h .answer);
       routings = rw (← e) (everywhere RoutedRightly each s ms (F .sound) k);
+      even-routings = rw (← e) (everywhere RoutedEven each-even s ms (F .sound) k);
     }

@@ -6,6 +6,7 @@ use mathlib.Core.List.{List, [], _∷_, _++_, map}
 use mathlib.Core.Option.{Option, none, some}
 use Prim.Native.Nat.{ℕ, zero, suc}
 use lib.ListN.{length, take, drop}
+use Rattle.board.specs.declared.Row.{Row}
 use Rattle.net.specs.declared.Net.{Net}
 use Rattle.net.specs.declared.Change.the-variants.{Added, Withdrawn}
 use Rattle.board_block.specs.Block.{plain}
@@ -144,19 +145,35 @@ writing : why (writeBoard ring 95) ∷ why (writeBoard ring 96) ∷ why (writeBo
 unfolding everything
 writing = refl
 
--- ── routing: 20, 31, 32, 33 in this order ──
+-- ── routing: 20, 31, 32, 33 in this order; 34, which is not counted, stands in crate worked_odd ──
+-- so many cells in a row, and no nets: each vertex of a line but the first and the last is odd
+abbrev cells : ℕ → List Row
+cells n = row 0 n ∷ []
+
+-- nets from each corner at the left to one at the right, so that every column is overfull
+abbrev across : ℕ → List Net
+across n = net 1 0 0 0 n ∷ net 2 0 0 0 n ∷ net 3 1 0 1 n ∷ net 4 1 0 1 n ∷ []
+
 routing : map refusalList (
     -- 20 before 31
     routeRefused (bare (plain (board []))) 0
-    -- 31 before 32: two cells and no nets
-    ∷ routeRefused (bare (plain (board (row 0 2 ∷ [])))) 2048
-    ∷ routeRefused (bare (plain (board (row 0 2 ∷ [])))) 2049
+    -- 31 before 32: 14 odd vertices
+    ∷ routeRefused (session (cells 8) []) 2048
+    -- 32 "only where more than 12 vertices are odd, naming the first" (document 02, §4): 14, and before 33; not 2, as in case e, nor 12
+    ∷ routeRefused (session (cells 8) []) 2049
+    ∷ routeRefused (session (cells 8) (across 8)) 2049
+    ∷ routeRefused (session (cells 2) []) 2049
+    ∷ routeRefused (session (cells 7) []) 2049
+    -- 33 with 12 odd vertices
+    ∷ routeRefused (session (cells 7) (across 7)) 2049
     -- 33: case c, where both cuts are overfull; the row comes first
     ∷ routeRefused (session (row 0 1 ∷ []) (net 1 0 0 1 1 ∷ net 2 0 0 1 1 ∷ net 3 0 1 1 0 ∷ net 4 0 1 1 0 ∷ [])) 2049
     -- 33: a column alone is overfull
     ∷ routeRefused (session (row 0 1 ∷ []) (net 1 0 0 0 1 ∷ net 2 0 0 0 1 ∷ net 3 1 0 1 1 ∷ net 4 1 0 1 1 ∷ [])) 2049
     ∷ routeRefused ring 2049
     ∷ [])
-    ≡ (20 ∷ 0 ∷ []) ∷ (31 ∷ 0 ∷ []) ∷ (32 ∷ 0 ∷ 1 ∷ []) ∷ (33 ∷ 0 ∷ 0 ∷ []) ∷ (33 ∷ 1 ∷ 0 ∷ []) ∷ [] ∷ []
+    ≡ (20 ∷ 0 ∷ []) ∷ (31 ∷ 0 ∷ [])
+    ∷ (32 ∷ 0 ∷ 1 ∷ []) ∷ (32 ∷ 0 ∷ 1 ∷ []) ∷ [] ∷ [] ∷ (33 ∷ 1 ∷ 0 ∷ [])
+    ∷ (33 ∷ 0 ∷ 0 ∷ []) ∷ (33 ∷ 1 ∷ 0 ∷ []) ∷ [] ∷ []
 unfolding everything
 routing = refl

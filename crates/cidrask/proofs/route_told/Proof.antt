@@ -37,6 +37,12 @@ enum-known-answer-3 c = search needs
 cut-told-requires : tie.Need-cut-told-requires
 cut-told-requires c κs = search needs
 
+enum-told-3 : tie.Need-enum-told-3
+enum-told-3 c = search needs
+
+refused-requires-3 : tie.Need-refused-requires-3
+refused-requires-3 c κs = search needs
+
 returns : tie.Need-returns
 returns c = rw (c .before .answer .given .1)
 
@@ -52,6 +58,9 @@ returns-4 c = rw (c .before .before .before .answer2 .given .1)
 returns-5 : tie.Need-returns-5
 returns-5 c = rw (c .before .before .answer3 .given .1) (c .cut-told .ensures)
 
+returns-6 : tie.Need-returns-6
+returns-6 c = rw (c .before .enum-told3 .given .1) (c .refused3 .ensures)
+
 pub route-told-spec : {M : Type 1} → statement M
 route-told-spec =
     tie.close
@@ -66,8 +75,11 @@ route-told-spec =
     cast-t8
     enum-known-answer-3
     cut-told-requires
+    enum-told-3
+    refused-requires-3
     returns
     returns-2
     returns-3
     returns-4
-    returns-5)
+    returns-5
+    returns-6)

@@ -4,15 +4,17 @@ use mathlib.Core.Path.{sym, _∙_}
 use borrow.Author.Tests.{not-true, not-false}
 use Rattle.net_places.specs.NetsLaws.{pairs-of}
 use Rattle.session.specs.View.{sessionOf}
-use Rattle.route_call.specs.AnswerLaws.{odd-at, none-odd, route-unsound, route-short, route-odd}
+use Rattle.route_call.specs.AnswerLaws.{odd-at, none-odd, even-few, route-unsound, route-short}
 use borrow.Author.Needs.{needs}
 use Rattle.route_call.proofs.route.Statement.{statement}
 use Rattle.route_call.proofs.route.Tie as tie
 use Rattle.route_call.proofs.route.Reads as reads
 use Rattle.route_call.proofs.route.Lts as lts
 use Rattle.cut_search.proofs.first_odd.Reads as first-odd-reads
+use Rattle.pairing_search.proofs.no_odds.Reads as no-odds-reads
+use Rattle.route_call.proofs.route_few.Reads as route-few-reads
+use Rattle.route_call.proofs.route_odd.Reads as route-odd-reads
 use Rattle.session.proofs.Session.sound.Reads as sound-reads
-use Rattle.route_call.proofs.route_even.Reads as route-even-reads
 
 sound-requires : tie.Need-sound-requires
 sound-requires c κs = search needs
@@ -36,41 +38,50 @@ first-odd-requires c κs = search needs
 enum-known-odd : tie.Need-enum-known-odd
 enum-known-odd c = search needs
 
-enum-told : tie.Need-enum-told
-enum-told c = search needs
-
-route-even-requires : tie.Need-route-even-requires
-route-even-requires c κs =
-    let at-enum-told = c .before in let the-enum-told = at-enum-told .enum-told in
-    let at-first-odd = at-enum-told .before .before in let first-odd = at-first-odd .first-odd in
+route-odd-requires : tie.Need-route-odd-requires
+route-odd-requires c κs =
+    let at-odd = c .before .before in let odd = at-odd .odd in
+    let at-first-odd = at-odd .before .before in let first-odd = at-first-odd .first-odd in
     let at-if1 = at-first-odd .before .before .before .before in let if1 = at-if1 .if1 in
     let at-sound = at-if1 .before in let the-sound = at-sound .sound in
-    let at-args = at-sound .before .before in let args = at-args .args in
-    let s = args .s in (
+    let at-args = at-sound .before .before in let s = at-args .args .s in (
       record {
         sound = sym (the-sound .ensures .same) ∙ not-false (the-sound .result) (if1 .left);
-        even =
-            none-odd (sessionOf s) _ (pairs-of (s .nets)) (sym (the-enum-told .given .1) ∙ first-odd .ensures);
+        first = odd-at (sessionOf s) _ (pairs-of (s .nets)) _ (sym (odd .given .1) ∙ first-odd .ensures);
       },
       omega arith,
     )
 
-returns-3 : tie.Need-returns-3
-returns-3 c =
-    let at-odd = c .before in let odd = at-odd .odd in
-    let at-first-odd = at-odd .before .before in let first-odd = at-first-odd .first-odd in
+enum-told : tie.Need-enum-told
+enum-told c = search needs
+
+no-odds-requires : tie.Need-no-odds-requires
+no-odds-requires c κs = search needs
+
+route-few-requires : tie.Need-route-few-requires
+route-few-requires c κs =
+    let at-no-odds = c .before in let no-odds = at-no-odds .no-odds in
+    let at-enum-told = at-no-odds .before in let the-enum-told = at-enum-told .enum-told in
+    let at-first-odd = at-enum-told .before .before in let first-odd = at-first-odd .first-odd in
     let at-if1 = at-first-odd .before .before .before .before in let if1 = at-if1 .if1 in
-    let at-sound = at-if1 .before in let sound = at-sound .sound in
-    let at-args = at-sound .before .before in let args = at-args .args in
-    let s = args .s in
-    route-odd (sessionOf s) _ (sym (sound .ensures .same) ∙ not-false (sound .result) (if1 .left)) (omega arith) _
-    (odd-at (sessionOf s) _ (pairs-of (s .nets)) _ (sym (odd .given .1) ∙ first-odd .ensures))
+    let at-sound = at-if1 .before in let the-sound = at-sound .sound in
+    let at-args = at-sound .before .before in let s = at-args .args .s in (
+      even-few (sessionOf s) (sym (the-sound .ensures .same) ∙ not-false (the-sound .result) (if1 .left))
+          (none-odd (sessionOf s) _ (pairs-of (s .nets)) (sym (the-enum-told .given .1) ∙ first-odd .ensures)) _ (no-odds .ensures),
+      omega arith,
+    )
 
 same-length : tie.Need-same-length
 same-length c = search needs
 
+returns-3 : tie.Need-returns-3
+returns-3 c = search needs
+
+same-length-2 : tie.Need-same-length-2
+same-length-2 c = search needs
+
 returns-4 : tie.Need-returns-4
-returns-4 c = c .before .before .route-even .ensures
+returns-4 c = search needs
 
 pub route-spec : {M : Type 1} → statement M
 route-spec =
@@ -81,8 +92,11 @@ route-spec =
     returns-2
     first-odd-requires
     enum-known-odd
+    route-odd-requires
     enum-told
-    route-even-requires
-    returns-3
+    no-odds-requires
+    route-few-requires
     same-length
+    returns-3
+    same-length-2
     returns-4)

@@ -1,27 +1,42 @@
--- `wire` starts from the table of the nets' pairs.
+-- `wire` starts from the table of the nets' pairs and then the helper pairs.
 use Rattle.net_places.specs.NetsLaws.{pairs-of}
 use Rattle.session.specs.View.{sessionOf}
-use Rattle.route_call.specs.AnswerLaws.{even-sound}
-use Rattle.route_call.specs.Starting.{clear-zeros, nets-filled}
+use Rattle.session_laws.specs.Exact.{sound-exact}
+use Rattle.route_call.specs.Starting.{clear-zeros, helped-room, helped-filled}
 use borrow.Author.Needs.{needs}
 use Rattle.route_call.proofs.wire.Statement.{statement}
 use Rattle.route_call.proofs.wire.Tie as tie
 use Rattle.route_call.proofs.wire.Reads as reads
 use Rattle.route_call.proofs.wire.Lts as lts
 use Rattle.route_call.proofs.wire_table.Reads as wire-table-reads
+use Rattle.router_start.proofs.fill_helpers.Reads as fill-helpers-reads
 use Rattle.router_start.proofs.fill_table.Reads as fill-table-reads
 
 fill-table-requires : tie.Need-fill-table-requires
 fill-table-requires c κs = clear-zeros
 
-wire-table-requires : tie.Need-wire-table-requires
-wire-table-requires c κs =
+fill-helpers-requires : tie.Need-fill-helpers-requires
+fill-helpers-requires c κs =
     let at-fill-table = c .before .before .before .before .before .before in
     let at-start = at-fill-table .before .before .before .before .before .before .before .before in
-    let s = at-start .args .s in
-    let E = at-start .pre .0 .0 in
-    let T = at-fill-table .fill-table .ensures in
-    ((even-sound (sessionOf s) E, nets-filled (sessionOf s) E (at-start .pre .0 .1) _ (pairs-of (s .nets)) (T .1) (T .0)), at-start .pre .1)
+    let s = at-start .args .s in let r = at-start .args .helpers in let H = at-start .pre .0 in
+    (H .most, helped-room (sessionOf s) r H _ (pairs-of (s .nets)) _ (at-fill-table .fill-table .ensures .0 .count))
+
+wire-table-requires : tie.Need-wire-table-requires
+wire-table-requires c κs =
+    let at-fill-helpers = c .before .before .before .before .before .before in
+    let at-fill-table = at-fill-helpers .before .before .before .before .before .before .before in
+    let at-start = at-fill-table .before .before .before .before .before .before .before .before in
+    let s = at-start .args .s in let r = at-start .args .helpers in let H = at-start .pre .0 in
+    let nets = at-fill-table .fill-table .ensures .0 in
+    let F = at-fill-helpers .fill-helpers .ensures .0 .fills _ _ _ _ _ _ clear-zeros nets in (
+      (
+        sound-exact (sessionOf s) .0 (H .sound),
+        helped-filled (sessionOf s) r H _ (pairs-of (s .nets))
+            (rw (at-fill-helpers .fill-helpers .ensures .1) (helped-room (sessionOf s) r H _ (pairs-of (s .nets)) _ (nets .count))) F,
+      ),
+      at-start .pre .1,
+    )
 
 same-length : tie.Need-same-length
 same-length c = search needs
@@ -30,4 +45,6 @@ returns : tie.Need-returns
 returns c = search needs
 
 pub wire-spec : {M : Type 1} → statement M
-wire-spec = tie.close (tie.spec fill-table-requires wire-table-requires same-length returns)
+wire-spec =
+    tie.close
+    (tie.spec fill-table-requires fill-helpers-requires wire-table-requires same-length returns)

@@ -1,0 +1,3 @@
+pub mod Revised
+pub mod Boards
+pub mod Cases
