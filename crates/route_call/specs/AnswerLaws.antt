@@ -3,7 +3,7 @@
 use mathlib.Core.Path.{_≡_, refl, ap, _∙_}
 use mathlib.Core.Bool.{true, false}
 use mathlib.Core.List.{List, [], head?}
-use mathlib.Core.Option.{Option, none, some}
+use mathlib.Core.Option.{some}
 use Prim.Native.Nat.{ℕ, _≤_, _<_}
 use native.Mathlib.Omega.{arith}
 use lib.Dec.{ltb}
@@ -11,7 +11,6 @@ use lib.ListN.{length}
 use borrow.Author.Tests.{lt-ltb, le-ltb}
 use Rattle.count.specs.Lists.{head-none}
 use Rattle.board.specs.declared.Vertex.{Vertex}
-use Rattle.net.specs.View.{pairsOf}
 use Rattle.net.specs.declared.Pair.{Pair}
 use Rattle.cut.specs.Cut.{overfullCuts}
 use Rattle.cut.specs.Odd.{oddVertices}
@@ -20,11 +19,11 @@ use Rattle.cut_search.specs.Laws.{found-some, found-none, vertex-some, vertex-n
 use Rattle.cut.specs.declared.Cut.{Cut}
 use Rattle.cut_search.specs.declared.FoundCut as code-cut
 use Rattle.cut_search.specs.declared.FoundVertex as code-vertex
-use Rattle.session_rules.specs.Refusal.{Refusal, refusal}
+use Rattle.session_rules.specs.Refusal.{refusal}
 use Rattle.session_rules.specs.Session.{Session, pairs}
 use Rattle.session_rules.specs.Sound.{sound?}
 use Rattle.session_laws.specs.Exact.{sound-exact}
-use Rattle.call_rules.specs.Result.{Result, no, yes}
+use Rattle.call_rules.specs.Result.{no, yes}
 use Rattle.call_rules.specs.Route.{
   routeRoom,
   oddLimit,

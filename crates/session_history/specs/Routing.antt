@@ -2,9 +2,9 @@
 -- there is one; otherwise the first overfull cut is named, or 34 given where there is none. Where no vertex is odd, 34 never comes (`rightly-even`).
 -- Assumes of each call only its promise.
 use mathlib.Core.Path.{_≡_, refl, ap, sym, _∙_}
-use mathlib.Core.List.{List, [], _∷_, head?}
-use mathlib.Core.Logic.{_↔_, inl, inr}
-use mathlib.Core.Option.{Option, none, some}
+use mathlib.Core.List.{List, []}
+use mathlib.Core.Logic.{inl, inr}
+use mathlib.Core.Option.{none, some}
 use Prim.Native.Nat.{ℕ, _/_, _≤_}
 use native.Mathlib.Omega.{arith}
 use lib.ListN.{length}
@@ -19,7 +19,7 @@ use Rattle.corner.specs.Paths.{routing-routable, tidied}
 use Rattle.corner.specs.Theorem.{needed-cuts, routable}
 use Rattle.session_rules.specs.Refusal.{Refusal, refusal}
 use Rattle.session_rules.specs.Session.{Session, withNets, pairs}
-use Rattle.session_rules.specs.Machine.{after, answers}
+use Rattle.session_rules.specs.Machine.{after}
 use Rattle.session_rules.specs.Sound.{Sound, Fresh, bare}
 use Rattle.session_laws.specs.Exact.{sound-exact}
 use Rattle.session.specs.declared.Session as code

@@ -16,6 +16,10 @@ sixNets = net 1 0 2 1 4 ∷ net 2 2 5 4 4 ∷ net 3 5 3 4 1 ∷ net 4 3 0 1 1 �
 abbrev pub diamondSession : Session
 diamondSession = session (diamond .rows) sixNets
 
+-- one cell, and a net from each upper corner to the lower corner across: the smallest board that gets 34
+abbrev pub crossedSession : Session
+crossedSession = session (row 0 1 ∷ []) (net 1 0 0 1 1 ∷ net 2 0 1 1 0 ∷ [])
+
 -- case e: 0-2, no nets
 abbrev pub twoCells : Board
 twoCells = board (row 0 2 ∷ [])

@@ -1,5 +1,4 @@
 -- `helpers_of` answers as the definition does, with and without odd vertices.
-use native.Mathlib.Omega.{arith}
 use Rattle.board.specs.View.{boardOf}
 use Rattle.net.specs.View.{pairsOf}
 use Rattle.pairing_search.specs.Answer.{helps-found, helps-none}

@@ -1,5 +1,5 @@
 -- `slack_of` fills in cut by cut what the nets leave.
-use Prim.Native.Nat.{_+_, _-_, _≤_, _<_}
+use Prim.Native.Nat.{_+_, _-_, _≤_}
 use mathlib.Core.Path.{_≡_, ap, sym, _∙_}
 use native.Mathlib.Omega.{arith}
 use Rattle.board.specs.View.{boardOf}

@@ -1,5 +1,4 @@
 -- `route_few` names the first overfull cut, or leaves the rest to `route_open`.
-use native.Mathlib.Omega.{arith}
 use mathlib.Core.Path.{sym, _∙_}
 use Rattle.net_places.specs.NetsLaws.{pairs-of}
 use Rattle.session.specs.View.{sessionOf}
