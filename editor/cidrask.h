@@ -75,8 +75,8 @@ extern "C" {
  * Accepted: a routing's words stand at the start of the buffer; *first is their count, and *second is 0. The bytes after them are untouched.
  * Refused: *first and *second are the place, *second 0 where it is one number; the whole buffer is untouched.
  * Order: 10, 11; each word in turn through 12 to 15; 16; each net in turn through 21, 23, 24, 25; 31, 32, 33, 34. No other number comes.
- * Where at most 12 vertices are odd, a routing is given exactly when pairwise edge-disjoint paths joining all nets exist. Where none is odd, 34 never
- * comes. */
+ * Past 31, where at most 12 vertices are odd, a routing is given exactly when pairwise edge-disjoint paths joining all nets exist; where none is odd,
+ * 34 never comes. */
 uint32_t cidrask_route(const uint8_t *board, size_t board_length, uint8_t *buffer, size_t buffer_length, uint64_t *first, uint64_t *second);
 
 /* Reads a board and judges a list of routing words against it; the board may be odd or have overfull rows and columns.

@@ -1,4 +1,5 @@
--- What is left to refuse a routing call that 20, 31 and 32 let pass; and that a call is refused in one way only, and never where a routing is given.
+-- What is left to refuse a routing call that 20, 31 and 32 let pass; and that a call is refused in one way only, and past 33 never where a routing
+-- exists.
 -- Assumes nothing.
 use mathlib.Core.Path.{_≡_, refl, sym, _∙_}
 use mathlib.Core.Bool.{true}
@@ -23,7 +24,7 @@ use Rattle.call_rules.specs.Route.{
   overfullRefused,
   routeRefused,
   WhyRefused,
-  by-count,
+  by-line,
   none-exists,
 }
 
@@ -56,14 +57,14 @@ module _ (s : Session) (room : ℕ) (sound : sound? s ≡ true) (long : routeRoo
       go none f = absurd (some-none r (sym f))
       go (some x) f = (x, refl, cc)
 
--- ── one refusal, and none where a routing is given ──
+-- ── one refusal, and past 33 none where a routing exists ──
 pub same-refusal : (s : Session) (room : ℕ) {q r : Refusal} → WhyRefused s room q → WhyRefused s room r → q ≡ r
-same-refusal s room (by-count {r = q} e) (by-count {r} f) = let g : some q ≡ some r = sym e ∙ f in cc
-same-refusal s room (by-count {r = q} e) (none-exists f h) = absurd (some-none q (sym e ∙ f))
-same-refusal s room (none-exists f h) (by-count {r} e) = absurd (some-none r (sym e ∙ f))
+same-refusal s room (by-line {r = q} e) (by-line {r} f) = let g : some q ≡ some r = sym e ∙ f in cc
+same-refusal s room (by-line {r = q} e) (none-exists f h) = absurd (some-none q (sym e ∙ f))
+same-refusal s room (none-exists f h) (by-line {r} e) = absurd (some-none r (sym e ∙ f))
 same-refusal s room (none-exists e h) (none-exists f k) = refl
 
 pub not-given : (s : Session) (room : ℕ) {q : Refusal} → WhyRefused s room q → routeRefused s room ≡ none → (paths : List (List Direction))
     → Routing (s .block .board) (pairs (s .nets)) paths → ⊥
-not-given s room (by-count {r = q} e) f paths R = some-none q (sym e ∙ f)
+not-given s room (by-line {r = q} e) f paths R = some-none q (sym e ∙ f)
 not-given s room (none-exists e h) f paths R = h paths R

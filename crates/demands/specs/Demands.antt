@@ -46,7 +46,7 @@ use Rattle.call_rules.specs.Writing.{writeBoard, countOf, bufferAfter, writtenI
 use Rattle.call_rules.specs.Report.{Report, reportOf, edgesUsed, turnsMade, knockKnees}
 use Rattle.call_rules.specs.Alike.{Alike, equallyMany}
 use Rattle.call_rules.specs.Judge.{judged, judgeWords, ofList, compareWords, judgeBytes, compareBytes}
-use Rattle.call_rules.specs.Route.{routeRefused, HandsBack, HandsBackBytes, Routes, RoutesBytes}
+use Rattle.call_rules.specs.Route.{routeRoom, routeRefused, HandsBack, HandsBackBytes, Routes, RoutesBytes}
 use Rattle.board_reading.specs.declared.AfterRead.{AfterRead}
 use Rattle.board_reading.specs.Promise.{readAnswer, ReadPromise}
 use Rattle.board_writing.specs.declared.WriteAnswer.{WriteAnswer}
@@ -57,7 +57,7 @@ use Rattle.judge_call.specs.Answers.{judgementOf, likenessOf}
 use Rattle.route_call.specs.declared.RouteAnswer.{RouteAnswer}
 use Rattle.route_call.specs.Answers.{routeAnswer}
 use Rattle.cidrask.specs.declared.Told.{Told}
-use Rattle.cidrask.specs.Told.{tell, firstOf, refusedTold, RoutePromise, JudgePromise, AlikePromise}
+use Rattle.cidrask.specs.Told.{tell, firstOf, refusedTold, routeTold, RoutePromise, JudgePromise, AlikePromise}
 use Rattle.session_history.specs.Made.{Made, changed, routed, routedBytes, Meets, Chain, last, callsOf}
 use Rattle.session_history.specs.Demand as history
 
@@ -194,6 +194,15 @@ pub record Demand1 : Type 0 where
       × (routeRefused (sessionOf s) (length before / 4) ≡ none → Decided (sessionOf s)
       (λ n. (routeAnswer r ≡ yes n) × HandsBackBytes (sessionOf s) before after n)
       ((routeAnswer r ≡ no (refusal 34 0)) × (after ≡ before)))
+  -- 02, §4, of any sound session, however it came about, and a long enough buffer: where at most 12 vertices are odd, a routing exactly when pairwise
+  -- edge-disjoint paths joining the nets exist, and otherwise the first overfull cut is named, or 34 given where there is none; where every vertex is
+  -- even, 34 never comes
+  pub route-rightly : (s : Session) (before : List ℕ) (r : RouteAnswer) (after : List ℕ) → Routes (sessionOf s) before (routeAnswer r) after
+      → Sound (sessionOf s) → routeRoom (sessionOf s) ≤ length before
+      → history.RightlyBoth (sessionOf s) (routeAnswer r) (HandsBack (sessionOf s) before after)
+  pub route-bytes-rightly : (s : Session) (before : List ℕ) (r : RouteAnswer) (after : List ℕ) → RoutesBytes (sessionOf s) before (routeAnswer r) after
+      → Sound (sessionOf s) → routeRoom (sessionOf s) ≤ length before / 4
+      → history.RightlyBoth (sessionOf s) (routeAnswer r) (HandsBackBytes (sessionOf s) before after)
   -- for C: the board's bytes are read first; a refusal is told by its number and place, and leaves the buffer as it was
   pub c-route : (board before : List ℕ) (number first second : ℕ) (after : List ℕ) → RoutePromise board before number first second after
       → ((q : Refusal) → readBytes board ≡ no q → (tell number first second 0 ≡ refusedTold q) × (after ≡ before))
@@ -202,6 +211,10 @@ pub record Demand1 : Type 0 where
       × (routeRefused s (length before / 4) ≡ none → Decided s
       (λ n. (tell number first second 0 ≡ tell 0 n 0 0) × HandsBackBytes s before after n)
       ((tell number first second 0 ≡ tell 34 0 0 0) × (after ≡ before))))
+  -- and that, of the answer a that C is told by its numbers
+  pub c-route-rightly : (board before : List ℕ) (number first second : ℕ) (after : List ℕ) → RoutePromise board before number first second after
+      → (s : machine.Session) → readBytes board ≡ yes s → routeRoom s ≤ length before / 4
+      → (a : Result ℕ) × (tell number first second 0 ≡ routeTold a) × history.RightlyBoth s a (HandsBackBytes s before after)
   pub c-judge : (board list : List ℕ) (number first second third : ℕ) → JudgePromise board list number first second third
       → ((q : Refusal) → readBytes board ≡ no q → tell number first second third ≡ refusedTold q)
       × ((s : machine.Session) → readBytes board ≡ yes s → TellsJudged s list (tell number first second third))

@@ -38,9 +38,10 @@ use Rattle.call_rules.specs.Report.{Report, reportOf}
 use Rattle.call_rules.specs.AlikeLaws.{alike-exact}
 use Rattle.call_rules.specs.Judge.{judged, ifSound, ifEven, judgeWords, ofList, alikeOn, compareWords, judgeBytes, compareBytes}
 use Rattle.call_rules.specs.Route.{
+  routeRoom,
   routeRefused,
   WhyRefused,
-  by-count,
+  by-line,
   none-exists,
   HandsBack,
   HandsBackBytes,
@@ -63,6 +64,7 @@ use Rattle.judge_laws.specs.Alike.{judged-equally-many}
 use Rattle.board_roundtrip.specs.Parts.{unpiled}
 use Rattle.board_roundtrip.specs.RoundTrip.{buffer-reads, read-written, read-bytes-sound}
 use Rattle.session_answers.specs.Answers.{addAnswer}
+use Rattle.session_history.specs.Demand.{RightlyBoth}
 use Rattle.session_history.specs.Routing as history
 use Rattle.session_history.specs.Listed as history-listed
 use Rattle.demands.specs.Demands.{
@@ -119,7 +121,7 @@ module _ {T : Type 0} (told : Result ℕ → T) (differ : (n : ℕ) → told (ye
 
   module _ (Same : Type 0) (HandedBack : ℕ → Type 0) (joined : (n : ℕ) → HandedBack n → Routable (s .block .board) (pairs (s .nets))) where
     shown-refused : {r : Refusal} → WhyRefused s room r → Same → Shown (no r) Same HandedBack
-    shown-refused (by-count {r} e) same = (
+    shown-refused (by-line {r} e) same = (
       λ q f. (ap (λ (p : Refusal). told (no p)) (let g : some r ≡ some q = sym e ∙ f in cc), same),
       λ f. absurd (let g : some r ≡ none = sym e ∙ f in let z : _≡_ {A = ℕ} 0 1 = cc in omega arith),
     )
@@ -185,6 +187,16 @@ c-routed board before after a t f (read {s = m} e R) = (
       rw f (bytes-shown routeTold differ-told s (length before / 4) before after a refl
       (subst (λ (x : machine.Session). RoutesBytes x before a after) same R)),
 )
+
+-- a session that was read is sound, so the answer told of it is right too
+c-routed-rightly : (board before after : List ℕ) (a : Result ℕ) (t : Told) → t ≡ routeTold a → EditorRoutes board before a after
+    → (s : machine.Session) → readBytes board ≡ yes s → routeRoom s ≤ length before / 4
+    → (x : Result ℕ) × (t ≡ routeTold x) × RightlyBoth s x (HandsBackBytes s before after)
+c-routed-rightly board before after a t f (unread {r} e) s g long =
+    absurd (let h : _≡_ {A = Result machine.Session} (no r) (yes s) = sym e ∙ g in let z : _≡_ {A = ℕ} 0 1 = cc in omega arith)
+c-routed-rightly board before after a t f (read {s = m} {answer = x} e R) s g long =
+    let same : m ≡ s = (let h : yes m ≡ yes s = sym e ∙ g in cc) in
+    (x, f, history.bytes-both s (read-bytes-sound board s g) long (subst (λ (y : machine.Session). RoutesBytes y before x after) same R))
 
 -- ── judging ──
 unsound-first : {A : Type 0} (s : machine.Session) (x : Result A) → (Sound s → ⊥) → ifSound s x ≡ no (refusal 20 0)
@@ -352,7 +364,11 @@ demand-1 = record {
       let m = sessionOf s in let f = e ∙ compare-bytes-is m one two in
       (λ n. f ∙ unsound-first m _ n, λ S. compares-bytes m one two (likenessOf r) (f ∙ sound-then m _ S));
   were-alike = λ s vs ws dss ess e f h. judged-equally-many s vs ws dss ess e f h;
+  route-rightly = λ s before r after R S long. history.words-both (sessionOf s) S long R;
+  route-bytes-rightly = λ s before r after R S long. history.bytes-both (sessionOf s) S long R;
   c-route = λ board before number first second after P. c-routed board before after (P .result) (tell number first second 0) (P .told) (P .routes);
+  c-route-rightly = λ board before number first second after P s e long.
+      c-routed-rightly board before after (P .result) (tell number first second 0) (P .told) (P .routes) s e long;
   c-judge = λ board list number first second third P. (
     λ q e. P ∙ ap judgeTold (c-refused board list q e),
     λ s e. tells-judged board list s (tell number first second third) P e,

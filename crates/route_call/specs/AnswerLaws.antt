@@ -32,7 +32,7 @@ use Rattle.call_rules.specs.Route.{
   overfullRefused,
   routeRefused,
   NoRouting,
-  by-count,
+  by-line,
   none-exists,
   HandsBack,
   Routes,
@@ -46,34 +46,34 @@ use Rattle.pairing_search.specs.Collect.{few-none}
 use Rattle.pairing_search.specs.Answer.{answer-helpers, answer-none}
 use Rattle.pairing_search.specs.declared.Odds.{Odds}
 use Rattle.pairing_search.specs.declared.FoundPairs.{FoundPairs}
-use Rattle.route_call.specs.Answers.{FirstOdd, FewOdd, Roomy, Helped}
+use Rattle.route_call.specs.Answers.{FirstOddKnown, OddsKnown, Roomy, Helped}
 use Rattle.route_call.specs.Sessions.{problem-of}
 
 module _ (s : Session) (before : List ℕ) where
   pub route-unsound : sound? s ≡ false → Routes s before (no (refusal 20 0)) before
   unfolding routeRefused
-  route-unsound e = refused {r = refusal 20 0} (by-count {r = refusal 20 0} (rw e refl))
+  route-unsound e = refused {r = refusal 20 0} (by-line {r = refusal 20 0} (rw e refl))
 
   pub route-short : sound? s ≡ true → length before < routeRoom s → Routes s before (no (refusal 31 0)) before
   unfolding routeRefused
-  route-short e h = refused {r = refusal 31 0} (by-count {r = refusal 31 0} (rw (e, lt-ltb (length before) (routeRoom s) h) refl))
+  route-short e h = refused {r = refusal 31 0} (by-line {r = refusal 31 0} (rw (e, lt-ltb (length before) (routeRoom s) h) refl))
 
   -- v is the first of too many
-  pub route-odd : (v : Vertex) → FirstOdd s v → routeRoom s ≤ length before
+  pub route-odd : (v : Vertex) → FirstOddKnown s v → routeRoom s ≤ length before
       → ltb oddLimit (length (oddVertices (s .block .board) (pairs (s .nets)))) ≡ true
       → Routes s before (no (oddRefusal v)) before
   unfolding routeRefused
-  route-odd v F h e = refused {r = oddRefusal v} (by-count {r = oddRefusal v}
+  route-odd v F h e = refused {r = oddRefusal v} (by-line {r = oddRefusal v}
       (rw (F .sound, le-ltb (length before) (routeRoom s) h, e, F .first) refl))
 
-  module _ (odds : Odds) (F : FewOdd s odds) (h : routeRoom s ≤ length before) where
+  module _ (odds : Odds) (F : OddsKnown s odds) (h : routeRoom s ≤ length before) where
     few : length (oddVertices (s .block .board) (pairs (s .nets))) ≤ oddLimit
     few = omega (arith, F .few .most, F .few .count)
 
     pub route-overfull : (x : Cut) → head? (overfullCuts (s .block .board) (pairs (s .nets))) ≡ some x
         → Routes s before (no (overfullRefusal x)) before
     route-overfull x f = refused {r = overfullRefusal x}
-        (by-count {r = overfullRefusal x} (left s (length before) (F .sound) h few ∙ ap overfullRefused f))
+        (by-line {r = overfullRefusal x} (left s (length before) (F .sound) h few ∙ ap overfullRefused f))
 
     pub route-given : Roomy s → {after : List ℕ} {count : ℕ} → HandsBack s before after count → Routes s before (yes count) after
     route-given R H = given (passed s (length before) (F .sound) h few R) H
@@ -93,7 +93,7 @@ module _ (s : Session) (sound : sound? s ≡ true) (r : FoundPairs) (H : Helps (
       (routing-routable (s .block .board) (pairs (s .nets)) paths R)
 
 -- where no vertex is odd there are few
-pub even-few : (s : Session) → sound? s ≡ true → oddVertices (s .block .board) (pairs (s .nets)) ≡ [] → (o : Odds) → o ≡ noOdds → FewOdd s o
+pub even-few : (s : Session) → sound? s ≡ true → oddVertices (s .block .board) (pairs (s .nets)) ≡ [] → (o : Odds) → o ≡ noOdds → OddsKnown s o
 even-few s sound e o f = record { sound = sound; few = rw (e, f) few-none }
 
 -- ── what the searches ask and answer, of the session's own list of pairs ──

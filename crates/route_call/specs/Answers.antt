@@ -39,12 +39,12 @@ written (answer.Overfull x) = 0
 written answer.NoRouting = 0
 
 -- a sound session whose first odd vertex is v
-pub record FirstOdd (s : Session) (v : Vertex) : Type 0 where
+pub record FirstOddKnown (s : Session) (v : Vertex) : Type 0 where
   pub sound : sound? s ≡ true
   pub first : head? (oddVertices (s .block .board) (pairs (s .nets))) ≡ some v
 
 -- a sound session with these odd vertices, at most 12
-pub record FewOdd (s : Session) (odds : Odds) : Type 0 where
+pub record OddsKnown (s : Session) (odds : Odds) : Type 0 where
   pub sound : sound? s ≡ true
   pub few : Few (oddVertices (s .block .board) (pairs (s .nets))) odds
 

@@ -22,7 +22,7 @@ use Rattle.call_rules.specs.Route.{
   routeRoom,
   routeRefused,
   WhyRefused,
-  by-count,
+  by-line,
   none-exists,
   HandsBack,
   HandsBackBytes,
@@ -47,7 +47,7 @@ unfolding routeRefused
 same-refused s n = rw (same-short n (routeRoom s)) refl
 
 same-why : (s : Session) (n : ℕ) {r : Refusal} → WhyRefused s (min n (routeRoom s)) r → WhyRefused s n r
-same-why s n (by-count e) = by-count (sym (same-refused s n) ∙ e)
+same-why s n (by-line e) = by-line (sym (same-refused s n) ∙ e)
 same-why s n (none-exists e h) = none-exists (sym (same-refused s n) ∙ e) h
 
 -- how many words a result tells of

@@ -5,7 +5,7 @@ ghost use lib.ListN.{length};
 ghost use Rattle.session.specs.View.{sessionOf};
 ghost use Rattle.session_rules.specs.Sound.{Sound};
 ghost use Rattle.call_rules.specs.Route.{routeRoom, HandsBack, Routes, RoutesBytes};
-ghost use Rattle.route_call.specs.Answers.{FirstOdd, FewOdd, Roomy, Helped, routeAnswer, written};
+ghost use Rattle.route_call.specs.Answers.{FirstOddKnown, OddsKnown, Roomy, Helped, routeAnswer, written};
 ghost use Rattle.route_call.specs.Filled.{firstWork, Filled};
 use board::Vertex;
 use cut::Cut;
@@ -124,7 +124,7 @@ fn wire(s: Session, helpers: FoundPairs, out: &mut [u32]) -> usize
 
 // Where no cut is overfull: a routing, or that there is none.
 fn route_open(s: Session, odds: Odds, out: &mut [u32]) -> RouteAnswer
-    requires { ⌜ FewOdd (sessionOf s) odds × Roomy (sessionOf s) ⌝ }
+    requires { ⌜ OddsKnown (sessionOf s) odds × Roomy (sessionOf s) ⌝ }
     requires { ⌜ routeRoom (sessionOf s) ≤ length (now out) ⌝ }
     ensures { λ r. ⌜ Routes (sessionOf s) (now (out .entry)) (routeAnswer r) (now (out .exit)) ⌝ }
 {
@@ -141,7 +141,7 @@ fn route_open(s: Session, odds: Odds, out: &mut [u32]) -> RouteAnswer
 
 // Where at most 12 vertices are odd: the first overfull cut; or a routing, or that there is none.
 fn route_few(s: Session, odds: Odds, out: &mut [u32]) -> RouteAnswer
-    requires { ⌜ FewOdd (sessionOf s) odds ⌝ }
+    requires { ⌜ OddsKnown (sessionOf s) odds ⌝ }
     requires { ⌜ routeRoom (sessionOf s) ≤ length (now out) ⌝ }
     ensures { λ r. ⌜ Routes (sessionOf s) (now (out .entry)) (routeAnswer r) (now (out .exit)) ⌝ }
 {
@@ -156,7 +156,7 @@ fn route_few(s: Session, odds: Odds, out: &mut [u32]) -> RouteAnswer
 
 // Where v is the first odd vertex: v where more than 12 are odd, otherwise as above.
 fn route_odd(s: Session, v: Vertex, out: &mut [u32]) -> RouteAnswer
-    requires { ⌜ FirstOdd (sessionOf s) v ⌝ }
+    requires { ⌜ FirstOddKnown (sessionOf s) v ⌝ }
     requires { ⌜ routeRoom (sessionOf s) ≤ length (now out) ⌝ }
     ensures { λ r. ⌜ Routes (sessionOf s) (now (out .entry)) (routeAnswer r) (now (out .exit)) ⌝ }
 {

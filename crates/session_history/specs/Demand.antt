@@ -29,8 +29,8 @@ abbrev pub FewOdd : Session → Type 0
 FewOdd m = length (oddVertices (m .block .board) (pairs (m .nets))) ≤ oddLimit
 
 -- no row or column is crossed by more nets than it has edges
-abbrev pub NoneOverfull : Session → Type 0
-NoneOverfull m = (x : Cut) → IsCut (m .block .board) x → Overfull (m .block .board) (pairs (m .nets)) x → ⊥
+abbrev pub NoCutOverfull : Session → Type 0
+NoCutOverfull m = (x : Cut) → IsCut (m .block .board) x → Overfull (m .block .board) (pairs (m .nets)) x → ⊥
 
 -- "names the first row or column crossed by more nets than edges"
 abbrev pub NamesCut : Session → Result ℕ → Type 0
@@ -42,15 +42,16 @@ pub record Rightly (m : Session) (answer : Result ℕ) (HandedBack : ℕ → Typ
   pub exactly : ((n : ℕ) × (answer ≡ yes n) × HandedBack n) ↔ Routable (m .block .board) (pairs (m .nets))
   -- "Where none exist, that call names the first row or column crossed by more nets than edges", or gives 34 where there is none (02, §4)
   pub named : (Routable (m .block .board) (pairs (m .nets)) → ⊥)
-      → NamesCut m answer ⊎ ((answer ≡ no (refusal 34 0)) × NoneOverfull m)
+      → NamesCut m answer ⊎ ((answer ≡ no (refusal 34 0)) × NoCutOverfull m)
 
--- "Wherever routing is called .. with 2,049 words or more", m being the machine's session then
+-- "Wherever routing is called .. with 2,049 words or more", m being the machine's session then; `FewOdd` stands where the demand has "while every
+-- vertex's degree plus its terminals is even"
 abbrev pub RoutedRightly : Session → Made → Type 0
 RoutedRightly m (routed before r after) = routeRoom m ≤ length before → FewOdd m → Rightly m (routeAnswer r) (HandsBack m before after)
 RoutedRightly m (routedBytes before r after) = routeRoom m ≤ length before / 4 → FewOdd m → Rightly m (routeAnswer r) (HandsBackBytes m before after)
 RoutedRightly m (changed c a t) = Unit {0}
 
--- ── boards with no odd vertex, as document 01 has it ──
+-- ── boards with no odd vertex, as demand 3 has it ──
 -- "while every vertex's degree plus its terminals is even"
 abbrev pub AllEven : Session → Type 0
 AllEven m = (v : Vertex) → IsVertex (m .block .board) v → Even (m .block .board) (pairs (m .nets)) v
@@ -67,6 +68,11 @@ RoutedEven m (routedBytes before r after) =
     routeRoom m ≤ length before / 4 → AllEven m → RightlyEven m (routeAnswer r) (HandsBackBytes m before after)
 RoutedEven m (changed c a t) = Unit {0}
 
+-- both, of one routing call on m
+pub record RightlyBoth (m : Session) (answer : Result ℕ) (HandedBack : ℕ → Type 0) : Type 0 where
+  pub few-odd : FewOdd m → Rightly m answer HandedBack
+  pub all-even : AllEven m → RightlyEven m answer HandedBack
+
 -- two routing calls are "given or refused" alike: each refusal of the one is that of the other
 abbrev pub RefusedAlike : RouteAnswer → RouteAnswer → Type 0
 RefusedAlike x y = (q : Refusal) → (routeAnswer x ≡ no q) ↔ (routeAnswer y ≡ no q)
@@ -78,5 +84,5 @@ pub record Demand3 (s : code.Session) (ms : List Made) : Type 0 where
   -- and each add, withdrawal and take-back", and each list of nets, "was answered as the machine answers."
   pub answered : answersOf ms ≡ answers (bare (sessionOf s .block)) (callsOf ms)
   pub routings : Everywhere RoutedRightly (bare (sessionOf s .block)) ms
-  -- and where every vertex is even, in document 01's own words
+  -- and while every vertex is even, in the demand's own words
   pub even-routings : Everywhere RoutedEven (bare (sessionOf s .block)) ms

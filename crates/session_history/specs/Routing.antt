@@ -29,7 +29,7 @@ use Rattle.call_rules.specs.Route.{
   routeRoom,
   overfullRefusal,
   WhyRefused,
-  by-count,
+  by-line,
   none-exists,
   HandsBack,
   HandsBackBytes,
@@ -42,7 +42,7 @@ use Rattle.call_rules.specs.RouteLaws.{passed-roomy, refused-cut}
 use Rattle.route_call.specs.Answers.{routeAnswer}
 use Rattle.route_call.specs.Sessions.{problem-of}
 use Rattle.session_history.specs.Made.{Made, changed, routed, routedBytes, Meets, Chain}
-use Rattle.session_history.specs.Demand.{FewOdd, NoneOverfull, Rightly, RoutedRightly, AllEven, RightlyEven, RoutedEven, Demand3}
+use Rattle.session_history.specs.Demand.{FewOdd, NoCutOverfull, Rightly, RoutedRightly, AllEven, RightlyEven, RoutedEven, RightlyBoth, Demand3}
 use Rattle.session_history.specs.History.{as-the-machine, everywhere}
 
 -- ── one routing call ──
@@ -51,7 +51,7 @@ no-yes r a e = let z : _≡_ {A = ℕ} 0 1 = cc in omega arith
 
 module _ (m : Session) (S : Sound m) (few : FewOdd m) {room : ℕ} (long : routeRoom m ≤ room) where
   refused-rightly : {r : Refusal} → WhyRefused m room r → (HandedBack : ℕ → Type 0) → Rightly m (no r) HandedBack
-  refused-rightly (by-count {r} e) H =
+  refused-rightly (by-line {r} e) H =
       let (x, f, g) = refused-cut m room (sound-exact m .1 S) long few r e in record {
         exactly = (
           λ k. absurd (no-yes r (k .0) (k .1)),
@@ -93,7 +93,7 @@ module _ (m : Session) (S : Sound m) (E : AllEven m) where
   even-few = rw even (omega arith)
 
   -- the theorem of document 004: paths exist where no cut is overfull
-  roomy-routable : NoneOverfull m → Routable (m .block .board) (pairs (m .nets))
+  roomy-routable : NoCutOverfull m → Routable (m .block .board) (pairs (m .nets))
   roomy-routable n =
       routable (m .block .board) (pairs (m .nets)) (problem-of m S) even .1 (no-overfull (m .block .board) (pairs (m .nets)) .1 n)
 
@@ -117,17 +117,30 @@ module _ (m : Session) (S : Sound m) (E : AllEven m) where
       cut-34 (Row i) q = let e : overfullRefusal (Row i) ≡ refusal 34 0 = cc in omega (arith, ap (λ (r : Refusal). r .number) e)
       cut-34 (Column j) q = let e : overfullRefusal (Column j) ≡ refusal 34 0 = cc in omega (arith, ap (λ (r : Refusal). r .number) e)
 
+-- ── a call on any sound session ──
+pub words-both : (m : Session) → Sound m → {before after : List ℕ} {a : Result ℕ} → routeRoom m ≤ length before → Routes m before a after
+    → RightlyBoth m a (HandsBack m before after)
+words-both m S long R = record {
+  few-odd = λ few. words-rightly m S few long R;
+  all-even = λ E. rightly-even m S E _ _ (words-rightly m S (even-few m S E) long R);
+}
+
+pub bytes-both : (m : Session) → Sound m → {before after : List ℕ} {a : Result ℕ} → routeRoom m ≤ length before / 4 → RoutesBytes m before a after
+    → RightlyBoth m a (HandsBackBytes m before after)
+bytes-both m S long R = record {
+  few-odd = λ few. bytes-rightly m S few long R;
+  all-even = λ E. rightly-even m S E _ _ (bytes-rightly m S (even-few m S E) long R);
+}
+
 -- ── wherever a call is made ──
 each : (s : code.Session) (m : Made) → Sound (sessionOf s) → Meets s m → RoutedRightly (sessionOf s) m
-each s (routed before r after) S k = λ long few. words-rightly (sessionOf s) S few long k
-each s (routedBytes before r after) S k = λ long few. bytes-rightly (sessionOf s) S few long k
+each s (routed before r after) S k = λ long. words-both (sessionOf s) S long k .few-odd
+each s (routedBytes before r after) S k = λ long. bytes-both (sessionOf s) S long k .few-odd
 each s (changed c a t) S k = tt
 
 each-even : (s : code.Session) (m : Made) → Sound (sessionOf s) → Meets s m → RoutedEven (sessionOf s) m
-each-even s (routed before r after) S k = λ long E.
-    rightly-even (sessionOf s) S E (routeAnswer r) _ (words-rightly (sessionOf s) S (even-few (sessionOf s) S E) long k)
-each-even s (routedBytes before r after) S k = λ long E.
-    rightly-even (sessionOf s) S E (routeAnswer r) _ (bytes-rightly (sessionOf s) S (even-few (sessionOf s) S E) long k)
+each-even s (routed before r after) S k = λ long. words-both (sessionOf s) S long k .all-even
+each-even s (routedBytes before r after) S k = λ long. bytes-both (sessionOf s) S long k .all-even
 each-even s (changed c a t) S k = tt
 
 -- ── demand 3 ──

@@ -146,7 +146,7 @@ unfolding everything
 writing = refl
 
 -- ── routing: 20, 31, 32, 33 in this order; 34, which is not counted, stands in crate worked_odd ──
--- so many cells in a row, and no nets: each vertex of a line but the first and the last is odd
+-- so many cells in a row; with no nets, or with two terminals at each corner, each vertex of a line but the first and the last is odd
 abbrev cells : ℕ → List Row
 cells n = row 0 n ∷ []
 

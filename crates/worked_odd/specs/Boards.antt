@@ -1,4 +1,4 @@
--- Definitions only: the board and the nets of document 02, §4, and case e of document 01. Nothing is proved here.
+-- Definitions only: the board and the nets of document 02, §4, two smaller boards that get 34, and case e of document 01. Nothing is proved here.
 use mathlib.Core.List.{List, [], _∷_}
 use Rattle.board.specs.Board.{Board}
 use Rattle.net.specs.declared.Net.{Net}
@@ -19,6 +19,10 @@ diamondSession = session (diamond .rows) sixNets
 -- one cell, and a net from each upper corner to the lower corner across: the smallest board that gets 34
 abbrev pub crossedSession : Session
 crossedSession = session (row 0 1 ∷ []) (net 1 0 0 1 1 ∷ net 2 0 1 1 0 ∷ [])
+
+-- the same across two cells, for the numbers of the revised cut condition
+abbrev pub widerSession : Session
+widerSession = session (row 0 2 ∷ []) (net 1 0 0 1 2 ∷ net 2 0 2 1 0 ∷ [])
 
 -- case e: 0-2, no nets
 abbrev pub twoCells : Board

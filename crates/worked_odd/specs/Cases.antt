@@ -1,9 +1,10 @@
--- Document 02, §4, "This board joins the proved cases": the statement `OddBoardsToBeProved` has a field for each thing said of it, and of case e of
--- document 01, which the request changes; `odd-boards-proved` proves it.
+-- Document 02, §4, "This board joins the proved cases": the statement `OddBoardsToBeProved` has document 01's table, a field for each thing said of
+-- this board, two smaller boards that get 34, and case e, where the call's answer changes; `odd-boards-proved` proves it.
 -- Assumes nothing.
 use mathlib.Core.Path.{_≡_, refl, ap, _∙_}
 use mathlib.Core.Bool.{true}
-use mathlib.Core.List.{List, [], _∷_, _++_}
+use mathlib.Core.List.{List, [], _∷_, _++_, map}
+use mathlib.Core.Logic.{_↔_}
 use mathlib.Core.Option.{none}
 use Prim.Native.Nat.{ℕ, _≤_}
 use native.Mathlib.Omega.{arith}
@@ -22,7 +23,7 @@ use Rattle.session_rules.specs.Sound.{sound?}
 use Rattle.session_laws.specs.Exact.{sound-exact}
 use Rattle.call_rules.specs.Result.{Result, no, yes}
 use Rattle.call_rules.specs.Writing.{writtenInto}
-use Rattle.call_rules.specs.Route.{routeRoom, routeRefused, NoRouting, HandsBack, Routes, refused, given}
+use Rattle.call_rules.specs.Route.{routeRoom, oddLimit, routeRefused, NoRouting, HandsBack, Routes, refused, given}
 use Rattle.call_rules.specs.RouteLaws.{passed, same-refusal, not-given}
 use Rattle.call_rules.specs.Route as calls
 use Rattle.corner.specs.Paths.{routing-routable}
@@ -30,43 +31,71 @@ use Rattle.pairing.specs.Search.{open?, firstOf, pairUp, helpers}
 use Rattle.pairing.specs.Exact.{routable-none}
 use Rattle.route_call.specs.Sessions.{problem-of}
 use Rattle.worked_cases.specs.Everything.{everything}
-use Rattle.worked_odd.specs.Revised.{rows, columns, saturated, failing}
-use Rattle.worked_odd.specs.Boards.{diamond, sixNets, diamondSession, crossedSession, twoCells, twoCellsSession}
+use Rattle.worked_cases.specs.Table.{BoardsToBeProved, boards-proved}
+use Rattle.worked_odd.specs.Revised.{rows, columns, saturated, revisedDemand, failing}
+use Rattle.worked_odd.specs.Boards.{diamond, sixNets, diamondSession, crossedSession, widerSession, twoCells, twoCellsSession}
+
+-- a call on the session with a long enough buffer gives 34 and leaves the buffer, and nothing else
+abbrev pub Gives34 : Session → Type 0
+Gives34 s = (before : List ℕ) → routeRoom s ≤ length before → (a : Result ℕ) (after : List ℕ)
+    → Routes s before a after ↔ ((a ≡ no (refusal 34 0)) × (after ≡ before))
 
 pub record OddBoardsToBeProved : Type 0 where
+  -- document 01's table, which stands
+  pub table : BoardsToBeProved
   -- the board of the request: 12 odd vertices
   pub odd : length (oddVertices diamond (pairs sixNets)) ≡ 12
-  -- "Every row and column passes that test": its five rows and five columns
-  pub cuts : length (rows diamond ++ columns diamond) ≡ 10
+  -- "Every row and column passes that test"; rows 0 and 4 and columns 0 and 4 are saturated
+  pub the-rows : rows diamond ≡ cut.Row 0 ∷ cut.Row 1 ∷ cut.Row 2 ∷ cut.Row 3 ∷ cut.Row 4 ∷ []
+  pub the-columns : columns diamond ≡ cut.Column 0 ∷ cut.Column 1 ∷ cut.Column 2 ∷ cut.Column 3 ∷ cut.Column 4 ∷ []
+  pub full-rows : saturated diamond (pairs sixNets) (rows diamond) ≡ cut.Row 0 ∷ cut.Row 4 ∷ []
+  pub full-columns : saturated diamond (pairs sixNets) (columns diamond) ≡ cut.Column 0 ∷ cut.Column 4 ∷ []
   pub revised : failing diamond (pairs sixNets) ≡ []
   -- "yet no routing exists": no edge-disjoint paths join the nets
   pub not-joined : Routable diamond (pairs sixNets) → ⊥
   pub none-exists : NoRouting diamondSession
   -- no cut is overfull, and the call gives 34: "34 after 33, place 0, where no cut is overfull and no routing exists"
   pub roomy : overfullCuts diamond (pairs sixNets) ≡ []
-  pub answer : (before : List ℕ) → routeRoom diamondSession ≤ length before → (a : Result ℕ) (after : List ℕ) → Routes diamondSession before a after
-      → (a ≡ no (refusal 34 0)) × (after ≡ before)
+  pub answer : Gives34 diamondSession
   -- two nets across one cell: no cut is overfull, and yet no routing exists; here the test of 004 fails too, at the row and at the column
-  pub crossed-roomy : overfullCuts (crossedSession .block .board) (pairs (crossedSession .nets)) ≡ []
-  pub crossed-none : NoRouting crossedSession
   pub crossed-revised : failing (crossedSession .block .board) (pairs (crossedSession .nets)) ≡ cut.Row 0 ∷ cut.Column 0 ∷ []
-  -- case e, 0-2 with no nets: two odd vertices, the first (0,1); it now routes with no path, the end word alone
+  pub crossed-answer : Gives34 crossedSession
+  -- and across two cells, where the row, of 3 edges, has a demand of 2 and an odd part left of, between and right of the two saturated columns
+  pub wider-revised : map (revisedDemand (widerSession .block .board) (pairs (widerSession .nets)))
+      (rows (widerSession .block .board) ++ columns (widerSession .block .board)) ≡ 5 ∷ 2 ∷ 2 ∷ []
+  pub wider-fails : failing (widerSession .block .board) (pairs (widerSession .nets)) ≡ cut.Row 0 ∷ []
+  pub wider-answer : Gives34 widerSession
+  -- case e, 0-2 with no nets: two odd vertices, the first (0,1), as it was; the call now gives a routing with no path, the end word alone
   pub e-odd : oddVertices twoCells [] ≡ at 0 1 ∷ at 1 1 ∷ []
   pub e-routing : Routing twoCells [] []
   pub e-answer : (before : List ℕ) → routeRoom twoCellsSession ≤ length before → (a : Result ℕ) (after : List ℕ)
-      → Routes twoCellsSession before a after
-      → (a ≡ yes 1) × (after ≡ writtenInto before (0xE0000000 ∷ []))
+      → Routes twoCellsSession before a after ↔ ((a ≡ yes 1) × (after ≡ writtenInto before (0xE0000000 ∷ [])))
 
 -- ── what a call answers that 33 lets pass ──
-module _ (s : Session) (before : List ℕ) (p : routeRefused s (length before) ≡ none) where
-  gives-34 : NoRouting s → (a : Result ℕ) (after : List ℕ) → Routes s before a after → (a ≡ no (refusal 34 0)) × (after ≡ before)
-  gives-34 n a after (refused {r} w) = (ap no (same-refusal s (length before) w (calls.none-exists p n)), refl)
-  gives-34 n a after (given e H) = absurd (n (H .paths) (H .routing))
+module _ (s : Session) {before : List ℕ} (p : routeRefused s (length before) ≡ none) where
+  only-34 : NoRouting s → {a : Result ℕ} {after : List ℕ} → Routes s before a after → (a ≡ no (refusal 34 0)) × (after ≡ before)
+  only-34 n (refused {r} w) = (ap no (same-refusal s (length before) w (calls.none-exists p n)), refl)
+  only-34 n (given e H) = absurd (n (H .paths) (H .routing))
 
-  hands-back : (paths : List (List Direction)) → Routing (s .block .board) (pairs (s .nets)) paths → (a : Result ℕ) (after : List ℕ)
+  hands-back : (paths : List (List Direction)) → Routing (s .block .board) (pairs (s .nets)) paths → {a : Result ℕ} {after : List ℕ}
       → Routes s before a after → (n : ℕ) × (a ≡ yes n) × HandsBack s before after n
-  hands-back paths R a after (refused w) = absurd (not-given s (length before) w p paths R)
-  hands-back paths R a after (given {count = n} e H) = (n, refl, H)
+  hands-back paths R (refused w) = absurd (not-given s (length before) w p paths R)
+  hands-back paths R (given {count = n} e H) = (n, refl, H)
+
+-- a session with at most 12 odd vertices and no overfull cut, where the search finds no helper pairs
+module _ (s : Session) (sound : sound? s ≡ true) (few : length (oddVertices (s .block .board) (pairs (s .nets))) ≤ oddLimit)
+    (roomy : overfullCuts (s .block .board) (pairs (s .nets)) ≡ []) (unpaired : helpers (s .block .board) (pairs (s .nets)) ≡ none) where
+  no-paths : Routable (s .block .board) (pairs (s .nets)) → ⊥
+  no-paths = routable-none (s .block .board) (pairs (s .nets)) (problem-of s (sound-exact s .0 sound)) .1 unpaired
+
+  no-routing : NoRouting s
+  no-routing paths R = no-paths (routing-routable (s .block .board) (pairs (s .nets)) paths R)
+
+  gives-34 : Gives34 s
+  gives-34 before h a after = let p = passed s (length before) sound h few roomy in (
+    only-34 s p no-routing,
+    λ e. rw (e .0, e .1) (refused {r = refusal 34 0} (calls.none-exists p no-routing)),
+  )
 
 -- ── the board of the request, by computing ──
 diamond-sound : sound? diamondSession ≡ true
@@ -77,18 +106,21 @@ diamond-odd : length (oddVertices diamond (pairs sixNets)) ≡ 12
 unfolding everything
 diamond-odd = refl
 
-diamond-cuts : length (rows diamond ++ columns diamond) ≡ 10
+diamond-rows : rows diamond ≡ cut.Row 0 ∷ cut.Row 1 ∷ cut.Row 2 ∷ cut.Row 3 ∷ cut.Row 4 ∷ []
 unfolding everything
-diamond-cuts = refl
+diamond-rows = refl
 
--- rows 0 and 4 are saturated, and columns 0 and 4
-full-rows : saturated diamond (pairs sixNets) (rows diamond) ≡ cut.Row 0 ∷ cut.Row 4 ∷ []
+diamond-columns : columns diamond ≡ cut.Column 0 ∷ cut.Column 1 ∷ cut.Column 2 ∷ cut.Column 3 ∷ cut.Column 4 ∷ []
 unfolding everything
-full-rows = refl
+diamond-columns = refl
 
-full-columns : saturated diamond (pairs sixNets) (columns diamond) ≡ cut.Column 0 ∷ cut.Column 4 ∷ []
+diamond-full-rows : saturated diamond (pairs sixNets) (rows diamond) ≡ cut.Row 0 ∷ cut.Row 4 ∷ []
 unfolding everything
-full-columns = refl
+diamond-full-rows = refl
+
+diamond-full-columns : saturated diamond (pairs sixNets) (columns diamond) ≡ cut.Column 0 ∷ cut.Column 4 ∷ []
+unfolding everything
+diamond-full-columns = refl
 
 diamond-revised : failing diamond (pairs sixNets) ≡ []
 unfolding everything tally
@@ -98,42 +130,39 @@ diamond-roomy : overfullCuts diamond (pairs sixNets) ≡ []
 unfolding everything
 diamond-roomy = refl
 
+diamond-few : length (oddVertices diamond (pairs sixNets)) ≤ oddLimit
+diamond-few = omega (arith, diamond-odd)
+
 -- no pairing of the twelve leaves every cut its edges
 diamond-unpaired : helpers diamond (pairs sixNets) ≡ none
 unfolding everything open? firstOf pairUp helpers
 diamond-unpaired = refl
 
-diamond-not-joined : Routable diamond (pairs sixNets) → ⊥
-diamond-not-joined =
-    routable-none diamond (pairs sixNets) (problem-of diamondSession (sound-exact diamondSession .0 diamond-sound)) .1 diamond-unpaired
-
-diamond-none : NoRouting diamondSession
-diamond-none paths R = diamond-not-joined (routing-routable diamond (pairs sixNets) paths R)
-
-diamond-passed : (n : ℕ) → routeRoom diamondSession ≤ n → routeRefused diamondSession n ≡ none
-diamond-passed n h = passed diamondSession n diamond-sound h (omega (arith, diamond-odd)) diamond-roomy
-
--- ── two nets across one cell ──
-crossed-sound : sound? crossedSession ≡ true
-unfolding everything
-crossed-sound = refl
-
-crossed-open : overfullCuts (crossedSession .block .board) (pairs (crossedSession .nets)) ≡ []
-unfolding everything
-crossed-open = refl
+-- ── two nets across one cell, and across two ──
+crossed-computed : (sound? crossedSession ≡ true) × (length (oddVertices (crossedSession .block .board) (pairs (crossedSession .nets))) ≡ 4)
+    × (overfullCuts (crossedSession .block .board) (pairs (crossedSession .nets)) ≡ [])
+    × (helpers (crossedSession .block .board) (pairs (crossedSession .nets)) ≡ none)
+unfolding everything open? firstOf pairUp helpers
+crossed-computed = (refl, refl, refl, refl)
 
 crossed-fails : failing (crossedSession .block .board) (pairs (crossedSession .nets)) ≡ cut.Row 0 ∷ cut.Column 0 ∷ []
 unfolding everything tally
 crossed-fails = refl
 
-crossed-unpaired : helpers (crossedSession .block .board) (pairs (crossedSession .nets)) ≡ none
+wider-computed : (sound? widerSession ≡ true) × (length (oddVertices (widerSession .block .board) (pairs (widerSession .nets))) ≡ 6)
+    × (overfullCuts (widerSession .block .board) (pairs (widerSession .nets)) ≡ [])
+    × (helpers (widerSession .block .board) (pairs (widerSession .nets)) ≡ none)
 unfolding everything open? firstOf pairUp helpers
-crossed-unpaired = refl
+wider-computed = (refl, refl, refl, refl)
 
-crossed-no-routing : NoRouting crossedSession
-crossed-no-routing paths R = routable-none (crossedSession .block .board) (pairs (crossedSession .nets))
-    (problem-of crossedSession (sound-exact crossedSession .0 crossed-sound)) .1 crossed-unpaired
-    (routing-routable (crossedSession .block .board) (pairs (crossedSession .nets)) paths R)
+wider-demands : map (revisedDemand (widerSession .block .board) (pairs (widerSession .nets)))
+    (rows (widerSession .block .board) ++ columns (widerSession .block .board)) ≡ 5 ∷ 2 ∷ 2 ∷ []
+unfolding everything tally
+wider-demands = refl
+
+wider-row-fails : failing (widerSession .block .board) (pairs (widerSession .nets)) ≡ cut.Row 0 ∷ []
+unfolding everything tally
+wider-row-fails = refl
 
 -- ── case e ──
 two-sound : sound? twoCellsSession ≡ true
@@ -152,28 +181,33 @@ two-routing : Routing twoCells [] []
 unfolding everything
 two-routing = routing-exact twoCells [] [] .0 refl
 
-two-passed : (n : ℕ) → routeRoom twoCellsSession ≤ n → routeRefused twoCellsSession n ≡ none
-two-passed n h = passed twoCellsSession n two-sound h (omega (arith, ap length two-odd)) two-roomy
-
-two-given : (before : List ℕ) → routeRoom twoCellsSession ≤ length before → (a : Result ℕ) (after : List ℕ) → Routes twoCellsSession before a after
-    → (a ≡ yes 1) × (after ≡ writtenInto before (0xE0000000 ∷ []))
+two-answer : (before : List ℕ) → routeRoom twoCellsSession ≤ length before → (a : Result ℕ) (after : List ℕ)
+    → Routes twoCellsSession before a after ↔ ((a ≡ yes 1) × (after ≡ writtenInto before (0xE0000000 ∷ [])))
 unfolding everything
-two-given before h a after R =
-    let k = hands-back twoCellsSession before (two-passed (length before) h) [] two-routing a after R in (k .1 ∙ ap yes (k .2 .counted), k .2 .words)
+two-answer before h a after = let p = passed twoCellsSession (length before) two-sound h (omega (arith, ap length two-odd)) two-roomy in (
+  λ R. let k = hands-back twoCellsSession p [] two-routing R in (k .1 ∙ ap yes (k .2 .counted), k .2 .words),
+  λ e. rw (e .0, e .1) (given p (record { paths = []; routing = two-routing; words = refl; counted = refl })),
+)
 
 pub odd-boards-proved : OddBoardsToBeProved
 odd-boards-proved = record {
+  table = boards-proved;
   odd = diamond-odd;
-  cuts = diamond-cuts;
+  the-rows = diamond-rows;
+  the-columns = diamond-columns;
+  full-rows = diamond-full-rows;
+  full-columns = diamond-full-columns;
   revised = diamond-revised;
-  not-joined = diamond-not-joined;
-  none-exists = diamond-none;
+  not-joined = no-paths diamondSession diamond-sound diamond-few diamond-roomy diamond-unpaired;
+  none-exists = no-routing diamondSession diamond-sound diamond-few diamond-roomy diamond-unpaired;
   roomy = diamond-roomy;
-  answer = λ before h a after R. gives-34 diamondSession before (diamond-passed (length before) h) diamond-none a after R;
-  crossed-roomy = crossed-open;
-  crossed-none = crossed-no-routing;
+  answer = gives-34 diamondSession diamond-sound diamond-few diamond-roomy diamond-unpaired;
   crossed-revised = crossed-fails;
+  crossed-answer = let c = crossed-computed in gives-34 crossedSession (c .0) (omega (arith, c .1)) (c .2) (c .3);
+  wider-revised = wider-demands;
+  wider-fails = wider-row-fails;
+  wider-answer = let c = wider-computed in gives-34 widerSession (c .0) (omega (arith, c .1)) (c .2) (c .3);
   e-odd = two-odd;
   e-routing = two-routing;
-  e-answer = two-given;
+  e-answer = two-answer;
 }
