@@ -68,8 +68,8 @@ routeRefused s room =
 abbrev pub NoRouting : Session → Type 0
 NoRouting s = (paths : List (List Direction)) → Routing (s .block .board) (pairs (s .nets)) paths → ⊥
 
--- Why routing is refused. By the conditions above: 20, 31, 32, 33. Else "34 after 33, place 0, where no cut is overfull and no routing exists" (02, §4);
--- that no cut is overfull is part of passing 33.
+-- Why routing is refused. By the conditions above: 20, 31, 32, 33. Else "34 after 33, place 0, where no cut is overfull and no routing exists"
+-- (02, §4); that no cut is overfull is part of passing 33.
 pub data WhyRefused (s : Session) (room : ℕ) : Refusal → Type 0 where
   by-line : {r : Refusal} → routeRefused s room ≡ some r → WhyRefused s room r
   none-exists : routeRefused s room ≡ none → NoRouting s → WhyRefused s room (refusal 34 0)

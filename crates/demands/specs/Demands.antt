@@ -200,7 +200,8 @@ pub record Demand1 : Type 0 where
   pub route-rightly : (s : Session) (before : List ℕ) (r : RouteAnswer) (after : List ℕ) → Routes (sessionOf s) before (routeAnswer r) after
       → Sound (sessionOf s) → routeRoom (sessionOf s) ≤ length before
       → history.RightlyBoth (sessionOf s) (routeAnswer r) (HandsBack (sessionOf s) before after)
-  pub route-bytes-rightly : (s : Session) (before : List ℕ) (r : RouteAnswer) (after : List ℕ) → RoutesBytes (sessionOf s) before (routeAnswer r) after
+  pub route-bytes-rightly : (s : Session) (before : List ℕ) (r : RouteAnswer) (after : List ℕ)
+      → RoutesBytes (sessionOf s) before (routeAnswer r) after
       → Sound (sessionOf s) → routeRoom (sessionOf s) ≤ length before / 4
       → history.RightlyBoth (sessionOf s) (routeAnswer r) (HandsBackBytes (sessionOf s) before after)
   -- for C: the board's bytes are read first; a refusal is told by its number and place, and leaves the buffer as it was

@@ -1,6 +1,6 @@
 -- The answer for a board, from what its nets leave at the cuts and its odd vertices.
 -- Assumes that no cut is overfull and at most 12 vertices are odd; for what it says of routings, a problem on a convex board.
-use mathlib.Core.Path.{_≡_, refl, sym, _∙_}
+use mathlib.Core.Path.{_≡_, refl, ap, sym, _∙_}
 use mathlib.Core.Bool.{Bool, true, false, cond}
 use mathlib.Core.List.{List, [], _++_}
 use mathlib.Core.Option.{none, some}
@@ -13,32 +13,31 @@ use Rattle.cut.specs.Cut.{overfullCuts}
 use Rattle.cut.specs.Odd.{oddVertices}
 use Rattle.routing_rules.specs.Routing.{Routable}
 use Rattle.corner.specs.Problem.{Problem, Helpers}
-use Rattle.pairing.specs.Search.{pairUp}
+use Rattle.pairing.specs.Search.{pairUp, helpers}
 use Rattle.pairing.specs.Test.{open-exact}
 use Rattle.pairing.specs.Exact.{helpers-open, helpers-found, routable-some}
-use Rattle.pairing_search.specs.View.{Left, Pairs, Few, Helps}
+use Rattle.pairing_search.specs.View.{Left, pairsFound, foundOf, Pairs, Few, Helps}
 use Rattle.pairing_search.specs.declared.FoundPairs.{FoundPairs}
 use Rattle.pairing_search.specs.declared.Odds.{Odds}
 
 module _ (b : Board) (ps : List Pair) (roomy : overfullCuts b ps ≡ []) (o : Odds) (F : Few (oddVertices b ps) o) where
-  searched : pairUp b (length (oddVertices b ps)) (oddVertices b ps) ps ≡ pairUp b (o .count) (oddVertices b ps) ps
-  searched = rw (F .count) refl
+  searched : (m : ℕ) (a : List ℕ) → Left b ps m a → (r : FoundPairs) → Pairs (o .count) (o .list) m a r → pairsFound r ≡ helpers b ps
+  searched m a L r P = P .exact b ps L ∙ rw (F .list, F .count) refl ∙ sym (helpers-open b ps (open-exact b ps .1 roomy))
 
   pub helps-found : (m : ℕ) (a : List ℕ) → Left b ps m a → (r : FoundPairs) → Pairs (o .count) (o .list) m a r → Helps b ps r
   helps-found m a L r P = record {
     few = omega (arith, P .few, F .most);
     long = P .long;
-    exact = P .exact b ps L ∙ rw (F .list, F .count) refl ∙ sym (helpers-open b ps (open-exact b ps .1 roomy));
+    exact = searched m a L r P;
+    whole = P .whole ∙ ap foundOf (searched m a L r P);
   }
 
   -- with no odd vertex no pairs are needed
-  pub helps-none : o .count ≡ 0 → (r : FoundPairs) → r .found ≡ true → r .count ≡ 0 → length (r .pairs) ≡ 6 → Helps b ps r
+  pub helps-none : o .count ≡ 0 → (r : FoundPairs) → r .found ≡ true → r .count ≡ 0 → length (r .pairs) ≡ 6 → r ≡ foundOf (some []) → Helps b ps r
   unfolding pairUp
-  helps-none z r e f l = record {
-    few = omega arith;
-    long = l;
-    exact = rw (e, f) (sym (helpers-open b ps (open-exact b ps .1 roomy) ∙ rw (← F .count, z) refl));
-  }
+  helps-none z r e f l w =
+      let unneeded : some [] ≡ helpers b ps = sym (helpers-open b ps (open-exact b ps .1 roomy) ∙ rw (← F .count, z) refl) in
+      record { few = omega arith; long = l; exact = rw (e, f) unneeded; whole = w ∙ ap foundOf unneeded }
 
 -- what the answer says
 module _ (b : Board) (ps : List Pair) (P : Problem b ps) (r : FoundPairs) (H : Helps b ps r) where

@@ -1,20 +1,20 @@
 -- The search on arrays: the vertices in the last places, the pairs found in the first.
 -- Assumes nothing.
-use mathlib.Core.Path.{_≡_, refl, sym, _∙_}
+use mathlib.Core.Path.{_≡_, refl, ap, ap₂, sym, _∙_}
 use mathlib.Core.Bool.{true, false}
-use mathlib.Core.List.{List, [], _∷_, map}
+use mathlib.Core.List.{List, [], _∷_, _++_, map}
 use mathlib.Core.Option.{Option, none, some}
 use Prim.Native.Nat.{ℕ, zero, suc, _+_, _-_, _≤_, _<_}
 use native.Mathlib.Omega.{arith}
 use native.Mathlib.Numerals.{add-one}
-use lib.ListN.{length, getD, set, take, drop, length-drop, length-map}
-use lib.Seq.{take-suc-set, drop-set-add, drop-drop, getD-drop}
+use lib.ListN.{length, getD, set, take, drop, length-drop, length-map, length-append}
+use lib.Seq.{length-take-le, take-suc-set, drop-set-add, drop-drop, getD-drop}
 use Rattle.board.specs.Board.{Board, at}
 use Rattle.board.specs.declared.Vertex.{Vertex}
 use Rattle.net.specs.declared.Pair.{Pair}
 use Rattle.corner.specs.Pairs.{pair}
 use Rattle.pairing.specs.Search.{open?, others, orElse, firstOf, withPair, pairUp}
-use Rattle.pairing_search.specs.View.{pairsFound}
+use Rattle.pairing_search.specs.View.{pairsFound, noPairs, foundOf}
 use Rattle.pairing.specs.Laws.{attempt, pair-more, attempt-open, attempt-shut}
 use Rattle.pairing_search.specs.declared.FoundPairs.{FoundPairs}
 
@@ -22,6 +22,27 @@ use Rattle.pairing_search.specs.declared.FoundPairs.{FoundPairs}
 pub found-more : (r : FoundPairs) (p : Pair) → r .found ≡ true → r .count < length (r .pairs)
     → some (take (r .count + 1) (set (r .pairs) (r .count) p)) ≡ withPair p (pairsFound r)
 found-more r p e h = rw (e, add-one, take-suc-set) refl
+
+-- and the whole value: it stands in the next place, before those that hold no pair
+put-more : (hs ns : List Pair) (p : Pair) → length hs < length ns
+    → set (hs ++ drop (length hs) ns) (length hs) p ≡ (hs ++ (p ∷ [])) ++ drop (length (hs ++ (p ∷ []))) ns
+put-more [] [] p h = absurd (omega arith)
+put-more [] (n ∷ ns) p h = refl
+put-more (g ∷ hs) [] p h = absurd (omega arith)
+put-more (g ∷ hs) (n ∷ ns) p h = ap (λ l. g ∷ l) (put-more hs ns p (omega arith))
+
+found-put : (hs : List Pair) (p : Pair) → length hs < 6 → (r : FoundPairs) → r ≡ foundOf (some hs)
+    → record { found = true; count = r .count + 1; pairs = set (r .pairs) (r .count) p } ≡ foundOf (some (hs ++ (p ∷ [])))
+found-put hs p h r e = rw e (ap₂ (λ (c : ℕ) (l : List Pair). record { found = true; count = c; pairs = l })
+    (sym (length-append hs (p ∷ []))) (put-more hs noPairs p h))
+
+pub found-whole : (r : FoundPairs) (p : Pair) → r .found ≡ true → r .count < 6 → length (r .pairs) ≡ 6 → r ≡ foundOf (pairsFound r)
+    → record { found = true; count = r .count + 1; pairs = set (r .pairs) (r .count) p }
+    ≡ foundOf (some (take (r .count + 1) (set (r .pairs) (r .count) p)))
+found-whole r p e h l w =
+    let f : pairsFound r ≡ some (take (r .count) (r .pairs)) = rw e refl in
+    found-put (take (r .count) (r .pairs)) p (omega (arith, length-take-le (r .count) (r .pairs) (omega arith))) r (w ∙ ap foundOf f)
+    ∙ ap foundOf (sym (found-more r p e (omega arith) ∙ ap (withPair p) f))
 
 -- the length of an array that is a field
 pub length-unmapped-by : (X Y : Type 0) (f : X → Y) (l : List X) (n : ℕ) → length (map f l) ≡ n → length l ≡ n

@@ -6,7 +6,8 @@ use mathlib.Core.List.{List, [], _∷_, _++_, map}
 use mathlib.Core.Logic.{inl, inr}
 use Prim.Native.Nat.{ℕ, suc, _+_, _-_, _≤_, _<_}
 use native.Mathlib.Omega.{arith}
-use borrow.Author.Tests.{lt-ltb, le-ltb, ltb-true}
+use borrow.Author.Tests.{lt-ltb, le-ltb, ltb-true, ltb-false}
+use lib.Dec.{ltb}
 use lib.ListN.{length, set, drop, length-set}
 use lib.Seq.{drop-cons, drop-set-lt, getD-set-same}
 use Rattle.count.specs.TruthLaws.{bool, clash}
@@ -18,7 +19,7 @@ use Rattle.cut.specs.Odd.{odd?, oddVertices}
 use Rattle.cut.specs.Extent.{linesOf, columnsOf}
 use Rattle.cut_search.specs.Reading.{linesFrom, lines-all, lines-more}
 use Rattle.cut_search.specs.Beyond.{line-none, lines-none}
-use Rattle.pairing_search.specs.View.{noOdds, Few, Collects}
+use Rattle.pairing_search.specs.View.{noOdds, putOdd, oddsOf, Few, Collects}
 use Rattle.pairing_search.specs.declared.Odds.{Odds}
 
 pub few-none : Few [] noOdds
@@ -59,6 +60,24 @@ module _ (vs : List Vertex) (o : Odds) (C : Collects vs o) (v : Vertex) where
     few = λ e. absurd (clash refl e);
   }
 
+-- ── the vertices as the code collects them ──
+odds-size : (vs : List Vertex) → length (oddsOf vs .list) ≡ 12
+odds-size [] = refl
+odds-size (v ∷ vs) = elim (bool (ltb (oddsOf vs .count) 12)) [
+  | inl e ↦ rw e (length-set (oddsOf vs .list) (11 - oddsOf vs .count) v ∙ odds-size vs)
+  | inr e ↦ rw e (odds-size vs)
+]
+
+odds-collect : (vs : List Vertex) → Collects vs (oddsOf vs)
+odds-collect [] = collects-none
+odds-collect (v ∷ vs) = elim (bool (ltb (oddsOf vs .count) 12)) [
+  | inl e ↦ rw e (collects-more vs (oddsOf vs) (odds-collect vs) v (ltb-true _ _ e) (odds-size vs))
+  | inr e ↦ rw e (collects-full vs (oddsOf vs) (odds-collect vs) v (ltb-false _ _ e) (oddsOf vs .list))
+]
+
+pub collected : (vs : List Vertex) (o : Odds) → o ≡ oddsOf vs → Collects vs o
+collected vs o e = rw e (odds-collect vs)
+
 -- ── a line from column c on, and one column more ──
 -- DEFINITION: what a line has from column c on, and then the vertices vs
 abbrev pub lineFrom : (Vertex → Bool) → (l c : ℕ) → List Vertex → List Vertex
@@ -73,44 +92,52 @@ line-step t l c vs h = rw (rising-more c 32 h) (go (t (at l c)) (select t (map (
     go true xs = refl
     go false xs = refl
 
+odds-step : (u : Bool) (v : Vertex) (vs : List Vertex) → cond u (putOdd v (oddsOf vs)) (oddsOf vs) ≡ oddsOf (cond u (v ∷ vs) vs)
+odds-step true v vs = refl
+odds-step false v vs = refl
+
 module _ (b : Board) (ps : List Pair) (l n : ℕ) (all : n ≡ columnsOf b l) (vs : List Vertex) where
   -- before the first turn: past the line's columns nothing is odd
-  pub line-first : (o : Odds) → Collects vs o → Collects (lineFrom (odd? b ps) l (n - 0) vs) o
-  line-first o C =
+  pub line-first : (o : Odds) → o ≡ oddsOf vs → o ≡ oddsOf (lineFrom (odd? b ps) l (n - 0) vs)
+  line-first o e =
       let z : n - 0 ≡ n = omega arith in
-      rw (z, line-none b ps l n all) C
+      rw (z, line-none b ps l n all) e
 
-  -- turn k: `with_vertex` puts the vertex at column n - 1 - k in front where u says that it is odd
-  pub line-turn : (k : ℕ) → k < n → (o r : Odds) (u : Bool) → u ≡ odd? b ps (at l (n - 1 - k))
-      → ((ws : List Vertex) → Collects ws o → Collects (cond u (at l (n - 1 - k) ∷ ws) ws) r)
-      → Collects (lineFrom (odd? b ps) l (n - k) vs) o → Collects (lineFrom (odd? b ps) l (n - (k + 1)) vs) r
-  line-turn k h o r u e W C =
-      let p : n - (k + 1) ≡ n - 1 - k = omega arith in let q : n - k ≡ n - 1 - k + 1 = omega arith in
-      rw (p, line-step (odd? b ps) l (n - 1 - k) vs (omega arith)) (rw e at (W (lineFrom (odd? b ps) l (n - 1 - k + 1) vs) (rw q at C)))
+  -- turn k: the vertex at column n - 1 - k is put in front where u says that it is odd
+  pub line-turn : (k : ℕ) → k < n → (o r : Odds) (u : Bool) → u ≡ odd? b ps (at l (n - 1 - k)) → r ≡ cond u (putOdd (at l (n - 1 - k)) o) o
+      → o ≡ oddsOf (lineFrom (odd? b ps) l (n - k) vs) → r ≡ oddsOf (lineFrom (odd? b ps) l (n - (k + 1)) vs)
+  line-turn k h o r u e f g =
+      let c = n - 1 - k in let p : n - (k + 1) ≡ c = omega arith in let q : n - k ≡ c + 1 = omega arith in
+      let d : o ≡ oddsOf (lineFrom (odd? b ps) l (c + 1) vs) = rw q at g in
+      f
+      ∙ ap (λ (t : Bool). cond t (putOdd (at l c) o) o) e
+      ∙ ap (λ (x : Odds). cond (odd? b ps (at l c)) (putOdd (at l c) x) x) d
+      ∙ odds-step (odd? b ps (at l c)) (at l c) (lineFrom (odd? b ps) l (c + 1) vs)
+      ∙ ap oddsOf (sym (ap (λ (m : ℕ). lineFrom (odd? b ps) l m vs) p ∙ line-step (odd? b ps) l c vs (omega arith)))
 
-  pub line-last : (k : ℕ) → k ≤ n → n ≤ k → (o : Odds) → Collects (lineFrom (odd? b ps) l (n - k) vs) o → Collects (lineFrom (odd? b ps) l 0 vs) o
-  line-last k h g o C =
+  pub line-last : (k : ℕ) → k ≤ n → n ≤ k → (o : Odds) → o ≡ oddsOf (lineFrom (odd? b ps) l (n - k) vs) → o ≡ oddsOf (lineFrom (odd? b ps) l 0 vs)
+  line-last k h g o e =
       let z : n - k ≡ 0 = omega arith in
-      rw z at C
+      rw z at e
 
 -- ── all lines from l on, and one line more ──
 module _ (b : Board) (ps : List Pair) (n : ℕ) (all : n ≡ linesOf b) where
-  pub lines-first : (o : Odds) → Collects [] o → Collects (select (odd? b ps) (linesFrom (n - 0))) o
-  lines-first o C =
+  pub lines-first : (o : Odds) → o ≡ noOdds → o ≡ oddsOf (select (odd? b ps) (linesFrom (n - 0)))
+  lines-first o e =
       let z : n - 0 ≡ n = omega arith in
-      rw (z, lines-none b ps n all) C
+      rw (z, lines-none b ps n all) e
 
   -- turn k: `with_line` puts the odd vertices of line n - 1 - k in front
   pub lines-turn : (k : ℕ) → k < n → (o r : Odds)
-      → ((vs : List Vertex) → Collects vs o → Collects (lineFrom (odd? b ps) (n - 1 - k) 0 vs) r)
-      → Collects (select (odd? b ps) (linesFrom (n - k))) o → Collects (select (odd? b ps) (linesFrom (n - (k + 1)))) r
-  lines-turn k h o r W C =
+      → ((vs : List Vertex) → o ≡ oddsOf vs → r ≡ oddsOf (lineFrom (odd? b ps) (n - 1 - k) 0 vs))
+      → o ≡ oddsOf (select (odd? b ps) (linesFrom (n - k))) → r ≡ oddsOf (select (odd? b ps) (linesFrom (n - (k + 1))))
+  lines-turn k h o r W e =
       let l = n - 1 - k in let p : n - (k + 1) ≡ l = omega arith in let q : n - k ≡ l + 1 = omega arith in
       rw (p, lines-more l (omega arith), select-append (odd? b ps) (map (at l) (rising 0 (32 - 0))) (linesFrom (l + 1)))
-      (W (select (odd? b ps) (linesFrom (l + 1))) (rw q at C))
+      (W (select (odd? b ps) (linesFrom (l + 1))) (rw q at e))
 
-  pub lines-last : (k : ℕ) → k ≤ n → n ≤ k → (o : Odds) → Collects (select (odd? b ps) (linesFrom (n - k))) o → Collects (oddVertices b ps) o
+  pub lines-last : (k : ℕ) → k ≤ n → n ≤ k → (o : Odds) → o ≡ oddsOf (select (odd? b ps) (linesFrom (n - k))) → o ≡ oddsOf (oddVertices b ps)
   unfolding oddVertices
-  lines-last k h g o C =
+  lines-last k h g o e =
       let z : n - k ≡ 0 = omega arith in
-      rw (z, lines-all) at C
+      rw (z, lines-all) at e

@@ -1,11 +1,11 @@
 -- Definitions only: the code's values, by the definitions of Search. Nothing is proved here: Slack has the laws.
 use mathlib.Core.Path.{_≡_}
 use mathlib.Core.Bool.{true, false, cond}
-use mathlib.Core.List.{List}
+use mathlib.Core.List.{List, [], _∷_, _++_}
 use mathlib.Core.Option.{Option, none, some}
 use Prim.Native.Nat.{ℕ, _+_, _-_, _≤_, _<_}
 use lib.Dec.{ltb}
-use lib.ListN.{length, getD, take, drop, replicate}
+use lib.ListN.{length, getD, set, take, drop, replicate}
 use Rattle.count.specs.Truth.{one}
 use Rattle.board.specs.Board.{Board, height, at}
 use Rattle.board.specs.declared.Vertex.{Vertex}
@@ -13,6 +13,7 @@ use Rattle.net.specs.declared.Pair.{Pair}
 use Rattle.cut.specs.declared.Cut.{Cut}
 use Rattle.cut.specs.declared.Cut.the-variants.{Row, Column}
 use Rattle.cut.specs.Cut.{edges, crosses, crossing}
+use Rattle.corner.specs.Pairs.{pair}
 use Rattle.pairing.specs.Search.{pairUp, helpers}
 use Rattle.pairing_search.specs.declared.Slack.{Slack}
 use Rattle.pairing_search.specs.declared.FoundPairs.{FoundPairs}
@@ -36,16 +37,37 @@ pub record Lowers (p : Pair) (m : ℕ) (a : List ℕ) (r : Slack) : Type 0 where
 abbrev pub pairsFound : FoundPairs → Option (List Pair)
 pairsFound r = cond (r .found) (some (take (r .count) (r .pairs))) none
 
+-- six places with no pair
+abbrev pub noPairs : List Pair
+noPairs = replicate 6 (pair (at 0 0) (at 0 0))
+
+-- what the code answers: the pairs in the first places, and no pair after them; or none
+abbrev pub foundOf : Option (List Pair) → FoundPairs
+foundOf none = record { found = false; count = 0; pairs = noPairs }
+foundOf (some hs) = record { found = true; count = length hs; pairs = hs ++ drop (length hs) noPairs }
+
 -- the answer for the last n of 12 vertices
 pub record Pairs (n : ℕ) (vs : List Vertex) (m : ℕ) (a : List ℕ) (r : FoundPairs) : Type 0 where
   pub few : r .count + r .count ≤ n
   pub long : length (r .pairs) ≡ 6
+  pub whole : r ≡ foundOf (pairsFound r)
   pub exact : (b : Board) (qs : List Pair) → Left b qs m a → pairsFound r ≡ pairUp b n (drop (12 - n) vs) qs
 
 -- ── odd vertices ──
 -- none
 abbrev pub noOdds : Odds
 noOdds = record { many = false; count = 0; list = replicate 12 (at 0 0) }
+
+-- one vertex more in front; of more than 12 the last 12 stay
+abbrev pub putOdd : Vertex → Odds → Odds
+putOdd v o =
+    cond (ltb (o .count) 12) (record { many = o .many; count = o .count + 1; list = set (o .list) (11 - o .count) v })
+    (record { many = true; count = o .count; list = o .list })
+
+-- all of these, the last one first
+abbrev pub oddsOf : List Vertex → Odds
+oddsOf [] = noOdds
+oddsOf (v ∷ vs) = putOdd v (oddsOf vs)
 
 -- at most 12, in the last places
 pub record Few (vs : List Vertex) (r : Odds) : Type 0 where
@@ -63,3 +85,4 @@ pub record Helps (b : Board) (ps : List Pair) (r : FoundPairs) : Type 0 where
   pub few : r .count ≤ 6
   pub long : length (r .pairs) ≡ 6
   pub exact : pairsFound r ≡ helpers b ps
+  pub whole : r ≡ foundOf (helpers b ps)

@@ -1,7 +1,8 @@
 // Helper pairs for boards with odd vertices: the search for a pairing of these vertices that leaves no cut overfull.
 ghost use mathlib.Core.Path.{_≡_};
 ghost use mathlib.Core.Bool.{true, false, cond};
-ghost use mathlib.Core.List.{List, [], _∷_, _++_, map};
+ghost use mathlib.Core.List.{List, [], _++_, map};
+ghost use mathlib.Core.Option.{some};
 ghost use Prim.Native.Nat.{_+_, _≤_, _<_};
 ghost use lib.ListN.{length, getD, set};
 ghost use Rattle.count.specs.Lists.{upTo, select};
@@ -14,7 +15,20 @@ ghost use Rattle.net_terminals.specs.Counts.{Counts};
 ghost use Rattle.cut.specs.Cut.{overfullCuts};
 ghost use Rattle.cut.specs.Odd.{odd?, oddVertices};
 ghost use Rattle.pairing.specs.Search.{withPair};
-ghost use Rattle.pairing_search.specs.View.{cutAt, Left, Lowers, pairsFound, Pairs, noOdds, Collects, Few, Helps};
+ghost use Rattle.pairing_search.specs.View.{
+  cutAt,
+  Left,
+  Lowers,
+  pairsFound,
+  noPairs,
+  foundOf,
+  Pairs,
+  noOdds,
+  putOdd,
+  oddsOf,
+  Few,
+  Helps,
+};
 use board::Board;
 use board::Vertex;
 use cut::Cut;
@@ -78,7 +92,7 @@ fn slack_with(left: [u8; 62], m: u8, p: Pair) -> Slack
 }
 
 fn no_pairs() -> [Pair; 6]
-    ensures { λ r. ⌜ length r ≡ 6 ⌝ }
+    ensures { λ r. ⌜ r ≡ noPairs ⌝ }
 {
     let nowhere = Vertex { line: 0, column: 0 };
     [Pair {
@@ -89,7 +103,7 @@ fn no_pairs() -> [Pair; 6]
 
 // No pairs, where there is nothing to pair.
 fn no_helpers() -> FoundPairs
-    ensures { λ r. ⌜ (r .found ≡ true) × (r .count ≡ 0) × (length (r .pairs) ≡ 6) ⌝ }
+    ensures { λ r. ⌜ (r .found ≡ true) × (r .count ≡ 0) × (length (r .pairs) ≡ 6) × (r ≡ foundOf (some [])) ⌝ }
 {
     FoundPairs {
         found: true,
@@ -101,7 +115,8 @@ fn no_helpers() -> FoundPairs
 // One pair more behind those found.
 fn with_pair(r: FoundPairs, p: Pair) -> FoundPairs
     requires { ⌜ (r .found ≡ true) × (r .count < 6) ⌝ }
-    ensures { λ s. ⌜ (s .count ≡ r .count + 1) × (pairsFound s ≡ withPair p (pairsFound r)) × (length (s .pairs) ≡ 6) ⌝ }
+    ensures { λ s. ⌜ (s .count ≡ r .count + 1) × (pairsFound s ≡ withPair p (pairsFound r)) × (length (s .pairs) ≡ 6)
+        × (r ≡ foundOf (pairsFound r) → s ≡ foundOf (pairsFound s)) ⌝ }
 {
     let at = r.count;
     let mut pairs = r.pairs;
@@ -171,7 +186,7 @@ fn slack_of(b: Board, nets: [Place; 64]) -> [u8; 62]
 
 // The vertices with one more in front, where it is odd.
 fn with_vertex(o: Odds, odd: bool, v: Vertex) -> Odds
-    ensures { λ r. ⌜ ((vs : List vertex.Vertex) → Collects vs o → Collects (cond odd (v ∷ vs) vs) r) ⌝ }
+    ensures { λ r. ⌜ r ≡ cond odd (putOdd v o) o ⌝ }
 {
     let n = o.count;
     let mut list = o.list;
@@ -199,8 +214,8 @@ fn with_vertex(o: Odds, odd: bool, v: Vertex) -> Odds
 // The vertices with the odd ones of a line in front, from its last column back.
 fn with_line(b: Board, counts: [u8; 1024], line: u8, o: Odds) -> Odds
     requires { ⌜ line < 32 ⌝ }
-    ensures { λ r. ⌜ ((ps : List pair.Pair) (vs : List vertex.Vertex) → Counts ps counts → Collects vs o
-        → Collects (select (odd? (boardOf b) ps) (map (at line) (upTo 32)) ++ vs) r) ⌝ }
+    ensures { λ r. ⌜ ((ps : List pair.Pair) (vs : List vertex.Vertex) → Counts ps counts → o ≡ oddsOf vs
+        → r ≡ oddsOf (select (odd? (boardOf b) ps) (map (at line) (upTo 32)) ++ vs)) ⌝ }
 {
     let mut odds = o;
     let columns = cut::columns_of(b, line);
@@ -227,7 +242,7 @@ pub fn no_odds() -> Odds
 
 // The odd vertices, from the last line up, on the lines and columns that the board has.
 pub fn odd_vertices(b: Board, nets: [Place; 64]) -> Odds
-    ensures { λ r. ⌜ Collects (oddVertices (boardOf b) (pairsOf nets)) r ⌝ }
+    ensures { λ r. ⌜ r ≡ oddsOf (oddVertices (boardOf b) (pairsOf nets)) ⌝ }
 {
     let counts = net_terminals::count_terminals(nets);
     let mut odds = no_odds();

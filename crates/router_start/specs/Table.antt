@@ -1,10 +1,10 @@
 -- Definitions only: the table of pairs. Row i has the ends of pair i as words, and the number i; each pair is noted with the ends that it was made
 -- with. Nothing is proved here.
 use mathlib.Core.Path.{_≡_}
-use mathlib.Core.List.{List, _++_, map}
+use mathlib.Core.List.{List, map}
 use Prim.Native.Nat.{ℕ, _+_, _*_, _<_}
 use lib.ListN.{length, getD, set}
-use Rattle.count.specs.Lists.{upTo}
+use Rattle.count.specs.Lists.{rising, upTo}
 use Rattle.board.specs.Board.{at}
 use Rattle.board.specs.declared.Vertex.{Vertex}
 use Rattle.net.specs.declared.Pair.{Pair}
@@ -12,7 +12,7 @@ use Rattle.net.specs.declared.Held.{Held}
 use Rattle.net.specs.declared.Held.the-variants.{Nothing, Ends}
 use Rattle.router_notes.specs.Limits.{pairLimit}
 use Rattle.router_ends.specs.View.{Low}
-use Rattle.router_start.specs.Front.{inFront}
+use Rattle.router_start.specs.Front.{inFront, putFrom}
 
 abbrev pub wordOf : Vertex → ℕ
 wordOf v = v .line * 32 + v .column
@@ -55,10 +55,14 @@ pub record Fills (ps : List Pair) (n : ℕ) (la lb ids s1 s2 la' lb' ids' s1' s2
   pub s1-is : s1' ≡ inFront (map firstWord ps) s1
   pub s2-is : s2' ≡ inFront (map secondWord ps) s2
 
--- where ps fill the first k rows of cleared arrays, they and then hs fill the first r
-pub record FillsOn (hs : List Pair) (k : ℕ) (la lb ids s1 s2 : List ℕ) (r : ℕ) (la' lb' ids' s1' s2' : List ℕ) : Type 0 where
-  pub fills : (ps : List Pair) (la₀ lb₀ ids₀ s1₀ s2₀ : List ℕ) → Clear la₀ lb₀ ids₀ s1₀ s2₀ → Fills ps k la₀ lb₀ ids₀ s1₀ s2₀ la lb ids s1 s2
-      → Fills (ps ++ hs) r la₀ lb₀ ids₀ s1₀ s2₀ la' lb' ids' s1' s2'
+-- the pairs' rows are written from row k on, and no others; r is the row after them
+pub record PutsOn (hs : List Pair) (k : ℕ) (la lb ids s1 s2 : List ℕ) (r : ℕ) (la' lb' ids' s1' s2' : List ℕ) : Type 0 where
+  pub count : r ≡ k + length hs
+  pub la-is : la' ≡ putFrom k (map firstWord hs) la
+  pub lb-is : lb' ≡ putFrom k (map secondWord hs) lb
+  pub ids-is : ids' ≡ putFrom k (rising k (length hs)) ids
+  pub s1-is : s1' ≡ putFrom k (map firstWord hs) s1
+  pub s2-is : s2' ≡ putFrom k (map secondWord hs) s2
 
 -- row k is written
 pub record Row (p : Pair) (k : ℕ) (la lb ids s1 s2 la' lb' ids' s1' s2' : List ℕ) : Type 0 where

@@ -7,7 +7,7 @@ use Prim.Native.Nat.{ℕ, zero, suc, _+_, _≤_, _<_}
 use native.Mathlib.Omega.{arith}
 use native.Mathlib.Numerals.{add-one}
 use lib.ListN.{length, getD, set, take, length-append, length-map, List·getD-map}
-use lib.Seq.{take-suc}
+use lib.Seq.{length-take-le, take-suc}
 use Rattle.count.specs.TruthLaws.{le-or-lt}
 use Rattle.count.specs.Lists.{rising, upTo}
 use Rattle.net.specs.View.{nothing, heldThen, pairsOf}
@@ -17,9 +17,9 @@ use Rattle.net.specs.declared.Held.the-variants.{Nothing, Ends}
 use Rattle.net.specs.declared.Place.{Place}
 use Rattle.router_notes.specs.Limits.{pairLimit}
 use Rattle.router_ends.specs.View.{Low}
-use Rattle.router_start.specs.Front.{inFront}
+use Rattle.router_start.specs.Front.{inFront, putFrom}
 use Rattle.router_start.specs.FrontLaws.{front-size, front-get, front-past, front-more}
-use Rattle.router_start.specs.Table.{firstWord, secondWord, noPair, Clear, Table, Fills, FillsOn, Row, TakesIn}
+use Rattle.router_start.specs.Table.{firstWord, secondWord, noPair, Clear, Table, Fills, PutsOn, Row, TakesIn}
 
 -- ── the columns of a table ──
 -- the next pair's word
@@ -104,22 +104,69 @@ unfolding pairsOf
 fills-none nets la lb ids s1 s2 = record { count = refl; la-is = refl; lb-is = refl; ids-is = refl; s1-is = refl; s2-is = refl }
 
 -- ── more pairs after those that are in ──
-pub fills-on-none : (hs : List Pair) (k : ℕ) (la lb ids s1 s2 : List ℕ) → FillsOn (take 0 hs) k la lb ids s1 s2 (k + 0) la lb ids s1 s2
-fills-on-none hs k la lb ids s1 s2 = record {
-  fills = λ ps la₀ lb₀ ids₀ s1₀ s2₀ C F. let z : k + 0 ≡ k = omega arith in rw (append-nil ps, z) F;
-}
+put-snoc : (xs : List ℕ) (k x : ℕ) (a : List ℕ) → putFrom k (xs ++ (x ∷ [])) a ≡ set (putFrom k xs a) (k + length xs) x
+put-snoc [] k x a = let z : k + 0 ≡ k = omega arith in rw z refl
+put-snoc (y ∷ xs) k x a = let z : k + suc (length xs) ≡ suc k + length xs = omega arith in rw z (put-snoc xs (suc k) x (set a k y))
 
-pub fills-on-more : (hs : List Pair) (k i : ℕ) → i < length hs → k + i < 64
-    → {la lb ids s1 s2 la' lb' ids' s1' s2' la'' lb'' ids'' s1'' s2'' : List ℕ}
-    → FillsOn (take i hs) k la lb ids s1 s2 (k + i) la' lb' ids' s1' s2'
-    → Row (getD hs i noPair) (k + i) la' lb' ids' s1' s2' la'' lb'' ids'' s1'' s2''
-    → FillsOn (take (i + 1) hs) k la lb ids s1 s2 (k + (i + 1)) la'' lb'' ids'' s1'' s2''
-fills-on-more hs k i h few F R = record {
-  fills = λ ps la₀ lb₀ ids₀ s1₀ s2₀ C G.
-      let z : k + (i + 1) ≡ k + i + 1 = omega arith in
-      rw (z, add-one i, take-suc hs i noPair h, ← append-assoc ps (take i hs) (getD hs i noPair ∷ []))
-      (fills-row C few (F .fills ps la₀ lb₀ ids₀ s1₀ s2₀ C G) (getD hs i noPair) R);
-}
+pub puts-none : (hs : List Pair) (k : ℕ) (la lb ids s1 s2 : List ℕ) → PutsOn (take 0 hs) k la lb ids s1 s2 (k + 0) la lb ids s1 s2
+puts-none hs k la lb ids s1 s2 = record { count = refl; la-is = refl; lb-is = refl; ids-is = refl; s1-is = refl; s2-is = refl }
+
+module _ (hs : List Pair) (k i : ℕ) (h : i < length hs) where
+  taken : length (take i hs) ≡ i
+  taken = length-take-le i hs (omega arith)
+
+  next : take (i + 1) hs ≡ take i hs ++ (getD hs i noPair ∷ [])
+  next = rw add-one (take-suc hs i noPair h)
+
+  counted : length (take (i + 1) hs) ≡ suc i
+  counted = ap length next ∙ rw (length-append, taken) (omega arith)
+
+  word-put : (f : Pair → ℕ) (a now : List ℕ) → now ≡ putFrom k (map f (take i hs)) a
+      → set now (k + i) (f (getD hs i noPair)) ≡ putFrom k (map f (take (i + 1) hs)) a
+  word-put f a now e =
+      let x = f (getD hs i noPair) in
+      let l : length (map f (take i hs)) ≡ i = length-map (take i hs) f ∙ taken in
+      ap (λ (m : List ℕ). set m (k + i) x) e
+      ∙ ap (λ (n : ℕ). set (putFrom k (map f (take i hs)) a) (k + n) x) (sym l)
+      ∙ sym (put-snoc (map f (take i hs)) k x a)
+      ∙ ap (λ (m : List ℕ). putFrom k m a) (sym (ap (map f) next ∙ map-append f (take i hs) (getD hs i noPair ∷ [])))
+
+  number-put : (a now : List ℕ) → now ≡ putFrom k (rising k (length (take i hs))) a
+      → set now (k + i) (k + i) ≡ putFrom k (rising k (length (take (i + 1) hs))) a
+  number-put a now e =
+      ap (λ (m : List ℕ). set m (k + i) (k + i)) (e ∙ ap (λ (n : ℕ). putFrom k (rising k n) a) taken)
+      ∙ ap (λ (n : ℕ). set (putFrom k (rising k i) a) (k + n) (k + i)) (sym (length-numbers k i))
+      ∙ sym (put-snoc (rising k i) k (k + i) a)
+      ∙ ap (λ (m : List ℕ). putFrom k m a) (sym (ap (rising k) counted ∙ rising-end k i))
+
+  pub puts-more : {la lb ids s1 s2 la' lb' ids' s1' s2' la'' lb'' ids'' s1'' s2'' : List ℕ}
+      → PutsOn (take i hs) k la lb ids s1 s2 (k + i) la' lb' ids' s1' s2'
+      → Row (getD hs i noPair) (k + i) la' lb' ids' s1' s2' la'' lb'' ids'' s1'' s2''
+      → PutsOn (take (i + 1) hs) k la lb ids s1 s2 (k + (i + 1)) la'' lb'' ids'' s1'' s2''
+  puts-more P R = record {
+    count = omega (arith, counted);
+    la-is = R .la-is ∙ word-put firstWord _ _ (P .la-is);
+    lb-is = R .lb-is ∙ word-put secondWord _ _ (P .lb-is);
+    ids-is = R .ids-is ∙ number-put _ _ (P .ids-is);
+    s1-is = R .s1-is ∙ word-put firstWord _ _ (P .s1-is);
+    s2-is = R .s2-is ∙ word-put secondWord _ _ (P .s2-is);
+  }
+
+-- behind the pairs that a table holds
+fills-on : (hs ps : List Pair) (k : ℕ) → k + length hs ≤ 64 → {la₀ lb₀ ids₀ s1₀ s2₀ la lb ids s1 s2 : List ℕ} → Clear la₀ lb₀ ids₀ s1₀ s2₀
+    → Fills ps k la₀ lb₀ ids₀ s1₀ s2₀ la lb ids s1 s2
+    → Fills (ps ++ hs) (k + length hs) la₀ lb₀ ids₀ s1₀ s2₀ (putFrom k (map firstWord hs) la) (putFrom k (map secondWord hs) lb)
+    (putFrom k (rising k (length hs)) ids) (putFrom k (map firstWord hs) s1) (putFrom k (map secondWord hs) s2)
+fills-on [] ps k b C F = let z : k + 0 ≡ k = omega arith in rw (append-nil ps, z) F
+fills-on (h ∷ hs) ps k b C F =
+    let z : k + suc (length hs) ≡ suc k + length hs = omega arith in
+    let row = fills-row C (omega arith) F h (record { la-is = refl; lb-is = refl; ids-is = refl; s1-is = refl; s2-is = refl }) in
+    rw (z, ← append-assoc ps (h ∷ []) hs) (fills-on hs (ps ++ (h ∷ [])) (suc k) (omega arith) C (rw add-one at row))
+
+pub puts-fill : (hs : List Pair) (k : ℕ) → k + length hs ≤ 64 → {la lb ids s1 s2 la' lb' ids' s1' s2' : List ℕ} {r : ℕ}
+    → PutsOn hs k la lb ids s1 s2 r la' lb' ids' s1' s2' → {ps : List Pair} {la₀ lb₀ ids₀ s1₀ s2₀ : List ℕ} → Clear la₀ lb₀ ids₀ s1₀ s2₀
+    → Fills ps k la₀ lb₀ ids₀ s1₀ s2₀ la lb ids s1 s2 → Fills (ps ++ hs) r la₀ lb₀ ids₀ s1₀ s2₀ la' lb' ids' s1' s2'
+puts-fill hs k b P {ps} C F = rw (P .count, P .la-is, P .lb-is, P .ids-is, P .s1-is, P .s2-is) (fills-on hs ps k b C F)
 
 -- ── the rows of a table that is filled ──
 module _ {la lb ids s1 s2 : List ℕ} (C : Clear la lb ids s1 s2) {ps : List Pair} {n : ℕ} (few : n ≤ 64) {la' lb' ids' s1' s2' : List ℕ}

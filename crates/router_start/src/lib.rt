@@ -5,7 +5,7 @@ ghost use lib.ListN.{length, take};
 ghost use Rattle.board.specs.View.{boardOf};
 ghost use Rattle.net.specs.View.{pairsOf};
 ghost use Rattle.router_start.specs.Lines.{Lined};
-ghost use Rattle.router_start.specs.Table.{wordOf, Clear, Fills, FillsOn, Row, TakesIn};
+ghost use Rattle.router_start.specs.Table.{wordOf, Clear, Fills, PutsOn, Row, TakesIn};
 use board::Board;
 use board::Vertex;
 use net::Held;
@@ -129,7 +129,7 @@ pub fn fill_helpers(
     s2: &mut [u16; PAIRS],
 ) -> usize
     requires { ⌜ (count ≤ 6) × (k + count ≤ 64) ⌝ }
-    ensures { λ r. ⌜ FillsOn (take count pairs) k (now (la .entry)) (now (lb .entry)) (now (ids .entry)) (now (s1 .entry)) (now (s2 .entry))
+    ensures { λ r. ⌜ PutsOn (take count pairs) k (now (la .entry)) (now (lb .entry)) (now (ids .entry)) (now (s1 .entry)) (now (s2 .entry))
         r (now (la .exit)) (now (lb .exit)) (now (ids .exit)) (now (s1 .exit)) (now (s2 .exit)) ⌝ }
     ensures { λ r. ⌜ r ≡ k + count ⌝ }
 {

@@ -2,13 +2,14 @@
 use native.Mathlib.Omega.{arith}
 use borrow.Author.Needs.{needs}
 use Prim.Native.Nat.{ℕ, _+_, _-_, _≤_, _<_}
-use mathlib.Core.Path.{_≡_, refl, _∙_}
+use mathlib.Core.Path.{_≡_, refl, ap, sym, _∙_}
+use mathlib.Core.Bool.{false}
 use mathlib.Core.List.{List, []}
 use lib.ListN.{length, drop}
 use Rattle.board.specs.Board.{Board}
 use Rattle.net.specs.declared.Pair.{Pair}
 use Rattle.pairing.specs.Search.{firstOf, pairUp}
-use Rattle.pairing_search.specs.View.{Left}
+use Rattle.pairing_search.specs.View.{Left, pairsFound, foundOf}
 use Rattle.pairing.specs.Laws.{attempt}
 use Rattle.pairing_search.specs.Arrays.{loop-start, loop-none, loop-some, loop-end, pairAt, attempts}
 use Rattle.pairing_search.specs.Turn.{found-some, found-none, turn-full, turn-found}
@@ -72,6 +73,7 @@ pair-up-returns t c =
     let at-if1 = c .before in let args = at-if1 .before .args in let r = c .no-helpers in record {
       few = omega (arith, r .ensures .1);
       long = r .ensures .2;
+      whole = let e : pairsFound (r .result) ≡ some [] = rw (r .ensures .0, r .ensures .1) refl in r .ensures .3 ∙ ap foundOf (sym e);
       exact = λ b qs L. rw (r .ensures .0, r .ensures .1) (start (args .n) (at-if1 .if1 .taken) b (drop (12 - args .n) (args .t2)) qs);
     }
   where
@@ -136,6 +138,7 @@ pair-up-returns-2 t c =
     record {
       few = omega (arith, few, r .ensures .few, c .with-pair .ensures .0);
       long = c .with-pair .ensures .2;
+      whole = c .with-pair .ensures .3 (r .ensures .whole);
       exact = λ b qs L.
           let e = turn-found b qs n vs j (omega arith) (omega (arith, few)) (args .m) (args .left) L (slack .result) (slack .ensures)
           (at-if2 .if2 .taken) (others .result) (others .ensures) (r .result) (r .ensures) in
@@ -171,7 +174,8 @@ pair-up-returns-3 t c =
     let args = c .before .before .before .before .before .args in let at-loop = c .before .before .loop in let n = args .n in let vs = args .t2 in
     record {
       few = omega arith;
-      long = c .no-pairs .ensures;
+      long = ap length (c .no-pairs .ensures);
+      whole = ap (λ l. record { found = false; count = 0; pairs = l }) (c .no-pairs .ensures);
       exact = λ b qs L. loop-end (attempts b vs n qs) _ (at-loop .j) (n - 1) (c .before .loop-test .left) (at-loop .inv .2 b qs L);
     }
 

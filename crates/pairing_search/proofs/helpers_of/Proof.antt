@@ -18,7 +18,7 @@ returns : tie.Need-returns
 returns c =
     let at-args = c .before .before in let args = at-args .args in let r = c .no-helpers in
     helps-none (boardOf (args .b)) (pairsOf (args .nets)) (at-args .pre .0 .1) (args .odds) (at-args .pre .1) (c .before .if1 .taken) (r .result)
-    (r .ensures .0) (r .ensures .1) (r .ensures .2)
+    (r .ensures .0) (r .ensures .1) (r .ensures .2) (r .ensures .3)
 
 slack-of-requires : tie.Need-slack-of-requires
 slack-of-requires c κs = search needs

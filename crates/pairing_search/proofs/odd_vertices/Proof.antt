@@ -11,8 +11,8 @@ use Rattle.net_terminals.specs.Counts.{Counts}
 use Rattle.cut.specs.Odd.{odd?}
 use Rattle.cut.specs.Extent.{linesOf}
 use Rattle.cut_search.specs.Reading.{linesFrom}
-use Rattle.pairing_search.specs.View.{Collects}
-use Rattle.pairing_search.specs.Collect.{collects-none, lines-first, lines-turn, lines-last}
+use Rattle.pairing_search.specs.View.{oddsOf}
+use Rattle.pairing_search.specs.Collect.{lines-first, lines-turn, lines-last}
 use borrow.Author.Needs.{needs}
 use Rattle.pairing_search.proofs.odd_vertices.Statement.{statement}
 use Rattle.pairing_search.proofs.odd_vertices.Tie as tie
@@ -26,7 +26,7 @@ use Rattle.pairing_search.proofs.with_line.Reads as with-line-reads
 abbrev Inv-loop : tie.InvT-loop
 Inv-loop b counts odds₀ lines k₀ odds k =
     (k ≤ lines) × (lines ≡ linesOf (boardOf b))
-    × ((ps : List Pair) → Counts ps counts → Collects (select (odd? (boardOf b) ps) (linesFrom (lines - k))) odds)
+    × ((ps : List Pair) → Counts ps counts → odds ≡ oddsOf (select (odd? (boardOf b) ps) (linesFrom (lines - k))))
 
 abbrev μ-loop : tie.MeasureT-loop
 μ-loop b counts odds₀ lines k₀ odds k = lines - k
@@ -46,7 +46,7 @@ loop-holds c =
       omega arith,
       n .ensures,
       λ ps C. lines-first (boardOf (args .b)) ps (n .result) (n .ensures) (at-odds .no-odds .result)
-          (rw (at-odds .no-odds .ensures) collects-none),
+          (at-odds .no-odds .ensures),
     )
 
 sub-with-line : tie.Need-sub-with-line Inv-loop μ-loop

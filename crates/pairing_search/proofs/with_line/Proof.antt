@@ -13,7 +13,7 @@ use Rattle.cut.specs.Odd.{odd?}
 use Rattle.cut.specs.Extent.{columnsOf}
 use Rattle.cut_search.specs.Found.{oddWith}
 use Rattle.cut_search.specs.Laws.{odd-counted}
-use Rattle.pairing_search.specs.View.{Collects}
+use Rattle.pairing_search.specs.View.{oddsOf}
 use Rattle.pairing_search.specs.Collect.{lineFrom, line-first, line-turn, line-last}
 use borrow.Author.Needs.{needs}
 use Rattle.pairing_search.proofs.with_line.Statement.{statement}
@@ -28,8 +28,8 @@ use Rattle.pairing_search.proofs.with_vertex.Reads as with-vertex-reads
 abbrev Inv-loop : tie.InvT-loop
 Inv-loop b line counts odds₀ columns k₀ odds k =
     (k ≤ columns) × (columns ≡ columnsOf (boardOf b) line)
-    × ((ps : List Pair) (vs : List Vertex) → Counts ps counts → Collects vs odds₀
-    → Collects (lineFrom (odd? (boardOf b) ps) line (columns - k) vs) odds)
+    × ((ps : List Pair) (vs : List Vertex) → Counts ps counts → odds₀ ≡ oddsOf vs
+    → odds ≡ oddsOf (lineFrom (odd? (boardOf b) ps) line (columns - k) vs))
 
 abbrev μ-loop : tie.MeasureT-loop
 μ-loop b line counts odds₀ columns k₀ odds k = columns - k

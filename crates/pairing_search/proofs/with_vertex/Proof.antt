@@ -1,6 +1,7 @@
 -- `with_vertex` puts an odd vertex in front, or tells that there are more than 12.
-use Rattle.pairing_search.specs.Arrays.{length-unmapped-by}
-use Rattle.pairing_search.specs.Collect.{collects-more, collects-full}
+use borrow.Author.Tests.{lt-ltb, le-ltb}
+use mathlib.Core.Path.{refl}
+use native.Mathlib.Omega.{arith}
 use borrow.Author.Needs.{needs}
 use Rattle.pairing_search.proofs.with_vertex.Statement.{statement}
 use Rattle.pairing_search.proofs.with_vertex.Tie as tie
@@ -20,17 +21,17 @@ add-count : tie.Need-add-count
 add-count c = search needs
 
 returns : tie.Need-returns
-returns c vs C =
+returns c =
     let at-if1 = c .before in let args = at-if1 .before .before .args in
-    rw (at-if1 .if1 .taken) (collects-more vs (args .o) C (args .v) (c .if2 .taken) (search (needs, length-unmapped-by)))
+    rw (at-if1 .if1 .taken, lt-ltb (args .o .count) 12 (omega (arith, c .if2 .taken))) refl
 
 returns-2 : tie.Need-returns-2
-returns-2 c vs C =
+returns-2 c =
     let at-if1 = c .before in let args = at-if1 .before .before .args in
-    rw (at-if1 .if1 .taken) (collects-full vs (args .o) C (args .v) (c .if2 .left) (args .o .list))
+    rw (at-if1 .if1 .taken, le-ltb (args .o .count) 12 (omega (arith, c .if2 .left))) refl
 
 returns-3 : tie.Need-returns-3
-returns-3 c vs C = rw (c .if1 .left) C
+returns-3 c = rw (c .if1 .left) refl
 
 pub with-vertex-spec : {M : Type 1} → statement M
 with-vertex-spec =

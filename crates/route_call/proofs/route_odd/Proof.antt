@@ -3,6 +3,7 @@ use mathlib.Core.Path.{sym, _∙_}
 use Rattle.net_places.specs.NetsLaws.{pairs-of}
 use Rattle.session.specs.View.{sessionOf}
 use Rattle.route_call.specs.AnswerLaws.{collects-of, route-odd}
+use Rattle.pairing_search.specs.Collect.{collected}
 use borrow.Author.Needs.{needs}
 use Rattle.route_call.proofs.route_odd.Statement.{statement}
 use Rattle.route_call.proofs.route_odd.Tie as tie
@@ -20,7 +21,7 @@ route-few-requires c κs =
     let at-args = at-odds .before .before .before .before in let s = at-args .args .s in (
       record {
         sound = at-args .pre .0 .sound;
-        few = collects-of (sessionOf s) _ (pairs-of (s .nets)) _ (odds .ensures) .few (c .before .if1 .left);
+        few = collects-of (sessionOf s) _ (pairs-of (s .nets)) _ (collected _ _ (odds .ensures)) .few (c .before .if1 .left);
       },
       at-args .pre .1,
     )
@@ -30,7 +31,7 @@ returns c =
     let at-odds = c .before in let odds = at-odds .odd-vertices in
     let at-args = at-odds .before .before .before .before in let s = at-args .args .s in
     route-odd (sessionOf s) _ _ (at-args .pre .0) (at-args .pre .1)
-    (sym (collects-of (sessionOf s) _ (pairs-of (s .nets)) _ (odds .ensures) .many) ∙ c .if1 .taken)
+    (sym (collects-of (sessionOf s) _ (pairs-of (s .nets)) _ (collected _ _ (odds .ensures)) .many) ∙ c .if1 .taken)
 
 same-length : tie.Need-same-length
 same-length c = search needs

@@ -2,6 +2,9 @@
 use Rattle.net_places.specs.NetsLaws.{pairs-of}
 use Rattle.session.specs.View.{sessionOf}
 use Rattle.session_laws.specs.Exact.{sound-exact}
+use native.Mathlib.Omega.{arith}
+use lib.ListN.{take}
+use Rattle.router_start.specs.TableLaws.{puts-fill}
 use Rattle.route_call.specs.Starting.{clear-zeros, helped-room, helped-filled}
 use borrow.Author.Needs.{needs}
 use Rattle.route_call.proofs.wire.Statement.{statement}
@@ -29,11 +32,13 @@ wire-table-requires c κs =
     let at-start = at-fill-table .before .before .before .before .before .before .before .before in
     let s = at-start .args .s in let r = at-start .args .helpers in let H = at-start .pre .0 in
     let nets = at-fill-table .fill-table .ensures .0 in
-    let F = at-fill-helpers .fill-helpers .ensures .0 .fills _ _ _ _ _ _ clear-zeros nets in (
+    let put = at-fill-helpers .fill-helpers .ensures in
+    let room = helped-room (sessionOf s) r H _ (pairs-of (s .nets)) _ (nets .count) in
+    let F = puts-fill (take (r .count) (r .pairs)) _ (omega (arith, room, put .0 .count, put .1)) (put .0) clear-zeros nets in (
       (
         sound-exact (sessionOf s) .0 (H .sound),
         helped-filled (sessionOf s) r H _ (pairs-of (s .nets))
-            (rw (at-fill-helpers .fill-helpers .ensures .1) (helped-room (sessionOf s) r H _ (pairs-of (s .nets)) _ (nets .count))) F,
+            (rw (put .1) room) F,
       ),
       at-start .pre .1,
     )

@@ -1,11 +1,11 @@
--- After i turns the table holds the first i helper pairs behind the pairs that it held.
+-- After i turns the first i helper pairs stand in the rows from row k on.
 use borrow.Author.Needs.{needs}
 use native.Mathlib.Omega.{arith}
 use Prim.Native.Nat.{_+_, _-_, _≤_}
 use mathlib.Core.Path.{_≡_, refl}
 use lib.ListN.{length, take}
-use Rattle.router_start.specs.Table.{FillsOn}
-use Rattle.router_start.specs.TableLaws.{fills-on-none, fills-on-more}
+use Rattle.router_start.specs.Table.{PutsOn}
+use Rattle.router_start.specs.TableLaws.{puts-none, puts-more}
 use Rattle.router_start.proofs.fill_helpers.Statement.{statement}
 use Rattle.router_start.proofs.fill_helpers.Tie as tie
 use Rattle.router_start.proofs.fill_helpers.Reads as reads
@@ -14,13 +14,13 @@ use Rattle.router_start.proofs.fill_row.Reads as fill-row-reads
 
 abbrev Inv-loop : tie.InvT-loop
 Inv-loop count k la₀ lb₀ ids₀ s1₀ s2₀ pairs i₀ la lb ids s1 s2 i = (i ≤ count) × (length pairs ≡ 6)
-    × FillsOn (take i pairs) k la₀ lb₀ ids₀ s1₀ s2₀ (k + i) la lb ids s1 s2
+    × PutsOn (take i pairs) k la₀ lb₀ ids₀ s1₀ s2₀ (k + i) la lb ids s1 s2
 
 abbrev μ-loop : tie.MeasureT-loop
 μ-loop count k la₀ lb₀ ids₀ s1₀ s2₀ pairs i₀ la lb ids s1 s2 i = count - i
 
 loop-holds : tie.Need-loop-holds Inv-loop μ-loop
-loop-holds c = (omega arith, search needs, fills-on-none (c .args .t1) (c .args .k) _ _ _ _ _)
+loop-holds c = (omega arith, search needs, puts-none (c .args .t1) (c .args .k) _ _ _ _ _)
 
 mul-fill-row : tie.Need-mul-fill-row Inv-loop μ-loop
 mul-fill-row c = search needs
@@ -46,7 +46,7 @@ loop-again c =
     let at-args = at-loop .before in let args = at-args .args in (
       omega arith,
       loop .inv .1,
-      fills-on-more (args .t1) (args .k) (loop .i) (omega (arith, loop .inv .1)) (omega arith) (loop .inv .2) (c .fill-row .ensures),
+      puts-more (args .t1) (args .k) (loop .i) (omega (arith, loop .inv .1)) (loop .inv .2) (c .fill-row .ensures),
     )
 
 add-result : tie.Need-add-result Inv-loop μ-loop
