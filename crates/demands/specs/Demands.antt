@@ -142,8 +142,9 @@ OfRouting s ws = (dss : List (List Direction)) × IsRouting s ws dss
 -- ── 1 ──
 -- "Every accepted call .. gives exactly what document 01 lays down for its input, or, for a routing, one of those allowed there. Every refused
 -- call gives its number and place from the table, with the session and each lent buffer the same as before."
--- In each field but the law `were-alike`: the answer is the definition's, number and place included; what is handed back is the definition's; a
--- refusal changes nothing, but for a list of nets: "for this call alone a refusal leaves that much changed and no more" (document 02, §1).
+-- In each field but the laws, `were-alike` and those called rightly: the answer is the definition's, number and place included; what is handed back
+-- is the definition's; a refusal changes nothing, but for a list of nets: "for this call alone a refusal leaves that much changed and no more"
+-- (document 02, §1).
 pub record Demand1 : Type 0 where
   pub add : (s : Session) (n : Net) (r : AfterAdd) → AddPromise s n r
       → (addAnswer (r .answer) ≡ call (sessionOf s) (calls.add n) .answer) × (sessionOf (r .session) ≡ call (sessionOf s) (calls.add n) .next)
