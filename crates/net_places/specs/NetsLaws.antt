@@ -8,7 +8,7 @@ use mathlib.Core.Option.{none, some}
 use Prim.Native.Nat.{ℕ, zero, suc, _+_, _<_, _≤_}
 use native.Mathlib.Omega.{arith}
 use lib.Dec.{eqb}
-use lib.ListN.{length, getD, set}
+use lib.ListN.{length, getD, set, replicate}
 use borrow.Author.Tests.{lt-ltb, le-ltb, eq-eqb, ne-eqb}
 use Rattle.net.specs.View.{nothing, heldThen, pairsOf}
 use Rattle.net.specs.declared.Pair.{Pair}
@@ -191,6 +191,16 @@ pub remove-of : (ps : List Place) (n : ℕ) → netsOf (replaced ps n nothing) �
 unfolding netsOf
 remove-of ps zero = sym (remove-below 1 0 ps (omega arith))
 remove-of ps (suc i) = remove-from 1 i (suc i) ps (omega arith)
+
+-- ── no place is filled ──
+none-held : (k n : ℕ) → netsFrom k (replicate n nothing) ≡ []
+unfolding netsFrom
+none-held k zero = refl
+none-held k (suc n) = none-held (suc k) n
+
+pub no-nets : (n : ℕ) → netsOf (replicate n nothing) ≡ []
+unfolding netsOf
+no-nets n = none-held 1 n
 
 -- ── they stand in rising number ──
 rising-held : (k : ℕ) (m : Net) (h : Held) (ns : List Net) → m .number < k → rising? (m ∷ ns) ≡ true → ((e : Pair) → rising? (net k e ∷ ns) ≡ true)

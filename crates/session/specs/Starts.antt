@@ -10,16 +10,16 @@ use Rattle.board_convex.specs.Exact.{is-convex}
 use Rattle.session_rules.specs.Session as machine
 use Rattle.session_rules.specs.Sound.{Fresh, bare, blank}
 use Rattle.session_laws.specs.Stays.{fresh-bare}
+use Rattle.net_places.specs.NetsLaws.{no-nets}
 use Rattle.session_pile.specs.Pile.{pileOf, changesOf}
 use Rattle.session.specs.declared.Session.{Session}
 use Rattle.session.specs.View.{sessionOf}
 use Rattle.session.specs.Value.{freshOf, blankBoard}
 use Rattle.session.specs.Promise.{FreshPromise, BlankPromise}
-use Rattle.session_sound.specs.OneByOneLaws.{nets-none}
 
 fresh-is-bare : (b : code.Block) → sessionOf (freshOf b) ≡ bare (blockOf b)
 unfolding freshOf pileOf changesOf
-fresh-is-bare b = rw (nets-none 64) refl
+fresh-is-bare b = rw (no-nets 64) refl
 
 pub fresh-promise : (b : code.Block) (r : Session) → r ≡ freshOf b → FreshPromise b r
 fresh-promise b r e =

@@ -83,11 +83,13 @@ impl Session {
         ensures { λ r. ⌜ Decides r (sound? (sessionOf self)) (Sound (sessionOf self)) ⌝ }
     {
         let b = self.block;
+        if !board_convex::is_convex(b.board) {
+            return false;
+        }
         let nets = self.nets;
         let pile = self.pile;
-        board_convex::is_convex(b.board)
-            & (session_sound::is_addable(b, nets)
-                & ((pile.depth <= 64) & session_sound::lifts(b, nets, pile)))
+        session_sound::is_addable(b, nets)
+            & ((pile.depth <= 64) & session_sound::lifts(b, nets, pile))
     }
 
     // The session with these places and this pile; all else that it holds stays.

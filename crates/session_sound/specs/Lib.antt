@@ -1,3 +1,3 @@
 pub mod Reverse
-pub mod OneByOne
-pub mod OneByOneLaws
+pub mod Room
+pub mod RoomLaws

@@ -1,44 +1,58 @@
 // Does what a session holds stand on its board: could its nets all be added, and can its pile be lifted to the bottom?
+use board::Vertex;
 use board_block::Block;
 use net::Change;
 use net::Held;
-use net::Net;
 use net::Place;
+use numbers::wide;
 use session_pile::Pile;
 ghost use mathlib.Core.Path.{_≡_};
 ghost use mathlib.Core.List.{[]};
+ghost use Rattle.board.specs.Board.{Within};
 ghost use Rattle.board_block.specs.View.{blockOf};
 ghost use Rattle.session_rules.specs.Sound.{addable?, liftable?, lifts?};
 ghost use Rattle.net_places.specs.Places.{netsOf};
 ghost use Rattle.session_pile.specs.Pile.{pileOf};
-ghost use Rattle.session_sound.specs.OneByOne.{heldAccepted};
+ghost use Rattle.session_sound.specs.Room.{roomAt, heldRoom};
 
-// Does add accept what the place holds under this number?
-fn is_held_free(b: Block, nets: [Place; 64], number: u8, place: Place) -> bool
-    ensures { λ r. ⌜ r ≡ heldAccepted (blockOf b) (netsOf nets) number (place .held) ⌝ }
+// Are there pins at v for all the terminals counted there? Outside lines and columns 0 to 31 no place has pins.
+fn has_pins(b: Block, counts: &[u8; 1024], v: Vertex) -> bool
+    ensures { λ r. ⌜ r ≡ roomAt (blockOf b) (now (counts .entry)) v ⌝ }
+{
+    if v.line < 32 {
+        if v.column < 32 {
+            let at = wide(v.line) * 32 + wide(v.column);
+            return counts[at] <= board_block::pins_of(b, v);
+        }
+    }
+    false
+}
+
+// Do the terminals of what a place holds stand apart, each with pins enough?
+fn has_room(b: Block, counts: &[u8; 1024], place: Place) -> bool
+    ensures { λ r. ⌜ r ≡ heldRoom (blockOf b) (now (counts .entry)) (place .held) ⌝ }
 {
     let held = place.held;
     match held {
         Held::Nothing => true,
-        Held::Ends(ends) => session_add::is_free(b, nets, Net { number, ends }),
+        Held::Ends(ends) => {
+            let first = ends.first;
+            let second = ends.second;
+            !net::same_vertex(first, second)
+                & (has_pins(b, counts, first) & has_pins(b, counts, second))
+        }
     }
 }
 
-// Could the nets all be added to the bare board? They are added one by one, in rising number.
+// Could the nets all be added to the bare board? Their terminals are counted once for all vertices, and then each net is looked at.
 pub fn is_addable(b: Block, nets: [Place; 64]) -> bool
+    requires { ⌜ Within (blockOf b .board) ⌝ }
     ensures { λ r. ⌜ r ≡ addable? (blockOf b) [] (netsOf nets) ⌝ }
 {
-    let mut on = [Place {
-        held: Held::Nothing,
-    }; 64];
+    let counts = net_terminals::count_terminals(nets);
     let mut ok = true;
-    let mut number: u8 = 1;
-    while number <= 64 {
-        let place = net_places::place_of(nets, number);
-        ok = ok & is_held_free(b, on, number, place);
-        let next = net_places::stored(on, number, place);
-        on = next;
-        number += 1;
+    for i in 0..64 {
+        ok = ok & has_room(b, &counts, nets[i]);
     }
     ok
 }

@@ -1,74 +1,70 @@
--- `is_addable` tells whether the nets could all be added to the bare board.
-use native.Mathlib.Omega.{arith}
+-- `is_addable` tells whether the nets could all be added to the bare board. The invariant: what was found, and that the places from i on have room, is
+-- that all have.
 use borrow.Author.Needs.{needs}
-use mathlib.Core.Path.{_≡_, _∙_}
+use native.Mathlib.Omega.{arith}
+use mathlib.Core.Path.{_≡_, refl, sym, _∙_}
 use mathlib.Core.Bool.{_&&_}
-use mathlib.Core.List.{[]}
-use Prim.Native.Nat.{ℕ, _-_, _≤_}
-use lib.ListN.{length, length-replicate}
+use Prim.Native.Nat.{_-_, _≤_}
+use lib.ListN.{length, drop}
 use Rattle.board_block.specs.View.{blockOf}
-use Rattle.net.specs.View.{nothing}
-use Rattle.session_rules.specs.Sound.{addable?}
-use Rattle.net_places.specs.NumberedLaws.{length-replaced}
-use Rattle.net_places.specs.Places.{netsOf, placeAt}
-use Rattle.session_sound.specs.OneByOne.{restAddable}
-use Rattle.session_sound.specs.OneByOneLaws.{empty-place, above-next, rest-first, rest-next, rest-last}
+use Rattle.session_sound.specs.Room.{placesRoom}
+use Rattle.session_sound.specs.RoomLaws.{room-addable, room-next, room-last}
 use Rattle.session_sound.proofs.is_addable.Statement.{statement}
 use Rattle.session_sound.proofs.is_addable.Tie as tie
+use Rattle.session_sound.proofs.is_addable.Reads as reads
+use Rattle.session_sound.proofs.is_addable.Lts as lts
+use Rattle.net_terminals.proofs.count_terminals.Reads as count-terminals-reads
+use Rattle.session_sound.proofs.has_room.Reads as has-room-reads
 
 abbrev Inv-loop : tie.InvT-loop
-Inv-loop b nets on₀ ok₀ number₀ on ok number =
-    (1 ≤ number)
-    × (number ≤ 65)
-    × (length on ≡ 64)
-    × ((j : ℕ) → number ≤ j → placeAt on j ≡ nothing)
-    × (ok && restAddable (blockOf b) on nets number ≡ addable? (blockOf b) [] (netsOf nets))
+Inv-loop b nets counts ok₀ i₀ ok i =
+    (i ≤ 64) × (length nets ≡ 64) × (ok && placesRoom (blockOf b) counts (drop i nets) ≡ placesRoom (blockOf b) counts nets)
 
 abbrev μ-loop : tie.MeasureT-loop
-μ-loop b nets on₀ ok₀ number₀ on ok number = 65 - number
+μ-loop b nets counts ok₀ i₀ ok i = 64 - i
+
+count-terminals-requires : tie.Need-count-terminals-requires Inv-loop μ-loop
+count-terminals-requires c κs = search needs
 
 loop-holds : tie.Need-loop-holds Inv-loop μ-loop
-loop-holds c = (omega arith, omega arith, length-replicate 64 nothing, λ j h. empty-place 64 j, rest-first (blockOf (c .args .b)) (c .args .nets) 64)
+loop-holds c = (omega arith, search needs, refl)
 
-place-of-requires : tie.Need-place-of-requires Inv-loop μ-loop
-place-of-requires c κs = search needs
+mul-has-room : tie.Need-mul-has-room Inv-loop μ-loop
+mul-has-room c = search needs
 
-is-held-free-requires : tie.Need-is-held-free-requires Inv-loop μ-loop
-is-held-free-requires c κs = search needs
+array-copy-out-has-room : tie.Need-array-copy-out-has-room Inv-loop μ-loop
+array-copy-out-has-room c = search needs
 
-stored-requires : tie.Need-stored-requires Inv-loop μ-loop
-stored-requires c κs = search needs
+has-room-requires : tie.Need-has-room-requires Inv-loop μ-loop
+has-room-requires c κs = search needs
 
-add-number : tie.Need-add-number Inv-loop μ-loop
-add-number c = search needs
+add-i : tie.Need-add-i Inv-loop μ-loop
+add-i c = search needs
 
 loop-less : tie.Need-loop-less Inv-loop μ-loop
 loop-less c = search needs
 
 loop-again : tie.Need-loop-again Inv-loop μ-loop
 loop-again c =
-    let at2 = c .before .before in
-    let at4 = at2 .before .before in
-    let at5 = at4 .before in
-    let at = at4 .loop in
-    let inv = at .inv in
-    let k : at .number ≤ 64 = search needs in (
+    let at3 = c .before .before .before .before in
+    let at = at3 .loop in
+    let start = at3 .before .before in
+    let inv = at .inv in (
       omega arith,
-      omega arith,
-      rw (c .stored .ensures) (length-replaced (at .on) (at .number) (at2 .place-of .result) ∙ inv .2),
-      λ j h.
-          rw (c .stored .ensures)
-          (above-next (at .on) (at .number) j (at2 .place-of .result) (omega arith) ∙ inv .3 j (omega arith)),
-      rw (c .stored .ensures, at2 .place-of .ensures)
-          (rest-next (blockOf (at5 .args .b)) (at .on) (at5 .args .nets) (at .number) (at .ok) (c .before .is-held-free .result) _
-          (inv .2) (search needs) (inv .0) k (inv .3 (at .number) (omega arith)) (cc) (inv .4)),
+      inv .1,
+      room-next (blockOf (start .args .b)) _ (start .args .t2) (at .i) (at .ok) (c .has-room .result) _ (omega arith) (c .has-room .ensures) (inv .2),
     )
 
 returns : tie.Need-returns Inv-loop μ-loop
 returns c =
-    let at2 = c .before .before in
     let at = c .before .loop in
-    rest-last (blockOf (at2 .args .b)) (at .on) (at2 .args .nets) (at .number) (at .ok) _ (search needs) (omega arith) (at .inv .4)
+    let counted = c .before .before in
+    let start = counted .before in
+    let b = blockOf (start .args .b) in
+    let nets = start .args .t2 in
+    let last : at .i ≡ length nets = omega arith in
+    room-last b _ nets (at .ok) _ (rw last at (at .inv .2))
+    ∙ room-addable b nets _ (start .pre) (at .inv .1) (counted .count-terminals .ensures)
 
 pub is-addable-spec : {M : Type 1} → statement M
 is-addable-spec =
@@ -76,11 +72,12 @@ is-addable-spec =
     (tie.spec
     Inv-loop
     μ-loop
+    count-terminals-requires
     loop-holds
-    place-of-requires
-    is-held-free-requires
-    stored-requires
-    add-number
+    mul-has-room
+    array-copy-out-has-room
+    has-room-requires
+    add-i
     loop-less
     loop-again
     returns)
