@@ -281,8 +281,10 @@ fn times(seed: u64) {
         let both = median((0..ROUNDS).map(|_| seconds(20, || _ = black_box(alike(black_box(&board), black_box(&list), black_box(&two))))).collect());
         println!("comparing two lists that each use all 1,984 edges, {what}: {:.3} ms", 1e3 * both);
     }
-    let lap = median((0..11).map(|_| (laps("", 22_000) - laps("", 2_000)) / 20_000.0).collect());
-    println!("a call of a session with 64 nets and a pile of 64 changes: {:.1} microseconds", 1e6 * lap);
+    let lap = |word| (laps(word, 22_000) - laps(word, 2_000)) / 20_000.0;
+    let (bare, named): (Vec<f64>, Vec<f64>) = (0..11).map(|_| (lap(""), lap("names "))).unzip();
+    println!("a call of a session with 64 nets and a pile of 64 changes: {:.1} microseconds", 1e6 * median(bare));
+    println!("the same with 64 nets under each of the eight names: {:.1} microseconds", 1e6 * median(named));
     let forty = |word| (laps(word, 1_100) - laps(word, 100)) / 1_000.0;
     let (list, single): (Vec<f64>, Vec<f64>) = (0..11).map(|_| (forty("list "), forty("single "))).unzip();
     println!("40 nets on a bare board: {:.1} microseconds in one call, {:.1} in 40 calls", 1e6 * median(list), 1e6 * median(single));

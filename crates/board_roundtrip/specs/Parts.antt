@@ -7,6 +7,7 @@ use Rattle.count.specs.Each.{Each}
 use Rattle.board.specs.declared.Row.{Row}
 use Rattle.net.specs.declared.Net.{Net}
 use Rattle.session_rules.specs.Session.{Session, withNets}
+use Rattle.session_rules.specs.Sound.{bare}
 use Rattle.words.specs.BoardWord.{rowWord, netWord}
 use Rattle.words.specs.Inverse.{NetFits}
 use Rattle.call_rules.specs.Reading.{Listed, Taken, notAbove}
@@ -65,6 +66,6 @@ abbrev pub Bytes : List ℕ → Type 0
 Bytes bs = Each (λ (b : ℕ). b < 2 ^ 8) bs
 
 -- ── sessions ──
--- the same in all but the pile, which is empty
-abbrev pub unpiled : Session → Session
-unpiled s = withNets s (s .nets) []
+-- what reading gives of a session that was written: its board and nets, with an empty pile and nothing kept
+abbrev pub asRead : Session → Session
+asRead s = withNets (bare (s .block)) (s .nets) []

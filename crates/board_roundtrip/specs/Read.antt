@@ -12,7 +12,8 @@ use Rattle.board_convex.specs.Exact.{is-convex}
 use Rattle.net.specs.declared.Net.{Net}
 use Rattle.session_rules.specs.Refusal.{line, firstRefusal}
 use Rattle.session_rules.specs.Session.{Session, withNets}
-use Rattle.session_rules.specs.Sound.{bare, Sound, addable?, lifts?}
+use Rattle.session_rules.specs.Sound.{bare, nothingKept, Sound, addable?, lifts?}
+use Rattle.session_laws.specs.Stays.{fresh-bare}
 use Rattle.session_laws.specs.Rising.{From, from-rising}
 use Rattle.words.specs.BoardWord.{rowWord, endWord}
 use Rattle.call_rules.specs.Result.{yes, andThen}
@@ -23,11 +24,12 @@ use Rattle.call_rules.specs.Results.{yes-same, passed, line-passed, then-yes}
 use Rattle.board_roundtrip.specs.Adds.{listed-addable}
 use Rattle.board_roundtrip.specs.Accepted.{taken-said, falling-from, then-reverse, length-reverse}
 
--- DEFINITION: these are the words of the session, which is sound and has an empty pile
+-- DEFINITION: these are the words of the session, which is sound and has an empty pile and nothing kept
 pub record Holds (ws : List ℕ) (s : Session) : Type 0 where
   pub words : boardWords s ≡ ws
   pub sound : Sound s
   pub bare-pile : s .pile ≡ []
+  pub none-kept : s .kept ≡ nothingKept
 
 -- DEFINITION: the session of what was taken
 abbrev sessionIn : Taken → Session
@@ -45,13 +47,16 @@ session-words u =
 session-sound : (u : Taken) → isConvex (boardIn u) ≡ true → From 0 (netsIn (reverse (u .nets) []))
     → addable? (blockIn u) [] (netsIn (reverse (u .nets) [])) ≡ true → Sound (sessionIn u)
 unfolding lifts?
-session-sound u c f a = let k = is-convex (boardIn u) .0 c in record {
+session-sound u c f a = let k = is-convex (boardIn u) .0 c in let start = fresh-bare (blockIn u) (k .0) (k .1) .sound in record {
   within = k .0;
   convex = k .1;
   rising = from-rising (netsIn (reverse (u .nets) [])) f;
   addable = a;
   short = omega arith;
   lifts = refl;
+  eight = start .eight;
+  kept-rising = start .kept-rising;
+  kept-addable = start .kept-addable;
 }
 
 taken-holds : (ws : List ℕ) (u : Taken) (ns : List Net) → takeWords 0 nothingTaken ws ≡ yes u → isConvex (boardIn u) ≡ true
@@ -60,7 +65,7 @@ taken-holds ws u ns e c n =
     let t = taken-said ws 0 nothingTaken u refl tt e in
     let f = falling-from (u .nets) [] (t .falling) tt in
     let a = listed-addable (blockIn u) [] (reverse (u .nets) []) ns 0 tt f n in
-    rw (a .0) (record { words = session-words u ∙ sym (t .words); sound = session-sound u c f (a .1); bare-pile = refl })
+    rw (a .0) (record { words = session-words u ∙ sym (t .words); sound = session-sound u c f (a .1); bare-pile = refl; none-kept = refl })
 
 pub read-holds : (ws : List ℕ) (s : Session) → readWords ws ≡ yes s → Holds ws s
 unfolding readWords readTaken readNets

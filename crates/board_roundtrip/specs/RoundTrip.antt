@@ -12,13 +12,13 @@ use lib.Seq.{take-at}
 use borrow.Author.Tests.{le-ltb, not-false}
 use Rattle.session_rules.specs.Refusal.{line, firstRefusal}
 use Rattle.session_rules.specs.Session.{Session}
-use Rattle.session_rules.specs.Sound.{Sound, sound?}
+use Rattle.session_rules.specs.Sound.{nothingKept, Sound, sound?}
 use Rattle.session_laws.specs.Exact.{sound-exact}
 use Rattle.words.specs.Bytes.{wordsIn, bytesOf}
 use Rattle.call_rules.specs.Result.{Result, no, yes}
 use Rattle.call_rules.specs.Reading.{boardLimit, readWords, readBytes}
 use Rattle.call_rules.specs.Writing.{boardWords, writeBoard, countOf, bufferAfter}
-use Rattle.board_roundtrip.specs.Parts.{Bytes, unpiled}
+use Rattle.board_roundtrip.specs.Parts.{Bytes, asRead}
 use Rattle.call_rules.specs.Results.{yes-same, passed, line-passed}
 use Rattle.board_roundtrip.specs.Written.{words-read}
 use Rattle.board_roundtrip.specs.Read.{read-holds}
@@ -26,19 +26,22 @@ use Rattle.board_roundtrip.specs.InBytes.{words-back, bytes-even, bytes-
 
 -- ── words ──
 -- "A session written as words reads back with the same board and nets"; "Reading gives a session with an empty pile."
-pub written-reads : (s : Session) → Sound s → readWords (boardWords s) ≡ yes (unpiled s)
+pub written-reads : (s : Session) → Sound s → readWords (boardWords s) ≡ yes (asRead s)
 written-reads s h = words-read s h
 
 -- "accepted words write back as the same words"
 pub read-writes : (ws : List ℕ) (s : Session) → readWords ws ≡ yes s → boardWords s ≡ ws
 read-writes ws s e = read-holds ws s e .words
 
--- what is read is a sound session with an empty pile,
+-- what is read is a sound session with an empty pile and nothing kept (document 02, §5),
 pub read-sound : (ws : List ℕ) (s : Session) → readWords ws ≡ yes s → Sound s
 read-sound ws s e = read-holds ws s e .sound
 
 pub read-unpiled : (ws : List ℕ) (s : Session) → readWords ws ≡ yes s → s .pile ≡ []
 read-unpiled ws s e = read-holds ws s e .bare-pile
+
+pub read-none-kept : (ws : List ℕ) (s : Session) → readWords ws ≡ yes s → s .kept ≡ nothingKept
+read-none-kept ws s e = read-holds ws s e .none-kept
 
 -- which, written, reads back as itself
 pub read-again : (ws : List ℕ) (s : Session) → readWords ws ≡ yes s → readWords (boardWords s) ≡ yes s
@@ -54,16 +57,16 @@ write-yes s room ws e =
     (sound-exact s .0 (not-false (sound? s) n), yes-same (boardWords s) ws (p .1))
 
 -- and reads back
-pub write-reads : (s : Session) (room : ℕ) (ws : List ℕ) → writeBoard s room ≡ yes ws → readWords ws ≡ yes (unpiled s)
+pub write-reads : (s : Session) (room : ℕ) (ws : List ℕ) → writeBoard s room ≡ yes ws → readWords ws ≡ yes (asRead s)
 write-reads s room ws e = let k = write-yes s room ws e in rw (← k .1) (written-reads s (k .0))
 
 -- from the start of the buffer, as many words as the answer says
 pub buffer-reads : (s : Session) (buffer : List ℕ) (n : ℕ) → countOf (writeBoard s (length buffer)) ≡ yes n
-    → readWords (take n (bufferAfter buffer (writeBoard s (length buffer)))) ≡ yes (unpiled s)
+    → readWords (take n (bufferAfter buffer (writeBoard s (length buffer)))) ≡ yes (asRead s)
 buffer-reads s buffer n e = go (writeBoard s (length buffer)) refl e
   where
     go : (r : Result (List ℕ)) → writeBoard s (length buffer) ≡ r → countOf r ≡ yes n
-        → readWords (take n (bufferAfter buffer r)) ≡ yes (unpiled s)
+        → readWords (take n (bufferAfter buffer r)) ≡ yes (asRead s)
     go (no x) f e = absurd (let z : _≡_ {A = ℕ} 0 1 = cc in omega arith)
     go (yes ws) f e =
         let k : length ws ≡ n = yes-same (length ws) n e in
@@ -75,7 +78,7 @@ unfolding writeBoard
 read-written ws s room h e = rw (sound-exact s .1 (read-sound ws s e), le-ltb room boardLimit h, read-writes ws s e) refl
 
 -- ── bytes ──
-pub written-bytes-read : (s : Session) → Sound s → readBytes (bytesOf (boardWords s)) ≡ yes (unpiled s)
+pub written-bytes-read : (s : Session) → Sound s → readBytes (bytesOf (boardWords s)) ≡ yes (asRead s)
 written-bytes-read s h =
     even-read (bytesOf (boardWords s)) (bytes-even (boardWords s)) ∙ rw (words-back (boardWords s) (sound-words s h)) (written-reads s h)
 
@@ -86,3 +89,6 @@ read-bytes-write bs s h e =
 
 pub read-bytes-sound : (bs : List ℕ) (s : Session) → readBytes bs ≡ yes s → Sound s
 read-bytes-sound bs s e = read-sound (wordsIn bs) s (read-even bs s e .1)
+
+pub read-bytes-none-kept : (bs : List ℕ) (s : Session) → readBytes bs ≡ yes s → s .kept ≡ nothingKept
+read-bytes-none-kept bs s e = read-none-kept (wordsIn bs) s (read-even bs s e .1)

@@ -17,7 +17,7 @@ use Rattle.words.specs.BoardWord.{rowWord, netWord, endWord}
 use Rattle.call_rules.specs.Result.{yes}
 use Rattle.call_rules.specs.Reading.{boardLimit, nothingTaken, takeWords, addListed, reverse, readNets, readTaken, readWords}
 use Rattle.call_rules.specs.Writing.{boardWords}
-use Rattle.board_roundtrip.specs.Parts.{taken, netsIn, listedFrom, listedOnto, unpiled}
+use Rattle.board_roundtrip.specs.Parts.{taken, netsIn, listedFrom, listedOnto, asRead}
 use Rattle.board_roundtrip.specs.Adds.{addable-listed}
 use Rattle.board_roundtrip.specs.Packed.{take-rows, take-nets, take-end, length-onto, reverse-onto, nets-from}
 use Rattle.session_laws.specs.Few.{few-nets}
@@ -66,11 +66,11 @@ module _ (s : Session) (h : Sound s) where
       rw (reverse-onto ns i [] [], append-nil (listedFrom i ns))
       (addable-listed (s .block) [] (listedFrom i ns) 0 tt f a ∙ ap (λ (ms : List Net). yes ms) e)
 
-  taken-read : (i : ℕ) → readTaken (taken (s .block .board .rows) (listedOnto i (s .nets) []) true) ≡ yes (unpiled s)
+  taken-read : (i : ℕ) → readTaken (taken (s .block .board .rows) (listedOnto i (s .nets) []) true) ≡ yes (asRead s)
   unfolding readTaken readNets
   taken-read i = rw (is-convex (s .block .board) .1 (h .within, h .convex), listed-all i) refl
 
-  pub words-read : readWords (boardWords s) ≡ yes (unpiled s)
+  pub words-read : readWords (boardWords s) ≡ yes (asRead s)
   unfolding readWords
   words-read =
       let n = length (boardWords s) in

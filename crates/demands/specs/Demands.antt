@@ -6,7 +6,7 @@
 -- Nothing is proved in this file.
 use mathlib.Core.Path.{_≡_}
 use mathlib.Core.Bool.{Bool, true}
-use mathlib.Core.List.{List}
+use mathlib.Core.List.{List, [], _∷_, _++_}
 use mathlib.Core.Logic.{_↔_}
 use mathlib.Core.Option.{none, some}
 use Prim.Native.Nat.{ℕ, _+_, _/_, _%_, _≤_}
@@ -24,20 +24,23 @@ use Rattle.net.specs.declared.Net.{Net}
 use Rattle.routing_rules.specs.Routing.{trails, Routing, Routable}
 use Rattle.session_rules.specs.Refusal.{Refusal, refusal}
 use Rattle.session_rules.specs.Machine as calls
-use Rattle.session_rules.specs.Machine.{accepted, wentOn}
+use Rattle.session_rules.specs.Machine.{accepted, wentOn, lastName}
 use Rattle.session_rules.specs.Session as machine
-use Rattle.session_rules.specs.Session.{pairs}
-use Rattle.session_rules.specs.Sound.{Sound, Fresh, bare, blank, call}
+use Rattle.session_rules.specs.Session.{keptAs, pairs}
+use Rattle.session_rules.specs.Sound.{Sound, Fresh, bare, blank, nothingKept, call}
 use Rattle.session_rules.specs.OneByOne.{singly, OneByOne}
+use Rattle.session_rules.specs.Names.{Keeps, Returns, NoKeep}
 use Rattle.session.specs.declared.Session.{Session}
 use Rattle.session.specs.declared.AfterAdd.{AfterAdd}
 use Rattle.session.specs.declared.AfterAddAll.{AfterAddAll}
 use Rattle.session.specs.declared.AfterWithdraw.{AfterWithdraw}
 use Rattle.session.specs.declared.AfterTakeBack.{AfterTakeBack}
+use Rattle.session.specs.declared.AfterKeep.{AfterKeep}
+use Rattle.session.specs.declared.AfterReturn.{AfterReturn}
 use Rattle.session.specs.View.{sessionOf}
 use Rattle.session.specs.Value.{addAllOf}
-use Rattle.session_answers.specs.Answers.{addAnswer, addAllAnswer, withdrawAnswer, takeBackAnswer}
-use Rattle.session.specs.Promise.{AddPromise, AddAllPromise, WithdrawPromise, TakeBackPromise, FreshPromise}
+use Rattle.session_answers.specs.Answers.{addAnswer, addAllAnswer, withdrawAnswer, takeBackAnswer, keepAnswer, returnAnswer}
+use Rattle.session.specs.Promise.{AddPromise, AddAllPromise, WithdrawPromise, TakeBackPromise, KeepPromise, ReturnPromise, FreshPromise}
 use Rattle.words.specs.Bytes.{wordsIn}
 use Rattle.words.specs.RoutingWord.{routingWords}
 use Rattle.call_rules.specs.Result.{Result, no, yes}
@@ -142,7 +145,7 @@ OfRouting s ws = (dss : List (List Direction)) × IsRouting s ws dss
 -- ── 1 ──
 -- "Every accepted call .. gives exactly what document 01 lays down for its input, or, for a routing, one of those allowed there. Every refused
 -- call gives its number and place from the table, with the session and each lent buffer the same as before."
--- In each field but the laws, `were-alike` and those called rightly: the answer is the definition's, number and place included; what is handed back
+-- In each field but the laws, `names-stay`, `none-kept`, `were-alike` and those called rightly: the answer is the definition's, number and place included; what is handed back
 -- is the definition's; a refusal changes nothing, but for a list of nets: "for this call alone a refusal leaves that much changed and no more"
 -- (document 02, §1).
 pub record Demand1 : Type 0 where
@@ -165,6 +168,24 @@ pub record Demand1 : Type 0 where
   pub take-back : (s : Session) (r : AfterTakeBack) → TakeBackPromise s r
       → (takeBackAnswer (r .answer) ≡ call (sessionOf s) calls.takeBack .answer) × (sessionOf (r .session) ≡ call (sessionOf s) calls.takeBack .next)
       × ((takeBackAnswer (r .answer) ≡ accepted → ⊥) → r .session ≡ s)
+  -- 02, §5: `Keeps` and `Returns` have the request's sentences, refusals 35 and 36 among them
+  pub keep : (s : Session) (k : ℕ) (r : AfterKeep) → KeepPromise s k r
+      → (keepAnswer (r .answer) ≡ call (sessionOf s) (calls.keep k) .answer)
+      × (sessionOf (r .session) ≡ call (sessionOf s) (calls.keep k) .next)
+      × Keeps (sessionOf s) k (keepAnswer (r .answer)) (sessionOf (r .session))
+      × ((keepAnswer (r .answer) ≡ accepted → ⊥) → r .session ≡ s)
+  pub return-to : (s : Session) (k : ℕ) (r : AfterReturn) → ReturnPromise s k r
+      → (returnAnswer (r .answer) ≡ call (sessionOf s) (calls.returnTo k) .answer)
+      × (sessionOf (r .session) ≡ call (sessionOf s) (calls.returnTo k) .next)
+      × Returns (sessionOf s) k (returnAnswer (r .answer)) (sessionOf (r .session))
+      × ((returnAnswer (r .answer) ≡ accepted → ⊥) → r .session ≡ s)
+  -- what adds, lists of nets, withdrawals, take-backs, returns and keeps under other names do to a name: nothing
+  pub names-stay : (s : machine.Session) (c : calls.Call) (k : ℕ) → (c ≡ calls.keep k → ⊥) → keptAs k (call s c .next) ≡ keptAs k s
+  -- "a fresh, read or blank one has nothing kept"
+  pub none-kept : ((s : machine.Session) → Fresh s → s .kept ≡ nothingKept)
+      × ((ws : List ℕ) (s : machine.Session) → readWords ws ≡ yes s → s .kept ≡ nothingKept)
+      × ((bs : List ℕ) (s : machine.Session) → readBytes bs ≡ yes s → s .kept ≡ nothingKept)
+      × (blank .kept ≡ nothingKept)
   pub read-words : (ws : List ℕ) (r : AfterRead) → ReadPromise (readWords ws) r → Reads (readWords ws) r
   pub read-bytes : (bs : List ℕ) (r : AfterRead) → ReadPromise (readBytes bs) r → Reads (readBytes bs) r
   pub write : (s : Session) (before : List ℕ) (r : WriteAnswer) (after : List ℕ) → WritePromise (sessionOf s) before r after
@@ -249,13 +270,13 @@ pub record Demand2 : Type 0 where
 
 -- ── 3 ──
 -- "For every list of adds, withdrawals, take-backs and routing calls, refused ones included, from a fresh session on any convex board": what then
--- holds is `Demand3` of crate session_history, file Demand, in the demand's own words. A list of nets in one call is one of these calls (document 02,
--- §1). A session that `fresh` hands back on a convex board is fresh.
+-- holds is `Demand3` of crate session_history, file Demand, in the demand's own words. "its lists take in every call that changes a session" (document
+-- 02, §5), a list of nets in one call (§1), keeps and returns among them. A session that `fresh` hands back on a convex board is fresh.
 pub record Demand3 : Type 0 where
   pub whole : (s : Session) (calls : List Made) → Fresh (sessionOf s) → Chain s calls → history.Demand3 s calls
   pub start : (b : code-block.Block) (s : Session) → Within (blockOf b .board) → Convex (blockOf b .board) → FreshPromise b s
       → Fresh (sessionOf s) × (sessionOf s ≡ bare (blockOf b))
-  -- adds, lists of nets, withdrawals and take-backs that kept their promises are calls of such a list, as the machine is fed them
+  -- adds, lists of nets, withdrawals, take-backs, keeps and returns that kept their promises are calls of such a list, as the machine is fed them
   pub add-made : (s : Session) (n : Net) (r : AfterAdd) → AddPromise s n r → Meets s (changed (calls.add n) (addAnswer (r .answer)) (r .session))
   pub add-all-made : (s : Session) (ns : List Net) (r : AfterAddAll) → AddAllPromise s ns r
       → Meets s (changed (calls.addAll ns) (addAllAnswer (r .answer)) (r .session))
@@ -263,6 +284,15 @@ pub record Demand3 : Type 0 where
       → Meets s (changed (calls.withdraw k) (withdrawAnswer (r .answer)) (r .session))
   pub take-back-made : (s : Session) (r : AfterTakeBack) → TakeBackPromise s r
       → Meets s (changed calls.takeBack (takeBackAnswer (r .answer)) (r .session))
+  pub keep-made : (s : Session) (k : ℕ) (r : AfterKeep) → KeepPromise s k r
+      → Meets s (changed (calls.keep k) (keepAnswer (r .answer)) (r .session))
+  pub return-made : (s : Session) (k : ℕ) (r : AfterReturn) → ReturnPromise s k r
+      → Meets s (changed (calls.returnTo k) (returnAnswer (r .answer)) (r .session))
+  -- 02, §5: a return to a name brings back the nets that were on the board at the keep, with an empty pile, whatever calls came between, routings and
+  -- other returns included, but for another keep under that name
+  pub comes-back : (s : Session) (k : ℕ) (between : List calls.Call) (ms : List Made) → Sound (sessionOf s) → k ≤ lastName → NoKeep k between
+      → callsOf ms ≡ (calls.keep k ∷ between) ++ (calls.returnTo k ∷ []) → Chain s ms
+      → (sessionOf (last s ms) .nets ≡ sessionOf s .nets) × (sessionOf (last s ms) .pile ≡ [])
   -- 02, §1: "A routing after such a call is given or refused as after the single adds": those of the nets that went on, and of the next, if one was
   -- refused. The sessions stand for the same, and two routing calls with the same buffer are refused alike, so also given alike
   pub as-singly : (s : Session) (ns : List Net) (r : AfterAddAll) (singles : List Made) → AddAllPromise s ns r → Chain s singles

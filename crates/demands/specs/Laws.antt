@@ -19,11 +19,13 @@ use Rattle.corner.specs.Paths.{routing-routable, tidied}
 use Rattle.session_rules.specs.Refusal.{Refusal, refusal}
 use Rattle.session_rules.specs.Session as machine
 use Rattle.session_rules.specs.Session.{pairs}
-use Rattle.session_rules.specs.Machine.{addAll, Answer, wentOn, refusalOf, step}
+use Rattle.session_rules.specs.Machine.{addAll, keep, returnTo, Answer, wentOn, refusalOf, step}
 use Rattle.session_rules.specs.Sound.{Sound, sound?, call}
 use Rattle.session_rules.specs.OneByOne.{OneByOne}
+use Rattle.session_rules.specs.Names.{Keeps, Returns}
 use Rattle.session_laws.specs.Exact.{sound-exact}
 use Rattle.session_laws.specs.OneByOne.{one-by-one}
+use Rattle.session_laws.specs.Names.{keeps, returns, names-stay}
 use Rattle.session_laws.specs.Few.{few-nets}
 use Rattle.session_laws.specs.Fine.{AllGood}
 use Rattle.session_laws.specs.Stays.{sound-fine}
@@ -61,12 +63,13 @@ use Rattle.judge_call.specs.Answers.{judgementOf, likenessOf}
 use Rattle.judge_laws.specs.Passing.{Numbered}
 use Rattle.judge_laws.specs.Exact.{passes-exactly}
 use Rattle.judge_laws.specs.Alike.{judged-equally-many}
-use Rattle.board_roundtrip.specs.Parts.{unpiled}
-use Rattle.board_roundtrip.specs.RoundTrip.{buffer-reads, read-written, read-bytes-sound}
+use Rattle.board_roundtrip.specs.Parts.{asRead}
+use Rattle.board_roundtrip.specs.RoundTrip.{buffer-reads, read-written, read-bytes-sound, read-none-kept, read-bytes-none-kept}
 use Rattle.session_answers.specs.Answers.{addAnswer}
 use Rattle.session_history.specs.Demand.{RightlyBoth}
 use Rattle.session_history.specs.Routing as history
 use Rattle.session_history.specs.Listed as history-listed
+use Rattle.session_history.specs.Names as history-names
 use Rattle.demands.specs.Demands.{
   Reads,
   WholeWords,
@@ -325,6 +328,14 @@ none-on : (s : Session) (ns : List Net) (t : Session) (k : ℕ) → t ≡ addAll
 unfolding withEach noneAdded
 none-on s ns t k e z = e ∙ ap (λ (i : ℕ). addAllOf s (take i ns) .session) z
 
+-- keep and return do what the request says, as the machine's do
+kept-as : (m : machine.Session) (k : ℕ) {a : Answer} {t : machine.Session} → a ≡ call m (keep k) .answer → t ≡ call m (keep k) .next → Keeps m k a t
+kept-as m k e f = rw (e, f) (keeps m k)
+
+returned-as : (m : machine.Session) (k : ℕ) {a : Answer} {t : machine.Session} → a ≡ call m (returnTo k) .answer → t ≡ call m (returnTo k) .next
+    → Returns m k a t
+returned-as m k e f = rw (e, f) (returns m k)
+
 pub demand-1 : Demand1
 demand-1 = record {
   add = λ s n r P. (P .call .answers, P .call .next, P .kept);
@@ -338,6 +349,10 @@ demand-1 = record {
   );
   withdraw = λ s k r P. (P .call .answers, P .call .next, P .kept);
   take-back = λ s r P. (P .call .answers, P .call .next, P .kept);
+  keep = λ s k r P. (P .call .answers, P .call .next, kept-as (sessionOf s) k (P .call .answers) (P .call .next), P .kept);
+  return-to = λ s k r P. (P .call .answers, P .call .next, returned-as (sessionOf s) k (P .call .answers) (P .call .next), P .kept);
+  names-stay = λ s c k d. names-stay s c k d;
+  none-kept = (λ s F. F .none-kept, read-none-kept, read-bytes-none-kept, refl);
   read-words = λ ws r P. reads (readWords ws) r P;
   read-bytes = λ bs r P. reads (readBytes bs) r P;
   write = λ s before r after P. (
@@ -437,7 +452,7 @@ demand-2 = record {
         W .answers ∙ c,
         λ r P.
             let f = buffer-reads m before (length (boardWords m)) c in
-            let k = read-as (readWords (take (length (boardWords m)) after)) (unpiled m) r
+            let k = read-as (readWords (take (length (boardWords m)) after)) (asRead m) r
             (ap (λ (t : List ℕ). readWords (take (length (boardWords m)) t)) (W .buffer) ∙ f) P in
             (k .0, ap (λ (t : machine.Session). t .block) (k .1), ap (λ (t : machine.Session). t .nets) (k .1)),
       );
@@ -456,6 +471,11 @@ demand-3 = record {
   add-all-made = λ s ns r P. P .call;
   withdraw-made = λ s k r P. P .call;
   take-back-made = λ s r P. P .call;
+  keep-made = λ s k r P. P .call;
+  return-made = λ s k r P. P .call;
+  comes-back = λ s k between ms h l n e each.
+      let f = history-names.comes-back s k between ms h l n e each in
+      (ap (λ (m : machine.Session). m .nets) f, ap (λ (m : machine.Session). m .pile) f);
   as-singly = λ s ns r singles P k e.
       let why = refusalOf (addAnswer (r .answer .last)) in (
         history-listed.as-singly s (r .session) ns (r .answer .count) why singles (P .call) k e,

@@ -9,6 +9,7 @@ ghost use Rattle.board_convex.specs.Test.{isConvex};
 ghost use Rattle.session.specs.View.{sessionOf};
 ghost use lib.ListN.{take};
 ghost use Rattle.session.specs.Promise.{FreshPromise, AddPromise, AddAllPromise, WithdrawPromise, TakeBackPromise};
+ghost use Rattle.session.specs.Promise.{KeepPromise, ReturnPromise};
 ghost use Rattle.call_rules.specs.Reading.{readWords, readBytes};
 ghost use Rattle.call_rules.specs.Judge.{judgeWords, judgeBytes, compareWords, compareBytes};
 ghost use Rattle.call_rules.specs.Route.{Routes, RoutesBytes};
@@ -26,6 +27,8 @@ use net::Net;
 use route_call::RouteAnswer;
 use session::AfterAdd;
 use session::AfterAddAll;
+use session::AfterKeep;
+use session::AfterReturn;
 use session::AfterTakeBack;
 use session::AfterWithdraw;
 use session::Session;
@@ -44,7 +47,7 @@ pub fn plain(b: Board) -> Block
     board_block::plain(b)
 }
 
-// A session on the block, with no nets and an empty pile.
+// A session on the block, with no nets, an empty pile and nothing kept.
 pub fn fresh(b: Block) -> Session
     ensures { λ r. ⌜ FreshPromise b r ⌝ }
 {
@@ -75,6 +78,20 @@ pub fn take_back(s: Session) -> AfterTakeBack
     ensures { λ r. ⌜ TakeBackPromise s r ⌝ }
 {
     s.take_back()
+}
+
+// Stores the nets on the board under a name, 0 to 7.
+pub fn keep(s: Session, name: u8) -> AfterKeep
+    ensures { λ r. ⌜ KeepPromise s name r ⌝ }
+{
+    s.keep(name)
+}
+
+// Puts the nets that are kept under a name on the board, and empties the pile.
+pub fn return_to(s: Session, name: u8) -> AfterReturn
+    ensures { λ r. ⌜ ReturnPromise s name r ⌝ }
+{
+    s.return_to(name)
 }
 
 // A session from a board's words, or bytes.

@@ -67,7 +67,7 @@ fn held_one(place: Place) -> u8
 }
 
 // How many nets there are.
-fn count_nets(nets: [Place; 64]) -> u8
+pub fn count_nets(nets: [Place; 64]) -> u8
     ensures { λ r. ⌜ r ≡ length (netsOf nets) ⌝ }
 {
     let mut n: u8 = 0;

@@ -3,6 +3,7 @@
 // Standard input is a number in decimal, at most 6 digits of it, with a word before it or none. So many laps are made:
 //     NUMBER           one call, withdraw and take back by turns, on the session that the call before handed back. It has 64 nets, which take every
 //                      pin of a board of 31 by 31 cells, and a pile of 64 changes, half of them "withdrawn"
+//     names NUMBER     the same calls, where these 64 nets are kept under each of the eight names besides
 //     list NUMBER      40 of these nets on the bare board, in one call
 //     single NUMBER    the same nets in 40 calls
 // Then the last answer is printed: "accepted", or "refused" with the number.
@@ -86,6 +87,18 @@ fn changed(start: Session) -> Session {
         let after = without.add(net_of(number));
         session = after.session;
         number += 1;
+    }
+    session
+}
+
+// The nets on the board kept under all eight names.
+fn kept(start: Session) -> Session {
+    let mut session = start;
+    let mut name: u8 = 0;
+    while name < 8 {
+        let after = session.keep(name);
+        session = after.session;
+        name += 1;
     }
     session
 }
@@ -262,6 +275,8 @@ fn main() {
         forties(true, calls)
     } else if first == b's' {
         forties(false, calls)
+    } else if first == b'n' {
+        laps(changed(kept(full())), calls)
     } else {
         laps(changed(full()), calls)
     };

@@ -7,13 +7,16 @@
 //                                           a list of nets in one call, as many as begin on the line; of more than 65 the first 65
 //     withdraw NUMBER
 //     back                                  takes the last change back
+//     keep NAME                             stores the nets under the name, 0 to 7
+//     return NAME                           puts the nets that are kept under the name on the board, and empties the pile
 //     paths                                 routes the nets
 // The word stands at the line's start, whole, and ends at a space or with the line. Numbers stand in decimal, parted by spaces; one above 249 is read
 // as 255, and one that is missing as 0. Other lines are passed over.
 //
 // Each call prints a line: "accepted", or "refused", the number and the place. Of a list it is "accepted" and how many nets went on, or "refused",
 // the number, the place, "after" and how many went on before. Routing prints its words, each on a line. Then come the nets in rising number, each a
-// line "net" with what add was given, and the pile from its top, each a line "added" or "withdrawn" with the net.
+// line "net" with what add was given, and the pile from its top, each a line "added" or "withdrawn" with the net; then the names that hold something,
+// each a line "kept" with the name and how many nets it holds, and these nets as above.
 ghost use Prim.Native.Nat.{_≤_};
 ghost use lib.ListN.{length};
 ghost use Rattle.text.specs.Put.{Holds};
@@ -32,6 +35,7 @@ use session::Session;
 use session_answers::AddAllAnswer;
 use session_answers::Told;
 use session_list::LISTED;
+use session_names::Name;
 use session_pile::Pile;
 
 // A number that was read, and where it ended.
@@ -294,6 +298,26 @@ fn print_pile(pile: Pile) {
     }
 }
 
+// What is kept under one name: how many nets, and the nets.
+fn print_name(number: u8, name: Name) {
+    if name.kept {
+        let nets = name.nets;
+        text::print_line(
+            b"kept",
+            &[wide(number), wide(judge_shape::count_nets(nets))],
+        );
+        print_nets(nets);
+    }
+}
+
+fn print_names(names: [Name; 8]) {
+    let mut number: u8 = 0;
+    while number < 8 {
+        print_name(number, session_names::name_of(names, number));
+        number += 1;
+    }
+}
+
 // ── the calls ──
 
 // The board with one more row. More than 31 are counted and not kept.
@@ -351,6 +375,22 @@ fn back_line(session: Session) -> Session {
     after.session
 }
 
+fn keep_line(session: Session, s: &[u8], at: usize) -> Session {
+    let name = number(s, at);
+    let after = session.keep(name.value);
+    let answer = after.answer;
+    print_told(session_answers::keep_told(answer));
+    after.session
+}
+
+fn return_line(session: Session, s: &[u8], at: usize) -> Session {
+    let name = number(s, at);
+    let after = session.return_to(name.value);
+    let answer = after.answer;
+    print_told(session_answers::return_told(answer));
+    after.session
+}
+
 fn paths_line(session: Session) -> Session {
     let mut out = [0u8; 18441];
     let n = route_text::session_text(session, &mut out);
@@ -373,6 +413,12 @@ fn line(session: Session, s: &[u8], at: usize) -> Session {
     }
     if is_word(s, at, b"back") {
         return back_line(session);
+    }
+    if is_word(s, at, b"keep") {
+        return keep_line(session, s, at);
+    }
+    if is_word(s, at, b"return") {
+        return return_line(session, s, at);
     }
     if is_word(s, at, b"paths") {
         return paths_line(session);
@@ -402,6 +448,8 @@ fn main() {
     let last = replay(&text[..n]);
     let nets = last.nets;
     let pile = last.pile;
+    let names = last.names;
     print_nets(nets);
     print_pile(pile);
+    print_names(names);
 }

@@ -3,6 +3,8 @@ pub mod Value
 pub mod Promise
 pub mod Steps
 pub mod Kept
+pub mod Names
+pub mod Tested
 pub mod Starts
 pub mod AllKept
 pub mod Turns

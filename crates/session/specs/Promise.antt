@@ -10,16 +10,18 @@ use Rattle.board.specs.Path.{Convex}
 use Rattle.board_block.specs.View.{blockOf, plainOf}
 use Rattle.board_block.specs.declared.Block as code
 use Rattle.net.specs.declared.Net.{Net}
-use Rattle.session_rules.specs.Machine.{Call, add, addAll, withdraw, takeBack, Answer, accepted}
+use Rattle.session_rules.specs.Machine.{Call, add, addAll, withdraw, takeBack, keep, returnTo, Answer, accepted}
 use Rattle.session_rules.specs.Sound as machine
 use Rattle.session.specs.declared.Session.{Session}
 use Rattle.session.specs.declared.AfterAdd.{AfterAdd}
 use Rattle.session.specs.declared.AfterAddAll.{AfterAddAll}
 use Rattle.session.specs.declared.AfterWithdraw.{AfterWithdraw}
 use Rattle.session.specs.declared.AfterTakeBack.{AfterTakeBack}
-use Rattle.session_answers.specs.Answers.{addAnswer, addAllAnswer, withdrawAnswer, takeBackAnswer}
+use Rattle.session.specs.declared.AfterKeep.{AfterKeep}
+use Rattle.session.specs.declared.AfterReturn.{AfterReturn}
+use Rattle.session_answers.specs.Answers.{addAnswer, addAllAnswer, withdrawAnswer, takeBackAnswer, keepAnswer, returnAnswer}
 use Rattle.session.specs.View.{sessionOf}
-use Rattle.session.specs.Value.{addOf, addAllOf, withdrawOf, takeBackOf, freshOf, blankBoard}
+use Rattle.session.specs.Value.{addOf, addAllOf, withdrawOf, takeBackOf, keepOf, returnOf, freshOf, blankBoard}
 
 -- Made on the session s, a call of the machine's was answered a and handed back the session t:
 pub record CallPromise (s : Session) (c : Call) (a : Answer) (t : Session) : Type 0 where
@@ -48,6 +50,16 @@ pub record TakeBackPromise (s : Session) (r : AfterTakeBack) : Type 0 where
   pub value : r ≡ takeBackOf s
   pub call : CallPromise s takeBack (takeBackAnswer (r .answer)) (r .session)
   pub kept : (takeBackAnswer (r .answer) ≡ accepted → ⊥) → r .session ≡ s
+
+pub record KeepPromise (s : Session) (k : ℕ) (r : AfterKeep) : Type 0 where
+  pub value : r ≡ keepOf s k
+  pub call : CallPromise s (keep k) (keepAnswer (r .answer)) (r .session)
+  pub kept : (keepAnswer (r .answer) ≡ accepted → ⊥) → r .session ≡ s
+
+pub record ReturnPromise (s : Session) (k : ℕ) (r : AfterReturn) : Type 0 where
+  pub value : r ≡ returnOf s k
+  pub call : CallPromise s (returnTo k) (returnAnswer (r .answer)) (r .session)
+  pub kept : (returnAnswer (r .answer) ≡ accepted → ⊥) → r .session ≡ s
 
 -- a session on a block, fresh if its board is convex
 pub record FreshPromise (b : code.Block) (r : Session) : Type 0 where

@@ -1,4 +1,4 @@
-// Sessions: a block, the nets on its board, and the pile of changes that can be taken back.
+// Sessions: a block, the nets on its board, the pile of changes that can be taken back, and the trial layouts kept under eight names.
 // Each call takes a session and hands back the next. A refused call hands back the session that it was given; `add_all` hands back the one that the
 // nets before the refused one left.
 use board::Board;
@@ -10,8 +10,11 @@ use net::Net;
 use net::Place;
 use session_answers::AddAllAnswer;
 use session_answers::AddAnswer;
+use session_answers::KeepAnswer;
+use session_answers::ReturnAnswer;
 use session_answers::TakeBackAnswer;
 use session_answers::WithdrawAnswer;
+use session_names::Name;
 use session_pile::Pile;
 ghost use mathlib.Core.Path.{_≡_};
 ghost use Rattle.count.specs.Truth.{Decides};
@@ -19,14 +22,17 @@ ghost use Rattle.session_rules.specs.Sound.{Sound, sound?};
 ghost use Rattle.session_answers.specs.Answers.{goesOn};
 ghost use Prim.Native.Nat.{_+_, _<_, _^_};
 ghost use Rattle.session.specs.View.{sessionOf, Sized};
-ghost use Rattle.session.specs.Value.{withPlaces, changed, addSound, withdrawSound, takeBackSound, noneAdded, withNet};
-ghost use Rattle.session.specs.Promise.{AddPromise, AddAllPromise, WithdrawPromise, TakeBackPromise, FreshPromise, BlankPromise};
+ghost use Rattle.session.specs.Value.{withPlaces, withNames, changed};
+ghost use Rattle.session.specs.Value.{addSound, withdrawSound, takeBackSound, keepSound, returnSound, noneAdded, withNet};
+ghost use Rattle.session.specs.Promise.{AddPromise, AddAllPromise, WithdrawPromise, TakeBackPromise, KeepPromise, ReturnPromise};
+ghost use Rattle.session.specs.Promise.{FreshPromise, BlankPromise};
 
 // Net n is held at place n - 1.
 pub struct Session {
     pub block: Block,
     pub nets: [Place; 64],
     pub pile: Pile,
+    pub names: [Name; 8],
 }
 
 // What each call hands back: its answer and the next session.
@@ -50,20 +56,29 @@ pub struct AfterTakeBack {
     pub session: Session,
 }
 
-// A session on the block, with no nets and an empty pile.
+pub struct AfterKeep {
+    pub answer: KeepAnswer,
+    pub session: Session,
+}
+
+pub struct AfterReturn {
+    pub answer: ReturnAnswer,
+    pub session: Session,
+}
+
+// A session on the block, with no nets, an empty pile and nothing kept.
 pub fn fresh(block: Block) -> Session
     ensures { λ r. ⌜ FreshPromise block r ⌝ }
 {
-    let slot = session_pile::no_slot();
+    let pile = session_pile::empty();
+    let name = session_names::nothing_kept();
     Session {
         block,
         nets: [Place {
             held: Held::Nothing,
         }; 64],
-        pile: Pile {
-            depth: 0,
-            changes: [slot; 64],
-        },
+        pile,
+        names: [name; 8],
     }
 }
 
@@ -78,18 +93,25 @@ pub fn blank() -> Session
 }
 
 impl Session {
+    // Is the session sound? That its arrays have 64 places is told to the calls besides.
+    fn is_sound(self) -> bool
+        ensures { λ r. ⌜ Decides r (sound? (sessionOf self)) (Sound (sessionOf self)) × Sized self ⌝ }
+    {
+        let b = self.block;
+        let nets = self.nets;
+        let pile = self.pile;
+        let names = self.names;
+        board_convex::is_convex(b.board)
+            & (session_sound::is_addable(b, nets)
+                & ((pile.is_short() & session_sound::lifts(b, nets, pile))
+                    & session_sound::all_fine(b, names)))
+    }
+
     // Is the session sound?
     pub fn sound(self) -> bool
         ensures { λ r. ⌜ Decides r (sound? (sessionOf self)) (Sound (sessionOf self)) ⌝ }
     {
-        let b = self.block;
-        if !board_convex::is_convex(b.board) {
-            return false;
-        }
-        let nets = self.nets;
-        let pile = self.pile;
-        session_sound::is_addable(b, nets)
-            & ((pile.depth <= 64) & session_sound::lifts(b, nets, pile))
+        self.is_sound()
     }
 
     // The session with these places and this pile; all else that it holds stays.
@@ -97,7 +119,28 @@ impl Session {
         ensures { λ r. ⌜ r ≡ withPlaces self nets pile ⌝ }
     {
         let block = self.block;
-        Session { block, nets, pile }
+        let names = self.names;
+        Session {
+            block,
+            nets,
+            pile,
+            names,
+        }
+    }
+
+    // The session with these names; all else that it holds stays.
+    fn with_names(self, names: [Name; 8]) -> Session
+        ensures { λ r. ⌜ r ≡ withNames self names ⌝ }
+    {
+        let block = self.block;
+        let nets = self.nets;
+        let pile = self.pile;
+        Session {
+            block,
+            nets,
+            pile,
+            names,
+        }
     }
 
     // The session with other places, and the change laid on the pile.
@@ -173,11 +216,54 @@ impl Session {
         }
     }
 
+    fn keep_sound(self, name: u8) -> AfterKeep
+        ensures { λ r. ⌜ r ≡ keepSound self name ⌝ }
+    {
+        if !session_names::is_name(name) {
+            return AfterKeep {
+                answer: KeepAnswer::NoName,
+                session: self,
+            };
+        }
+        let nets = self.nets;
+        let names = self.names;
+        let next = session_names::stored(names, name, nets);
+        AfterKeep {
+            answer: KeepAnswer::Accepted,
+            session: self.with_names(next),
+        }
+    }
+
+    fn return_sound(self, name: u8) -> AfterReturn
+        ensures { λ r. ⌜ r ≡ returnSound self name ⌝ }
+    {
+        if !session_names::is_name(name) {
+            return AfterReturn {
+                answer: ReturnAnswer::NoName,
+                session: self,
+            };
+        }
+        let names = self.names;
+        let there = session_names::name_of(names, name);
+        if !there.kept {
+            return AfterReturn {
+                answer: ReturnAnswer::NothingKept,
+                session: self,
+            };
+        }
+        let nets = there.nets;
+        let pile = session_pile::empty();
+        AfterReturn {
+            answer: ReturnAnswer::Accepted,
+            session: self.with_places(nets, pile),
+        }
+    }
+
     // Puts the net in and lays "added" with it on the pile.
     pub fn add(self, net: Net) -> AfterAdd
         ensures { λ r. ⌜ AddPromise self net r ⌝ }
     {
-        if !self.sound() {
+        if !self.is_sound() {
             return AfterAdd {
                 answer: AddAnswer::Unsound,
                 session: self,
@@ -190,7 +276,7 @@ impl Session {
     fn none_added(self) -> AfterAddAll
         ensures { λ r. ⌜ (r ≡ noneAdded self) × Sized self ⌝ }
     {
-        let last = if self.sound() {
+        let last = if self.is_sound() {
             AddAnswer::Accepted
         } else {
             AddAnswer::Unsound
@@ -216,7 +302,7 @@ impl Session {
     pub fn withdraw(self, number: u8) -> AfterWithdraw
         ensures { λ r. ⌜ WithdrawPromise self number r ⌝ }
     {
-        if !self.sound() {
+        if !self.is_sound() {
             return AfterWithdraw {
                 answer: WithdrawAnswer::Unsound,
                 session: self,
@@ -229,13 +315,39 @@ impl Session {
     pub fn take_back(self) -> AfterTakeBack
         ensures { λ r. ⌜ TakeBackPromise self r ⌝ }
     {
-        if !self.sound() {
+        if !self.is_sound() {
             return AfterTakeBack {
                 answer: TakeBackAnswer::Unsound,
                 session: self,
             };
         }
         self.take_back_sound()
+    }
+
+    // Stores the nets on the board under a name, 0 to 7, over what it held. The pile stays as it is.
+    pub fn keep(self, name: u8) -> AfterKeep
+        ensures { λ r. ⌜ KeepPromise self name r ⌝ }
+    {
+        if !self.is_sound() {
+            return AfterKeep {
+                answer: KeepAnswer::Unsound,
+                session: self,
+            };
+        }
+        self.keep_sound(name)
+    }
+
+    // Puts the nets that are kept under a name on the board, in place of those that are on it, and empties the pile. The names stay as they are.
+    pub fn return_to(self, name: u8) -> AfterReturn
+        ensures { λ r. ⌜ ReturnPromise self name r ⌝ }
+    {
+        if !self.is_sound() {
+            return AfterReturn {
+                answer: ReturnAnswer::Unsound,
+                session: self,
+            };
+        }
+        self.return_sound(name)
     }
 }
 

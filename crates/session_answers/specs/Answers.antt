@@ -1,4 +1,4 @@
--- Definitions only: document 01's number and place for each answer of a call that changes a session. Nothing is proved here.
+-- Definitions only: the number and place of document 01, or 02, for each answer of a call that changes a session. Nothing is proved here.
 use mathlib.Core.Bool.{Bool, true, false, cond, _&&_}
 use mathlib.Core.Option.{Option, none, some}
 use Prim.Native.Nat.{ℕ, _+_}
@@ -12,6 +12,10 @@ use Rattle.session_answers.specs.declared.WithdrawAnswer as withdraw
 use Rattle.session_answers.specs.declared.WithdrawAnswer.the-variants as withdraw-is
 use Rattle.session_answers.specs.declared.TakeBackAnswer as back
 use Rattle.session_answers.specs.declared.TakeBackAnswer.the-variants as back-is
+use Rattle.session_answers.specs.declared.KeepAnswer as keep
+use Rattle.session_answers.specs.declared.KeepAnswer.the-variants as keep-is
+use Rattle.session_answers.specs.declared.ReturnAnswer as return
+use Rattle.session_answers.specs.declared.ReturnAnswer.the-variants as return-is
 use Rattle.session_answers.specs.declared.AddAllAnswer.{AddAllAnswer}
 use Rattle.session_answers.specs.declared.Told.{Told}
 
@@ -33,6 +37,17 @@ abbrev pub takeBackAnswer : back.TakeBackAnswer → Answer
 takeBackAnswer back-is.Accepted = accepted
 takeBackAnswer back-is.Unsound = refused (refusal 20 0)
 takeBackAnswer back-is.PileEmpty = refused (refusal 27 0)
+
+abbrev pub keepAnswer : keep.KeepAnswer → Answer
+keepAnswer keep-is.Accepted = accepted
+keepAnswer keep-is.Unsound = refused (refusal 20 0)
+keepAnswer keep-is.NoName = refused (refusal 35 0)
+
+abbrev pub returnAnswer : return.ReturnAnswer → Answer
+returnAnswer return-is.Accepted = accepted
+returnAnswer return-is.Unsound = refused (refusal 20 0)
+returnAnswer return-is.NoName = refused (refusal 35 0)
+returnAnswer return-is.NothingKept = refused (refusal 36 0)
 
 -- of a list of nets: how many went on, and the refusal that stopped it, if one did
 abbrev pub addAllAnswer : AddAllAnswer → Answer

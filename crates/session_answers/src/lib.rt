@@ -2,6 +2,7 @@
 ghost use mathlib.Core.Path.{_≡_};
 ghost use Prim.Native.Nat.{_+_, _<_, _^_};
 ghost use Rattle.session_answers.specs.Answers.{isAccepted, goesOn, counting, addAnswer, withdrawAnswer, takeBackAnswer, told};
+ghost use Rattle.session_answers.specs.Answers.{keepAnswer, returnAnswer};
 
 // What add answers. The number is that of the terminal: 0 the first, 1 the second.
 pub enum AddAnswer {
@@ -31,6 +32,19 @@ pub enum TakeBackAnswer {
     Accepted,
     Unsound,
     PileEmpty,
+}
+
+pub enum KeepAnswer {
+    Accepted,
+    Unsound,
+    NoName,
+}
+
+pub enum ReturnAnswer {
+    Accepted,
+    Unsound,
+    NoName,
+    NothingKept,
 }
 
 // An answer by its number and place; both are 0 where the call is accepted.
@@ -139,6 +153,48 @@ pub fn take_back_told(answer: TakeBackAnswer) -> Told
         },
         TakeBackAnswer::PileEmpty => Told {
             number: 27,
+            place: 0,
+        },
+    }
+}
+
+pub fn keep_told(answer: KeepAnswer) -> Told
+    ensures { λ r. ⌜ r ≡ told (keepAnswer answer) ⌝ }
+{
+    match answer {
+        KeepAnswer::Accepted => Told {
+            number: 0,
+            place: 0,
+        },
+        KeepAnswer::Unsound => Told {
+            number: 20,
+            place: 0,
+        },
+        KeepAnswer::NoName => Told {
+            number: 35,
+            place: 0,
+        },
+    }
+}
+
+pub fn return_told(answer: ReturnAnswer) -> Told
+    ensures { λ r. ⌜ r ≡ told (returnAnswer answer) ⌝ }
+{
+    match answer {
+        ReturnAnswer::Accepted => Told {
+            number: 0,
+            place: 0,
+        },
+        ReturnAnswer::Unsound => Told {
+            number: 20,
+            place: 0,
+        },
+        ReturnAnswer::NoName => Told {
+            number: 35,
+            place: 0,
+        },
+        ReturnAnswer::NothingKept => Told {
+            number: 36,
             place: 0,
         },
     }

@@ -3,15 +3,18 @@
 use mathlib.Core.Path.{_≡_, refl, ap}
 use mathlib.Core.Bool.{Bool, true, false, not}
 use mathlib.Core.List.{List, [], _∷_}
+use mathlib.Core.Logic.{inl, inr}
 use mathlib.Core.Option.{Option, none, some}
 use Prim.Native.Nat.{ℕ, _+_}
 use native.Mathlib.Omega.{arith}
+use lib.Dec.{leb}
+use Rattle.count.specs.TruthLaws.{bool}
 use Rattle.board.specs.Degree.{vertex?}
 use Rattle.net.specs.Terminals.{same}
 use Rattle.net.specs.declared.Net.{Net}
 use Rattle.net.specs.declared.Change.{Change}
 use Rattle.session_rules.specs.Session as machine
-use Rattle.session_rules.specs.Session.{holds, netOf}
+use Rattle.session_rules.specs.Session.{Kept, keptAs, holds, netOf}
 use Rattle.session_rules.specs.Refusal.{Refusal, line, firstRefusal}
 use Rattle.session_rules.specs.Add.{goodNumber, full, addLines, addRefused}
 use Rattle.session_rules.specs.Machine.{
@@ -20,7 +23,10 @@ use Rattle.session_rules.specs.Machine.{
   addAll,
   withdraw,
   takeBack,
+  keep,
+  returnTo,
   Answer,
+  accept,
   Step,
   step,
   addStep,
@@ -28,20 +34,20 @@ use Rattle.session_rules.specs.Machine.{
   addAllStep,
   withdrawStep,
   takeBackStep,
+  named,
+  returnStep,
+  keptUnder,
+  lastName,
   added,
   after,
   answers,
 }
-use Rattle.session_rules.specs.Sound.{Sound, call}
-use Rattle.session_laws.specs.Exact.{sound-exact}
+use Rattle.session_rules.specs.Sound.{Sound}
+use Rattle.session_laws.specs.Exact.{call-step}
 use Rattle.session_laws.specs.Stays.{stays-sound}
 use Rattle.session.specs.declared.Session.{Session}
 use Rattle.session.specs.View.{sessionOf}
 use Rattle.session_history.specs.Made.{Made, changed, routed, routedBytes, Meets, handed, callOf, answerOf, numberOf, Never}
-
-pub call-step : (s : machine.Session) (c : Call) → Sound s → call s c ≡ step s c
-unfolding call
-call-step s c h = rw (sound-exact s .1 h) refl
 
 -- ── the machine never answers 20 ──
 first-not-20 : (a b c d e f g : Bool) (n : Net) (s : machine.Session)
@@ -84,12 +90,21 @@ back-not-20 : (cs : List Change) (s : machine.Session) → numberOf (takeBackSte
 back-not-20 [] s h = omega arith
 back-not-20 (c ∷ cs) s h = omega arith
 
+named-not-20 : (k : ℕ) (s : machine.Session) (x : Step) → (numberOf (x .answer) ≡ 20 → ⊥) → numberOf (named k s x .answer) ≡ 20 → ⊥
+named-not-20 k s x f = elim (bool (leb k lastName)) [ inl e ↦ rw e f | inr e ↦ rw e (λ h. omega arith) ]
+
+return-not-20 : (x : Kept) (s : machine.Session) → numberOf (returnStep x s .answer) ≡ 20 → ⊥
+return-not-20 none s h = omega arith
+return-not-20 (some ns) s h = omega arith
+
 pub step-not-20 : (s : machine.Session) (c : Call) → numberOf (step s c .answer) ≡ 20 → ⊥
 unfolding step
 step-not-20 s (add n) = add-not-20 s n
 step-not-20 s (addAll ns) = all-not-20 0 ns s
 step-not-20 s (withdraw k) = withdraw-not-20 (netOf k (s .nets)) s
 step-not-20 s takeBack = back-not-20 (s .pile) s
+step-not-20 s (keep k) = named-not-20 k s (accept (keptUnder k s)) (λ h. omega arith)
+step-not-20 s (returnTo k) = named-not-20 k s (returnStep (keptAs k s) s) (return-not-20 (keptAs k s) s)
 
 -- ── a call that met its promise ──
 -- DEFINITION: after one call from the session s, all is as the machine has it

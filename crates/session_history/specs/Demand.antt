@@ -77,12 +77,14 @@ pub record RightlyBoth (m : Session) (answer : Result ℕ) (HandedBack : ℕ →
 abbrev pub RefusedAlike : RouteAnswer → RouteAnswer → Type 0
 RefusedAlike x y = (q : Refusal) → (routeAnswer x ≡ no q) ↔ (routeAnswer y ≡ no q)
 
--- the whole of demand 3, for the calls ms from the fresh session s: the machine starts with its board, no nets and an empty pile
+-- the whole of demand 3, for the calls ms from the fresh session s: the machine starts with its board, no nets, an empty pile and nothing kept.
+-- "its lists take in every call that changes a session" (02, §5): any mixture of them, and of routing calls
 pub record Demand3 (s : code.Session) (ms : List Made) : Type 0 where
-  -- "after it the board, nets and pile are those of 01's list machine,
+  -- "after it the board, nets and pile are those of 01's list machine", which "holds the names too" (02, §5),
   pub session : sessionOf (last s ms) ≡ after (bare (sessionOf s .block)) (callsOf ms)
-  -- and each add, withdrawal and take-back", and each list of nets, "was answered as the machine answers."
+  -- "and each add, withdrawal and take-back", and each list of nets, keep and return, "was answered as the machine answers."
   pub answered : answersOf ms ≡ answers (bare (sessionOf s .block)) (callsOf ms)
+  -- "a routing after any mixture concerns the nets that the history, returns included, leaves on the board" (02, §5): those that the machine then holds
   pub routings : Everywhere RoutedRightly (bare (sessionOf s .block)) ms
   -- and while every vertex is even, in the demand's own words
   pub even-routings : Everywhere RoutedEven (bare (sessionOf s .block)) ms

@@ -1,5 +1,5 @@
--- Demand 3 for adds, lists of nets, withdrawals and take-backs: over every list of calls from a fresh session, refused ones included, the session
--- handed back last is the list machine's, and each answer is the machine's.
+-- Demand 3 for adds, lists of nets, withdrawals, take-backs, keeps and returns: over every list of calls from a fresh session, refused ones included,
+-- the session handed back last is the list machine's, and each answer is the machine's.
 -- Assumes of each call only its promise.
 use mathlib.Core.Path.{_≡_, refl, ap, subst}
 use mathlib.Core.List.{List, [], _∷_, _++_}
@@ -27,7 +27,7 @@ pub record AsTheMachine (s : Session) (ms : List Made) : Type 0 where
   pub sound : Sound (sessionOf (last s ms))
 
 -- ── lists joined ──
-after-append : (s : machine.Session) (xs ys : List Call) → after s (xs ++ ys) ≡ after (after s xs) ys
+pub after-append : (s : machine.Session) (xs ys : List Call) → after s (xs ++ ys) ≡ after (after s xs) ys
 unfolding after
 after-append s [] ys = refl
 after-append s (x ∷ xs) ys = after-append (step s x .next) xs ys
@@ -63,7 +63,8 @@ from-sound s (m ∷ ms) h k =
 pub as-the-machine : (s : Session) (ms : List Made) → Fresh (sessionOf s) → Chain s ms → AsTheMachine s ms
 as-the-machine s ms f k = from-sound s ms (f .sound) k
 
--- From the session that `fresh` hands back on any convex board: the machine starts with that board, no nets and an empty pile.
+-- From the session that `fresh` hands back on any convex board: the machine starts with that board, no nets, an empty pile and
+-- nothing kept.
 pub history : (b : code.Block) (s : Session) (ms : List Made) → Within (blockOf b .board) → Convex (blockOf b .board) → FreshPromise b s → Chain s ms
     → AsTheMachine s ms
     × (sessionOf (last s ms) ≡ after (bare (blockOf b)) (callsOf ms))

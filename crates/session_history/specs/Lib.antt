@@ -4,3 +4,4 @@ pub mod History
 pub mod Demand
 pub mod Routing
 pub mod Listed
+pub mod Names

@@ -19,7 +19,7 @@ use Rattle.session_rules.specs.Refusal.{Refusal}
 use Rattle.session_rules.specs.Machine.{Call, addAll, wentOn, step, after}
 use Rattle.session_rules.specs.Sound.{Sound, sound?, call}
 use Rattle.session_rules.specs.OneByOne.{singly}
-use Rattle.session_laws.specs.Exact.{sound-exact}
+use Rattle.session_laws.specs.Exact.{sound-exact, call-step}
 use Rattle.session_laws.specs.OneByOne.{tried-next}
 use Rattle.session.specs.declared.Session.{Session}
 use Rattle.session.specs.View.{sessionOf}
@@ -30,7 +30,6 @@ use Rattle.call_rules.specs.RouteLaws.{same-refusal, not-given}
 use Rattle.route_call.specs.declared.RouteAnswer.{RouteAnswer}
 use Rattle.session_history.specs.Made.{Made, changed, routed, routedBytes, Meets, Chain, last, callsOf}
 use Rattle.session_history.specs.Demand.{RefusedAlike}
-use Rattle.session_history.specs.Call.{call-step}
 use Rattle.session_history.specs.History.{from-sound}
 
 -- ── an unsound session stays as it is ──

@@ -18,7 +18,7 @@ use Rattle.routing_rules.specs.Routing.{Routable}
 use Rattle.corner.specs.Paths.{routing-routable, tidied}
 use Rattle.corner.specs.Theorem.{needed-cuts, routable}
 use Rattle.session_rules.specs.Refusal.{Refusal, refusal}
-use Rattle.session_rules.specs.Session.{Session, withNets, pairs}
+use Rattle.session_rules.specs.Session.{Session, withNets, withKept, pairs}
 use Rattle.session_rules.specs.Machine.{after}
 use Rattle.session_rules.specs.Sound.{Sound, Fresh, bare}
 use Rattle.session_laws.specs.Exact.{sound-exact}
@@ -146,7 +146,7 @@ each-even s (changed c a t) S k = tt
 -- ── demand 3 ──
 -- a fresh session is the machine's start
 fresh-bare : (m : Session) → Fresh m → m ≡ bare (m .block)
-fresh-bare m F = λ i. withNets m (F .no-nets i) (F .no-pile i)
+fresh-bare m F = λ i. withKept (withNets m (F .no-nets i) (F .no-pile i)) (F .none-kept i)
 
 pub demand-3 : (s : code.Session) (ms : List Made) → Fresh (sessionOf s) → Chain s ms → Demand3 s ms
 demand-3 s ms F k =

@@ -1,37 +1,73 @@
--- The test of soundness is exact.
+-- The test of soundness is exact; a call on a sound session is the machine's step (`call-step`).
 -- Assumes nothing.
 use mathlib.Core.Path.{_≡_, refl}
 use mathlib.Core.Bool.{true, _&&_}
-use mathlib.Core.List.{[]}
+use mathlib.Core.List.{List, [], _∷_}
 use mathlib.Core.Logic.{_↔_}
-use lib.Dec.{leb}
-use lib.ListN.{length}
-use borrow.Author.Tests.{leb-true, le-leb}
-use Rattle.count.specs.TruthLaws.{and-true}
+use mathlib.Core.Option.{none, some}
+use Prim.Native.Nat.{ℕ, zero, suc}
+use native.Mathlib.Omega.{arith}
+use lib.Dec.{eqb, leb}
+use lib.ListN.{length, getD}
+use borrow.Author.Tests.{leb-true, le-leb, eqb-true, eq-eqb}
+use Rattle.count.specs.TruthLaws.{and-true, and-yes}
+use Rattle.board_block.specs.Block.{Block}
 use Rattle.board_convex.specs.Test.{isConvex}
 use Rattle.board_convex.specs.Exact.{is-convex}
-use Rattle.session_rules.specs.Session.{Session}
-use Rattle.session_rules.specs.Machine.{pileLimit}
-use Rattle.session_rules.specs.Sound.{rising?, addable?, lifts?, Sound, sound?}
+use Rattle.net.specs.declared.Net.{Net}
+use Rattle.session_rules.specs.Session.{Kept, Session}
+use Rattle.session_rules.specs.Machine.{Call, step, pileLimit}
+use Rattle.session_rules.specs.Sound.{rising?, addable?, lifts?, nameCount, keptFine?, allFine?, Sound, sound?, call}
 
+-- ── what is kept under the names ──
+-- DEFINITION: where x holds nets, they stand in rising number and could all be added to the bare board
+abbrev Fine : Block → Kept → Type 0
+Fine b x = (ns : List Net) → x ≡ some ns → (rising? ns ≡ true) × (addable? b [] ns ≡ true)
+
+kept-fine : (b : Block) (x : Kept) → keptFine? b x ≡ true → Fine b x
+kept-fine b none e ns f = absurd (let z : _≡_ {A = ℕ} 0 1 = cc in omega arith)
+kept-fine b (some ms) e ns f = let g : ms ≡ ns = cc in rw g at (and-true (rising? ms) (addable? b [] ms) e)
+
+fine-kept : (b : Block) (x : Kept) → Fine b x → keptFine? b x ≡ true
+fine-kept b none f = refl
+fine-kept b (some ns) f = let g = f ns refl in and-yes (rising? ns) (addable? b [] ns) (g .0) (g .1)
+
+all-fine : (b : Block) (ks : List Kept) → allFine? b ks ≡ true → (k : ℕ) → Fine b (getD ks k none)
+unfolding allFine?
+all-fine b [] e k = λ ns f. absurd (let z : _≡_ {A = ℕ} 0 1 = cc in omega arith)
+all-fine b (x ∷ ks) e zero = kept-fine b x (and-true (keptFine? b x) (allFine? b ks) e .0)
+all-fine b (x ∷ ks) e (suc k) = all-fine b ks (and-true (keptFine? b x) (allFine? b ks) e .1) k
+
+fine-all : (b : Block) (ks : List Kept) → ((k : ℕ) → Fine b (getD ks k none)) → allFine? b ks ≡ true
+unfolding allFine?
+fine-all b [] f = refl
+fine-all b (x ∷ ks) f = and-yes (keptFine? b x) (allFine? b ks) (fine-kept b x (f 0)) (fine-all b ks (λ k. f (suc k)))
+
+-- ── the whole test ──
 pub sound-exact : (s : Session) → (sound? s ≡ true) ↔ Sound s
 unfolding sound?
 sound-exact s = (
   λ e.
-      let t = and-true (isConvex (s .block .board)) ((rising? (s .nets) && addable? (s .block) [] (s .nets))
-      && (leb (length (s .pile)) pileLimit && lifts? (s .block) (s .nets) (s .pile))) e in
-      let u = and-true (rising? (s .nets) && addable? (s .block) [] (s .nets))
-      (leb (length (s .pile)) pileLimit && lifts? (s .block) (s .nets) (s .pile)) (t .1) in
+      let nets = rising? (s .nets) && addable? (s .block) [] (s .nets) in
+      let pile = leb (length (s .pile)) pileLimit && lifts? (s .block) (s .nets) (s .pile) in
+      let names = eqb (length (s .kept)) nameCount && allFine? (s .block) (s .kept) in
+      let t = and-true (isConvex (s .block .board)) (nets && (pile && names)) e in
+      let u = and-true nets (pile && names) (t .1) in
       let v = and-true (rising? (s .nets)) (addable? (s .block) [] (s .nets)) (u .0) in
-      let w = and-true (leb (length (s .pile)) pileLimit) (lifts? (s .block) (s .nets) (s .pile)) (u .1) in
+      let w = and-true pile names (u .1) in
+      let x = and-true (leb (length (s .pile)) pileLimit) (lifts? (s .block) (s .nets) (s .pile)) (w .0) in
+      let y = and-true (eqb (length (s .kept)) nameCount) (allFine? (s .block) (s .kept)) (w .1) in
       let k = is-convex (s .block .board) .0 (t .0) in
       record {
         within = k .0;
         convex = k .1;
         rising = v .0;
         addable = v .1;
-        short = leb-true (length (s .pile)) pileLimit (w .0);
-        lifts = w .1;
+        short = leb-true (length (s .pile)) pileLimit (x .0);
+        lifts = x .1;
+        eight = eqb-true (length (s .kept)) nameCount (y .0);
+        kept-rising = λ k ns f. all-fine (s .block) (s .kept) (y .1) k ns f .0;
+        kept-addable = λ k ns f. all-fine (s .block) (s .kept) (y .1) k ns f .1;
       },
   λ h. rw (
     is-convex (s .block .board) .1 (h .within, h .convex),
@@ -39,5 +75,11 @@ sound-exact s = (
     h .addable,
     le-leb (length (s .pile)) pileLimit (h .short),
     h .lifts,
+    eq-eqb (length (s .kept)) nameCount (h .eight),
+    fine-all (s .block) (s .kept) (λ k ns f. (h .kept-rising k ns f, h .kept-addable k ns f)),
   ) refl,
 )
+
+pub call-step : (s : Session) (c : Call) → Sound s → call s c ≡ step s c
+unfolding call
+call-step s c h = rw (sound-exact s .1 h) refl

@@ -5,5 +5,6 @@ pub mod Rising
 pub mod Fine
 pub mod Addable
 pub mod Stays
+pub mod Names
 pub mod OneByOne
 pub mod Few

@@ -1,20 +1,24 @@
 -- Every call leads from a sound session of the machine to a sound one. A bare convex board is a sound session.
 -- Assumes nothing.
-use mathlib.Core.Path.{_≡_, refl, ap}
+use mathlib.Core.Path.{_≡_, refl, ap, sym, _∙_}
 use mathlib.Core.Bool.{true, _&&_}
 use mathlib.Core.List.{List, [], _∷_}
+use mathlib.Core.Logic.{_⊎_, inl, inr}
 use mathlib.Core.Option.{Option, none, some}
 use Prim.Native.Nat.{ℕ, zero, suc, _+_, _≤_}
 use native.Mathlib.Omega.{arith}
-use lib.ListN.{length, take, length-take}
-use Rattle.count.specs.TruthLaws.{and-true, and-yes}
+use lib.Dec.{leb}
+use lib.ListN.{length, take, length-take, length-set, getD, getD-replicate, List·getD-eq-default}
+use lib.Seq.{getD-set-same, getD-set-other}
+use borrow.Author.Tests.{leb-true}
+use Rattle.count.specs.TruthLaws.{bool, and-true, and-yes, eq-or-ne, le-or-lt}
 use Rattle.board.specs.Board.{Within}
 use Rattle.board.specs.Path.{Convex}
 use Rattle.board_block.specs.Block.{Block}
 use Rattle.net.specs.declared.Net.{Net}
 use Rattle.net.specs.declared.Change.{Change}
 use Rattle.net.specs.declared.Change.the-variants.{Added, Withdrawn}
-use Rattle.session_rules.specs.Session.{Session, insert, remove, netOf}
+use Rattle.session_rules.specs.Session.{Kept, Session, keptAs, insert, remove, netOf}
 use Rattle.session_rules.specs.Add.{addRefused, accepts}
 use Rattle.session_rules.specs.Refusal.{Refusal}
 use Rattle.session_rules.specs.Machine.{
@@ -23,12 +27,17 @@ use Rattle.session_rules.specs.Machine.{
   addAll,
   withdraw,
   takeBack,
+  keep,
+  returnTo,
+  accept,
   Step,
   stopOr,
   addStep,
   addAllStep,
   withdrawStep,
   takeBackStep,
+  named,
+  returnStep,
   step,
   lay,
   pileLimit,
@@ -36,8 +45,11 @@ use Rattle.session_rules.specs.Machine.{
   withdrawn,
   reversed,
   takenBack,
+  keptUnder,
+  returned,
+  lastName,
 }
-use Rattle.session_rules.specs.Sound.{rising?, addable?, liftable?, lifts?, Sound, Fresh, bare}
+use Rattle.session_rules.specs.Sound.{rising?, addable?, liftable?, lifts?, Sound, Fresh, bare, nameCount, nothingKept}
 use Rattle.session_laws.specs.Accept.{free-of, free-accepted}
 use Rattle.session_laws.specs.Insert.{netOf-number, recorded-insert, remove-insert}
 use Rattle.session_laws.specs.Rising.{rising-from, from-rising, insert-remove}
@@ -47,16 +59,19 @@ use Rattle.session_laws.specs.Addable.{fine-of, fine-addable}
 pub sound-fine : (s : Session) → Sound s → Fine (s .block) (s .nets)
 sound-fine s h = fine-of (s .block) (s .nets) (rising-from (s .nets) (h .rising)) (h .addable)
 
--- the board stays, the nets keep within it, and the pile is short and can be lifted
-fine-sound : (s t : Session) → Sound s → t .block ≡ s .block → Fine (s .block) (t .nets) → length (t .pile) ≤ pileLimit
+-- the board and the names stay, the nets keep within the board, and the pile is short and can be lifted
+fine-sound : (s t : Session) → Sound s → t .block ≡ s .block → t .kept ≡ s .kept → Fine (s .block) (t .nets) → length (t .pile) ≤ pileLimit
     → lifts? (s .block) (t .nets) (t .pile) ≡ true → Sound t
-fine-sound s t h e f l k = record {
+fine-sound s t h e n f l k = record {
   within = rw e (h .within);
   convex = rw e (h .convex);
   rising = from-rising (t .nets) (f .rising);
   addable = rw e (fine-addable (s .block) (t .nets) f);
   short = l;
   lifts = rw e k;
+  eight = rw n (h .eight);
+  kept-rising = rw n (h .kept-rising);
+  kept-addable = rw (e, n) (h .kept-addable);
 }
 
 -- ── a change is laid on the pile ──
@@ -85,7 +100,7 @@ sound-added : (s : Session) (n : Net) → Sound s → accepts (s .block) (s .net
 unfolding added liftable? reversed
 sound-added s n h e =
     let f = free-of (s .block) (s .nets) n e in
-    fine-sound s (added n s) h refl (fine-insert (s .block) (s .nets) n (sound-fine s h) f) (short-lay (Added n) (s .pile))
+    fine-sound s (added n s) h refl refl (fine-insert (s .block) (s .nets) n (sound-fine s h) f) (short-lay (Added n) (s .pile))
     (lifts-lay (s .block) (insert n (s .nets)) (Added n) (s .pile) (recorded-insert n (s .nets)) (rw (remove-insert n (s .nets) (f .new)) (h .lifts)))
 
 sound-withdrawn : (s : Session) (k : ℕ) (n : Net) → Sound s → netOf k (s .nets) ≡ some n → Sound (withdrawn n s)
@@ -97,7 +112,7 @@ sound-withdrawn s k n h e =
     let fine : Fine (s .block) (remove (n .number) (s .nets)) = rw i (fine-remove (s .block) k (s .nets) f) in
     let free : accepts (s .block) (remove (n .number) (s .nets)) n ≡ true
     = rw i (free-accepted (s .block) (remove k (s .nets)) n (free-removed (s .block) k (s .nets) n f e)) in
-    fine-sound s (withdrawn n s) h refl fine (short-lay (Withdrawn n) (s .pile))
+    fine-sound s (withdrawn n s) h refl refl fine (short-lay (Withdrawn n) (s .pile))
     (lifts-lay (s .block) (remove (n .number) (s .nets)) (Withdrawn n) (s .pile) free (rw (i, back) (h .lifts)))
 
 fine-reversed : (b : Block) (ns : List Net) (c : Change) → Fine b ns → liftable? b ns c ≡ true → Fine b (reversed c ns)
@@ -111,7 +126,48 @@ sound-back s c cs h e =
     let l : liftable? (s .block) (s .nets) c && lifts? (s .block) (reversed c (s .nets)) cs ≡ true = rw e at (h .lifts) in
     let t = and-true (liftable? (s .block) (s .nets) c) (lifts? (s .block) (reversed c (s .nets)) cs) l in
     let n : suc (length cs) ≤ pileLimit = rw e at (h .short) in
-    fine-sound s (takenBack c cs s) h refl (fine-reversed (s .block) (s .nets) c (sound-fine s h) (t .0)) (omega arith) (t .1)
+    fine-sound s (takenBack c cs s) h refl refl (fine-reversed (s .block) (s .nets) c (sound-fine s h) (t .0)) (omega arith) (t .1)
+
+-- ── names ──
+-- what a name holds after a keep: the nets on the board, or what it held
+kept-which : (s : Session) (k : ℕ) → Sound s → k ≤ lastName → (j : ℕ) (ns : List Net) → keptAs j (keptUnder k s) ≡ some ns
+    → (ns ≡ s .nets) ⊎ (keptAs j s ≡ some ns)
+unfolding keptUnder
+kept-which s k h l j ns e = elim (eq-or-ne j k) [
+  | inl f ↦
+      let g : some (s .nets) ≡ some ns = sym (getD-set-same (s .kept) k (some (s .nets)) none (let n = h .eight in omega arith)) ∙ (rw f at e) in
+      inl (cc)
+  | inr f ↦ inr (sym (getD-set-other (s .kept) k j (some (s .nets)) none f) ∙ e)
+]
+
+sound-kept : (s : Session) (k : ℕ) → Sound s → k ≤ lastName → Sound (keptUnder k s)
+unfolding keptUnder
+sound-kept s k h l = record {
+  within = h .within;
+  convex = h .convex;
+  rising = h .rising;
+  addable = h .addable;
+  short = h .short;
+  lifts = h .lifts;
+  eight = length-set (s .kept) k (some (s .nets)) ∙ h .eight;
+  kept-rising = λ j ns e. elim (kept-which s k h l j ns e) [ inl f ↦ rw f (h .rising) | inr f ↦ h .kept-rising j ns f ];
+  kept-addable = λ j ns e. elim (kept-which s k h l j ns e) [ inl f ↦ rw f (h .addable) | inr f ↦ h .kept-addable j ns f ];
+}
+
+-- nets that a name holds are as good as new, and an empty pile can be lifted
+sound-returned : (s : Session) (k : ℕ) (ns : List Net) → Sound s → keptAs k s ≡ some ns → Sound (returned ns s)
+unfolding returned lifts?
+sound-returned s k ns h e = record {
+  within = h .within;
+  convex = h .convex;
+  rising = h .kept-rising k ns e;
+  addable = h .kept-addable k ns e;
+  short = omega arith;
+  lifts = refl;
+  eight = h .eight;
+  kept-rising = h .kept-rising;
+  kept-addable = h .kept-addable;
+}
 
 pub add-stays : (s : Session) (n : Net) (r : Option Refusal) → addRefused (s .block) (s .nets) n ≡ r → Sound s → Sound (addStep r n s .next)
 unfolding accepts
@@ -138,6 +194,13 @@ back-stays : (s : Session) (cs : List Change) → s .pile ≡ cs → Sound s →
 back-stays s [] e h = h
 back-stays s (c ∷ cs) e h = sound-back s c cs h e
 
+named-stays : (k : ℕ) (s : Session) (x : Step) → Sound s → (k ≤ lastName → Sound (x .next)) → Sound (named k s x .next)
+named-stays k s x h f = elim (bool (leb k lastName)) [ inl e ↦ rw e (f (leb-true k lastName e)) | inr e ↦ rw e h ]
+
+return-stays : (s : Session) (k : ℕ) (x : Kept) → keptAs k s ≡ x → Sound s → Sound (returnStep x s .next)
+return-stays s k none e h = h
+return-stays s k (some ns) e h = sound-returned s k ns h e
+
 -- A sound session stays sound.
 pub stays-sound : (s : Session) (c : Call) → Sound s → Sound (step s c .next)
 unfolding step
@@ -145,12 +208,35 @@ stays-sound s (add n) h = add-stays s n (addRefused (s .block) (s .nets) n) refl
 stays-sound s (addAll ns) h = all-stays 0 ns s h
 stays-sound s (withdraw k) h = withdraw-stays s k (netOf k (s .nets)) refl h
 stays-sound s takeBack h = back-stays s (s .pile) refl h
+stays-sound s (keep k) h = named-stays k s (accept (keptUnder k s)) h (sound-kept s k h)
+stays-sound s (returnTo k) h = named-stays k s (returnStep (keptAs k s) s) h (λ l. return-stays s k (keptAs k s) refl h)
+
+-- nothing is kept under any name
+none-kept : (k : ℕ) → getD nothingKept k none ≡ none
+none-kept k = elim (le-or-lt nameCount k) [
+  | inl l ↦ List·getD-eq-default nothingKept none {n = k} (omega arith)
+  | inr l ↦ getD-replicate nameCount k none none l
+]
 
 -- A bare board that is within the limits and convex is a fresh session.
 pub fresh-bare : (b : Block) → Within (b .board) → Convex (b .board) → Fresh (bare b)
 unfolding rising? addable? lifts?
 fresh-bare b w c = record {
-  sound = record { within = w; convex = c; rising = refl; addable = refl; short = omega arith; lifts = refl };
+  sound = record {
+    within = w;
+    convex = c;
+    rising = refl;
+    addable = refl;
+    short = omega arith;
+    lifts = refl;
+    eight = refl;
+    kept-rising = λ k ns e. absurd (never k ns e);
+    kept-addable = λ k ns e. absurd (never k ns e);
+  };
   no-nets = refl;
   no-pile = refl;
+  none-kept = refl;
 }
+  where
+    never : (k : ℕ) (ns : List Net) → getD nothingKept k none ≡ some ns → ⊥
+    never k ns e = let n : none ≡ some ns = sym (none-kept k) ∙ e in let z : _≡_ {A = ℕ} 0 1 = cc in omega arith

@@ -4,7 +4,7 @@ use mathlib.Core.Bool.{cond}
 use mathlib.Core.List.{List, [], _∷_, _++_}
 use Prim.Native.Nat.{ℕ, zero, suc, _+_, _-_}
 use lib.Dec.{ltb}
-use lib.ListN.{getD, set, drop}
+use lib.ListN.{getD, set, drop, replicate}
 use Rattle.board.specs.Board.{at}
 use Rattle.net.specs.declared.Change.{Change}
 use Rattle.net.specs.declared.Change.the-variants.{Added}
@@ -27,6 +27,9 @@ changesOf cs (suc d) = getD cs d noSlot .change ∷ changesOf cs d
 -- "a pile of changes". Its top is the first of the list.
 unfoldable pub pileOf : Pile → List Change
 pileOf p = changesOf (p .changes) (p .depth)
+
+abbrev pub emptyPile : Pile
+emptyPile = record { depth = 0; changes = replicate 64 noSlot }
 
 -- the change on top; of an empty pile the one past the end
 abbrev pub topOf : Pile → Change

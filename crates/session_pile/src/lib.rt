@@ -6,8 +6,9 @@ use net::Pair;
 use numbers::wide;
 ghost use mathlib.Core.Path.{_≡_};
 ghost use mathlib.Core.List.{_++_};
-ghost use lib.ListN.{drop};
-ghost use Rattle.session_pile.specs.Pile.{noSlot, topOf, lifted, laid};
+ghost use lib.Dec.{leb};
+ghost use lib.ListN.{length, drop};
+ghost use Rattle.session_pile.specs.Pile.{noSlot, emptyPile, topOf, lifted, laid};
 
 // A change on the pile.
 pub struct Slot {
@@ -34,6 +35,17 @@ pub fn no_slot() -> Slot
     }
 }
 
+// The pile with no change on it.
+pub fn empty() -> Pile
+    ensures { λ r. ⌜ r ≡ emptyPile ⌝ }
+{
+    let slot = no_slot();
+    Pile {
+        depth: 0,
+        changes: [slot; 64],
+    }
+}
+
 // The slots moved down by one place; the last one keeps what it held.
 fn moved_down(a: [Slot; 64]) -> [Slot; 64]
     ensures { λ r. ⌜ r ≡ drop 1 a ++ drop 63 a ⌝ }
@@ -46,6 +58,13 @@ fn moved_down(a: [Slot; 64]) -> [Slot; 64]
 }
 
 impl Pile {
+    // Is the pile at most 64 long? That its array has 64 slots is told besides.
+    pub fn is_short(self) -> bool
+        ensures { λ r. ⌜ (r ≡ leb (self .depth) 64) × (length (self .changes) ≡ 64) ⌝ }
+    {
+        self.depth <= 64
+    }
+
     // The pile with one more change on top; a pile of 64 loses its lowest.
     pub fn lay(self, change: Change) -> Pile
         ensures { λ r. ⌜ r ≡ laid change self ⌝ }

@@ -4,3 +4,4 @@ pub mod Add
 pub mod Machine
 pub mod Sound
 pub mod OneByOne
+pub mod Names

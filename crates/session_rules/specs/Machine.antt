@@ -1,14 +1,16 @@
--- Definitions only: the list machine (document 01, "The session and its list machine"; a list of nets in one call: document 02, §1).
--- Nothing is proved here.
+-- Definitions only: the list machine (document 01, "The session and its list machine"; a list of nets in one call: document 02, §1; trial layouts
+-- by name: §5). Nothing is proved here.
+use mathlib.Core.Bool.{cond}
 use mathlib.Core.List.{List, [], _∷_}
 use mathlib.Core.Option.{Option, none, some}
 use Prim.Native.Nat.{ℕ, _+_}
-use lib.ListN.{take}
+use lib.Dec.{leb}
+use lib.ListN.{take, set}
 use Rattle.net.specs.declared.Net.{Net}
 use Rattle.net.specs.declared.Change.{Change}
 use Rattle.net.specs.declared.Change.the-variants.{Added, Withdrawn}
 use Rattle.session_rules.specs.Refusal.{Refusal, refusal}
-use Rattle.session_rules.specs.Session.{Session, withNets, insert, remove, netOf}
+use Rattle.session_rules.specs.Session.{Kept, Session, withNets, withKept, keptAs, insert, remove, netOf}
 use Rattle.session_rules.specs.Add.{addRefused}
 
 -- the calls that change a session, with their arguments
@@ -17,6 +19,8 @@ pub data Call : Type 0 where
   addAll : List Net → Call
   withdraw : ℕ → Call
   takeBack : Call
+  keep : (name : ℕ) → Call
+  returnTo : (name : ℕ) → Call
 
 -- "It answers that a call is accepted, or refuses it with number and place"; of a list of nets (02, §1) "The answer says how many went on, and on
 -- a refusal the number and place of that add."
@@ -68,6 +72,14 @@ reversed (Withdrawn n) ns = insert n ns
 unfoldable pub takenBack : Change → List Change → Session → Session
 takenBack c cs s = withNets s (reversed c (s .nets)) cs
 
+-- 02, §5: "Keep stores the nets now on the board under a name, over what it held."
+unfoldable pub keptUnder : (name : ℕ) → Session → Session
+keptUnder k s = withKept s (set (s .kept) k (some (s .nets)))
+
+-- "Return makes those nets current and empties the pile."
+unfoldable pub returned : List Net → Session → Session
+returned ns s = withNets s ns []
+
 abbrev pub addStep : Option Refusal → Net → Session → Step
 addStep none n s = accept (added n s)
 addStep (some r) n s = refuse r s
@@ -93,12 +105,27 @@ abbrev pub takeBackStep : List Change → Session → Step
 takeBackStep [] s = refuse (refusal 27 0) s
 takeBackStep (c ∷ cs) s = accept (takenBack c cs s)
 
--- one call, read against the machine's own board, nets and pile
+-- "eight names, 0 to 7"
+abbrev pub lastName : ℕ
+lastName = 7
+
+-- "Refused: 35 for a name above 7"
+abbrev pub named : (name : ℕ) → Session → Step → Step
+named k s x = cond (leb k lastName) x (refuse (refusal 35 0) s)
+
+-- "then 36 for a return to a name that holds nothing kept (a keep of no nets counts as kept)"
+abbrev pub returnStep : Kept → Session → Step
+returnStep none s = refuse (refusal 36 0) s
+returnStep (some ns) s = accept (returned ns s)
+
+-- one call, read against the machine's own board, nets, pile and names
 unfoldable pub step : Session → Call → Step
 step s (add n) = addStep (addRefused (s .block) (s .nets) n) n s
 step s (addAll ns) = addAllStep 0 ns s
 step s (withdraw k) = withdrawStep (netOf k (s .nets)) s
 step s takeBack = takeBackStep (s .pile) s
+step s (keep k) = named k s (accept (keptUnder k s))
+step s (returnTo k) = named k s (returnStep (keptAs k s) s)
 
 -- a list of calls: the session after them, and the answer to each
 unfoldable pub after : Session → List Call → Session

@@ -1,11 +1,12 @@
--- Definitions only: sound, fresh and blank sessions, and what a call does with any session (document 01, refusal 20). Nothing is proved here.
+-- Definitions only: sound, fresh and blank sessions, and what a call does with any session (document 01, refusal 20; names: document 02, §5).
+-- Nothing is proved here.
 use mathlib.Core.Path.{_≡_}
 use mathlib.Core.Bool.{Bool, true, cond, _&&_}
 use mathlib.Core.List.{List, [], _∷_}
-use mathlib.Core.Option.{some}
-use Prim.Native.Nat.{_≤_}
-use lib.Dec.{leb, ltb}
-use lib.ListN.{length}
+use mathlib.Core.Option.{none, some}
+use Prim.Native.Nat.{ℕ, suc, _≤_}
+use lib.Dec.{eqb, leb, ltb}
+use lib.ListN.{length, replicate}
 use Rattle.board.specs.Board.{Within}
 use Rattle.board.specs.Path.{Convex}
 use Rattle.board_block.specs.Block.{Block, plain}
@@ -14,7 +15,7 @@ use Rattle.net.specs.declared.Net.{Net}
 use Rattle.net.specs.declared.Change.{Change}
 use Rattle.net.specs.declared.Change.the-variants.{Added, Withdrawn}
 use Rattle.session_rules.specs.Refusal.{Refusal, refusal}
-use Rattle.session_rules.specs.Session.{Session, insert, recorded}
+use Rattle.session_rules.specs.Session.{Kept, Session, keptAs, insert, recorded}
 use Rattle.session_rules.specs.Add.{accepts}
 use Rattle.session_rules.specs.Machine.{
   Call,
@@ -22,6 +23,8 @@ use Rattle.session_rules.specs.Machine.{
   addAll,
   withdraw,
   takeBack,
+  keep,
+  returnTo,
   Answer,
   refused,
   wentOn,
@@ -29,6 +32,7 @@ use Rattle.session_rules.specs.Machine.{
   step,
   pileLimit,
   reversed,
+  lastName,
 }
 
 -- The nets stand "in rising number".
@@ -52,6 +56,19 @@ unfoldable pub lifts? : Block → List Net → List Change → Bool
 lifts? b ns [] = true
 lifts? b ns (c ∷ cs) = liftable? b ns c && lifts? b (reversed c ns) cs
 
+-- how many names there are, from 0
+abbrev pub nameCount : ℕ
+nameCount = suc lastName
+
+-- nothing is kept, or nets in rising number that "could all be added to the bare board"
+abbrev pub keptFine? : Block → Kept → Bool
+keptFine? b none = true
+keptFine? b (some ns) = rising? ns && addable? b [] ns
+
+unfoldable pub allFine? : Block → List Kept → Bool
+allFine? b [] = true
+allFine? b (k ∷ ks) = keptFine? b k && allFine? b ks
+
 -- "A session is sound when .."
 pub record Sound (s : Session) : Type 0 where
   -- "its board is within the limits and convex,
@@ -63,13 +80,18 @@ pub record Sound (s : Session) : Type 0 where
   -- and its pile, at most 64 long, can be lifted to the bottom"
   pub short : length (s .pile) ≤ pileLimit
   pub lifts : lifts? (s .block) (s .nets) (s .pile) ≡ true
+  -- 02, §5: "A session is sound only if each name's nets could all be added to the bare board."
+  pub eight : length (s .kept) ≡ nameCount
+  pub kept-rising : (k : ℕ) (ns : List Net) → keptAs k s ≡ some ns → rising? ns ≡ true
+  pub kept-addable : (k : ℕ) (ns : List Net) → keptAs k s ≡ some ns → addable? (s .block) [] ns ≡ true
 
 -- the test of it: see `sound-exact`
 unfoldable pub sound? : Session → Bool
 sound? s =
     isConvex (s .block .board)
     && ((rising? (s .nets) && addable? (s .block) [] (s .nets))
-    && (leb (length (s .pile)) pileLimit && lifts? (s .block) (s .nets) (s .pile)))
+    && ((leb (length (s .pile)) pileLimit && lifts? (s .block) (s .nets) (s .pile))
+    && (eqb (length (s .kept)) nameCount && allFine? (s .block) (s .kept))))
 
 -- how a call answers that is refused before anything is done: of a list of nets none went on
 abbrev pub refusedWhole : Call → Refusal → Answer
@@ -77,20 +99,27 @@ refusedWhole (add n) r = refused r
 refusedWhole (addAll ns) r = wentOn 0 (some r)
 refusedWhole (withdraw k) r = refused r
 refusedWhole takeBack r = refused r
+refusedWhole (keep k) r = refused r
+refusedWhole (returnTo k) r = refused r
 
 -- "Every call that takes a session refuses an unsound one first, with 20."
 unfoldable pub call : Session → Call → Step
 call s c = cond (sound? s) (step s c) (record { answer = refusedWhole c (refusal 20 0); next = s })
+
+-- 02, §5: "a fresh, read or blank one has nothing kept", under any of the names
+abbrev pub nothingKept : List Kept
+nothingKept = replicate nameCount none
 
 -- "A session is fresh when it is sound, with no nets and an empty pile."
 pub record Fresh (s : Session) : Type 0 where
   pub sound : Sound s
   pub no-nets : s .nets ≡ []
   pub no-pile : s .pile ≡ []
+  pub none-kept : s .kept ≡ nothingKept
 
--- a session on a block, with no nets and an empty pile
+-- a session on a block, with no nets, an empty pile and nothing kept
 abbrev pub bare : Block → Session
-bare b = record { block = b; nets = []; pile = [] }
+bare b = record { block = b; nets = []; pile = []; kept = nothingKept }
 
 -- "the blank session: row 0 from 0 to 1, no nets."
 abbrev pub blank : Session

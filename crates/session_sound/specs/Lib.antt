@@ -1,3 +1,4 @@
 pub mod Reverse
 pub mod Room
 pub mod RoomLaws
+pub mod NamesFine

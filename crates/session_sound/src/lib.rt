@@ -5,14 +5,17 @@ use net::Change;
 use net::Held;
 use net::Place;
 use numbers::wide;
+use session_names::Name;
 use session_pile::Pile;
 ghost use mathlib.Core.Path.{_≡_};
 ghost use mathlib.Core.List.{[]};
+ghost use lib.ListN.{length};
 ghost use Rattle.board.specs.Board.{Within};
 ghost use Rattle.board_block.specs.View.{blockOf};
-ghost use Rattle.session_rules.specs.Sound.{addable?, liftable?, lifts?};
+ghost use Rattle.session_rules.specs.Sound.{addable?, liftable?, lifts?, nameCount, keptFine?, allFine?};
 ghost use Rattle.net_places.specs.Places.{netsOf};
 ghost use Rattle.session_pile.specs.Pile.{pileOf};
+ghost use Rattle.session_names.specs.Names.{keptIn, keptOf};
 ghost use Rattle.session_sound.specs.Room.{roomAt, heldRoom};
 
 // Are there pins at v for all the terminals counted there? Outside lines and columns 0 to 31 no place has pins.
@@ -44,15 +47,39 @@ fn has_room(b: Block, counts: &[u8; 1024], place: Place) -> bool
     }
 }
 
-// Could the nets all be added to the bare board? Their terminals are counted once for all vertices, and then each net is looked at.
+// Could the nets all be added to the bare board? Their terminals are counted once for all vertices, and then each net is looked at. Outside the limits
+// of a board the answer says nothing, as terminals are counted within them.
 pub fn is_addable(b: Block, nets: [Place; 64]) -> bool
-    requires { ⌜ Within (blockOf b .board) ⌝ }
-    ensures { λ r. ⌜ r ≡ addable? (blockOf b) [] (netsOf nets) ⌝ }
+    ensures { λ r. ⌜ (Within (blockOf b .board) → r ≡ addable? (blockOf b) [] (netsOf nets)) ⌝ }
+    ensures { λ r. ⌜ length nets ≡ 64 ⌝ }
 {
     let counts = net_terminals::count_terminals(nets);
     let mut ok = true;
     for i in 0..64 {
         ok = ok & has_room(b, &counts, nets[i]);
+    }
+    ok
+}
+
+// Could the nets that are kept under a name all be added to the bare board?
+fn is_fine(b: Block, name: Name) -> bool
+    ensures { λ r. ⌜ (Within (blockOf b .board) → r ≡ keptFine? (blockOf b) (keptIn name)) ⌝ }
+{
+    if !name.kept {
+        return true;
+    }
+    let nets = name.nets;
+    is_addable(b, nets)
+}
+
+// Could each name's nets all be added to the bare board?
+pub fn all_fine(b: Block, names: [Name; 8]) -> bool
+    ensures { λ r. ⌜ (Within (blockOf b .board) → r ≡ allFine? (blockOf b) (keptOf names)) ⌝ }
+    ensures { λ r. ⌜ length (keptOf names) ≡ nameCount ⌝ }
+{
+    let mut ok = true;
+    for i in 0..8 {
+        ok = ok & is_fine(b, names[i]);
     }
     ok
 }

@@ -16,8 +16,8 @@ use Rattle.routing_rules.specs.Routing.{edgesFrom, trails, uses}
 use Rattle.routing_rules.specs.Check.{path?, joins?, once?, routing?}
 use Rattle.session_rules.specs.Session.{holds, insert, remove, netOf, recorded}
 use Rattle.session_rules.specs.Add.{addLines, addRefused, accepts}
-use Rattle.session_rules.specs.Machine.{lay, added, withdrawn, reversed, takenBack, addAllStep, step, after, answers}
-use Rattle.session_rules.specs.Sound.{rising?, addable?, liftable?, lifts?, sound?, call}
+use Rattle.session_rules.specs.Machine.{lay, added, withdrawn, reversed, takenBack, keptUnder, returned, addAllStep, step, after, answers}
+use Rattle.session_rules.specs.Sound.{rising?, addable?, liftable?, lifts?, allFine?, sound?, call}
 use Rattle.words.specs.BoardWord.{boardWord, asRow, asNet, asEnd}
 use Rattle.words.specs.RoutingWord.{routingWord, asPath, asRun, asRoutingEnd, runsOf, pathWords, pathsWords, routingWords}
 use Rattle.words.specs.Bytes.{wordsIn, bytesOf}
@@ -34,8 +34,8 @@ unfoldable pub everything : ℕ
 unfolding sum count select turn turns belowRight belowLeft aboveRight aboveLeft vertex? edge? degree pins pinsOf rowsFit contains? peels
     inLimits isConvex
     terminals edges crosses crossing margin overfull? cuts overfullCuts odd? oddVertices edgesFrom trails uses path? joins? once? routing? holds
-    insert remove netOf recorded addLines addRefused accepts lay added withdrawn reversed takenBack addAllStep step rising? addable? liftable? lifts?
-    sound? call
+    insert remove netOf recorded addLines addRefused accepts lay added withdrawn reversed takenBack keptUnder returned addAllStep step
+    rising? addable? liftable? lifts? allFine? sound? call
     boardWord asRow asNet asEnd routingWord asPath asRun asRoutingEnd runsOf pathWords pathsWords routingWords wordsIn bytesOf wordLines takeWords
     addListed readNets readTaken readWords readBytes boardWords writeBoard wordsRefused runsFrom pathsFrom walkSteps walkRuns walkPath walkPaths
     directions edgesUsed turnsMade turnsAt turning knockKnee knockKnees among? alike? equallyMany judged judgeWords compareWords judgeBytes

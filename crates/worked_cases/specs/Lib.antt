@@ -4,3 +4,4 @@ pub mod Table
 pub mod Reading
 pub mod Judging
 pub mod Sessions
+pub mod Names

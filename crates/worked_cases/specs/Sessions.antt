@@ -13,7 +13,7 @@ use Rattle.board_block.specs.Block.{plain}
 use Rattle.session_rules.specs.Refusal.{Refusal}
 use Rattle.session_rules.specs.Session.{withNets}
 use Rattle.session_rules.specs.Machine.{Call, add, addAll, withdraw, takeBack, Answer, accepted, refused, wentOn, after, answers}
-use Rattle.session_rules.specs.Sound.{sound?, call, bare, blank}
+use Rattle.session_rules.specs.Sound.{sound?, call, bare, blank, nothingKept}
 use Rattle.call_rules.specs.Writing.{writeBoard}
 use Rattle.call_rules.specs.Route.{routeRefused}
 use Rattle.worked_cases.specs.Everything.{everything}
@@ -25,7 +25,7 @@ refusalList none = []
 refusalList (some r) = r .number ∷ r .place
 
 -- the same of an answer; of a list of nets, how many went on stands before it
-abbrev answerList : Answer → List ℕ
+abbrev pub answerList : Answer → List ℕ
 answerList accepted = []
 answerList (refused r) = r .number ∷ r .place
 answerList (wentOn k r) = k ∷ refusalList r
@@ -66,6 +66,7 @@ history : after (bare (plain (board (row 0 1 ∷ [])))) (add (net 2 0 0 1 1) ∷
       block = plain (board (row 0 1 ∷ []));
       nets = net 1 1 0 0 1 ∷ net 2 0 0 1 1 ∷ [];
       pile = Added (net 1 1 0 0 1) ∷ Added (net 2 0 0 1 1) ∷ [];
+      kept = nothingKept;
     }
 unfolding everything
 history = refl
@@ -103,6 +104,7 @@ list-history : after (bare (plain (board (row 0 1 ∷ [])))) (addAll (net 4 0 0 
       block = plain (board (row 0 1 ∷ []));
       nets = net 3 1 0 0 1 ∷ net 4 0 0 1 1 ∷ [];
       pile = Added (net 3 1 0 0 1) ∷ Added (net 4 0 0 1 1) ∷ [];
+      kept = nothingKept;
     }
 unfolding everything
 list-history = refl

@@ -1,4 +1,4 @@
--- `fresh` gives the session with no nets and an empty pile.
+-- `fresh` gives the session with no nets, an empty pile and nothing kept.
 use mathlib.Core.Path.{refl}
 use Rattle.session.specs.Value.{freshOf}
 use Rattle.session.specs.Starts.{fresh-promise}
@@ -6,12 +6,15 @@ use borrow.Author.Needs.{needs}
 use Rattle.session.proofs.fresh.Statement.{statement}
 use Rattle.session.proofs.fresh.Tie as tie
 
-no-slot-requires : tie.Need-no-slot-requires
-no-slot-requires c κs = search needs
+empty-requires : tie.Need-empty-requires
+empty-requires c κs = search needs
+
+nothing-kept-requires : tie.Need-nothing-kept-requires
+nothing-kept-requires c κs = search needs
 
 returns : tie.Need-returns
 unfolding freshOf
-returns c = fresh-promise (c .before .args .block) _ (rw (c .no-slot .ensures) refl)
+returns c = fresh-promise (c .before .before .args .block) _ (rw (c .nothing-kept .ensures, c .before .empty .ensures) refl)
 
 pub fresh-spec : {M : Type 1} → statement M
-fresh-spec = tie.close (tie.spec no-slot-requires returns)
+fresh-spec = tie.close (tie.spec empty-requires nothing-kept-requires returns)

@@ -62,9 +62,12 @@ returns c =
     let start = counted .before in
     let b = blockOf (start .args .b) in
     let nets = start .args .t2 in
-    let last : at .i ≡ length nets = omega arith in
-    room-last b _ nets (at .ok) _ (rw last at (at .inv .2))
-    ∙ room-addable b nets _ (start .pre) (at .inv .1) (counted .count-terminals .ensures)
+    let last : at .i ≡ length nets = omega arith in (
+      λ within.
+          room-last b _ nets (at .ok) _ (rw last at (at .inv .2))
+          ∙ room-addable b nets _ within (at .inv .1) (counted .count-terminals .ensures),
+      at .inv .1,
+    )
 
 pub is-addable-spec : {M : Type 1} → statement M
 is-addable-spec =

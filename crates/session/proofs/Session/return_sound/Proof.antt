@@ -1,0 +1,64 @@
+-- `return_sound` hands back what return does on a sound session.
+use mathlib.Core.Path.{_≡_, refl, sym, _∙_, ap}
+use mathlib.Core.Bool.{true, false}
+use borrow.Author.Tests.{not-true, not-false}
+use Rattle.session.specs.Value.{returnSound}
+use borrow.Author.Needs.{needs}
+use Rattle.session.proofs.Session.return_sound.Statement.{statement}
+use Rattle.session.proofs.Session.return_sound.Tie as tie
+
+is-name-requires : tie.Need-is-name-requires
+is-name-requires c κs = search needs
+
+returns : tie.Need-returns
+unfolding returnSound
+returns c =
+    let name = c .before .is-name in
+    rw (sym (name .ensures) ∙ not-true (name .result) (c .if1 .taken)) refl
+
+name-of-requires : tie.Need-name-of-requires
+name-of-requires c κs = search needs
+
+returns-2 : tie.Need-returns-2
+unfolding returnSound
+returns-2 c =
+    let there = c .before .before .name-of in
+    let at-if = c .before .before .before .before in
+    let name = at-if .before .is-name in
+    let none : there .result .kept ≡ false = not-true (there .result .kept) (c .if2 .taken) in
+    rw (sym (name .ensures) ∙ not-false (name .result) (at-if .if1 .left), ← there .ensures, none) refl
+
+empty-requires : tie.Need-empty-requires
+empty-requires c κs = search needs
+
+with-places-requires : tie.Need-with-places-requires
+with-places-requires c κs = search needs
+
+returns-3 : tie.Need-returns-3
+unfolding returnSound
+returns-3 c =
+    let at-empty = c .before in
+    let at-kept = at-empty .before .before in
+    let there = at-kept .before .before .name-of in
+    let at-if = at-kept .before .before .before .before in
+    let name = at-if .before .is-name in
+    let some : there .result .kept ≡ true = not-false (there .result .kept) (at-kept .if2 .left) in
+    rw (
+      sym (name .ensures) ∙ not-false (name .result) (at-if .if1 .left),
+      ← there .ensures,
+      some,
+      c .with-places .ensures,
+      at-empty .empty .ensures,
+    ) refl
+
+pub return-sound-spec : {M : Type 1} → statement M
+return-sound-spec =
+    tie.close
+    (tie.spec
+    is-name-requires
+    returns
+    name-of-requires
+    returns-2
+    empty-requires
+    with-places-requires
+    returns-3)

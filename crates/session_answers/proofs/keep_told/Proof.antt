@@ -1,0 +1,25 @@
+-- `keep_told` gives the number and place of an answer.
+use borrow.Author.Needs.{needs}
+use Rattle.session_answers.proofs.keep_told.Statement.{statement}
+use Rattle.session_answers.proofs.keep_told.Tie as tie
+
+enum-told : tie.Need-enum-told
+enum-told c = search needs
+
+enum-told-2 : tie.Need-enum-told-2
+enum-told-2 c = search needs
+
+enum-told-3 : tie.Need-enum-told-3
+enum-told-3 c = search needs
+
+returns : tie.Need-returns
+returns c = cc
+
+returns-2 : tie.Need-returns-2
+returns-2 c = cc
+
+returns-3 : tie.Need-returns-3
+returns-3 c = cc
+
+pub keep-told-spec : {M : Type 1} → statement M
+keep-told-spec = tie.close (tie.spec enum-told enum-told-2 enum-told-3 returns returns-2 returns-3)
