@@ -3,7 +3,8 @@
 //!     sessions [SEED]          all cases
 //!     sessions SEED s CASE     one case again
 //!
-//! The call paths asks for a routing. Which one is handed back is left open, so its words are judged for the nets that the calls before leave.
+//! The call paths asks for a routing. Which one is handed back is left open, so its words are judged for the nets that the calls before leave,
+//! returns to nets kept under a name among them. After the calls the nets, the pile and what each name holds are compared.
 //! The first difference ends the run with status 1 and prints seed, case, the text and both outputs. So does a run whose texts reach too little.
 //! With SESSIONS_COUNTS set in the environment, all that was reached is printed with its count.
 
@@ -24,6 +25,8 @@ const CASES: u64 = 3_000;
 const MOST_BYTES: usize = 65_536;
 /// The most changes on a pile.
 const PILE: usize = 64;
+/// How many names a session has, numbered from 0.
+const NAMES: usize = 8;
 /// The bytes of a buffer that any routing has room in.
 const ROOM: usize = 4 * 2049;
 /// Stands in the answers for the words of a routing.
@@ -42,11 +45,13 @@ enum Change {
     Withdrawn(Net),
 }
 
-/// The board with its nets in rising number, and the pile, its lowest change first. Besides, the answers so far and what was reached.
+/// The board with its nets in rising number, the pile, its lowest change first, and for each name the nets kept, if any are, be they none.
+/// Besides, the answers so far and what was reached.
 #[derive(Clone)]
 struct Machine {
     board: Board,
     pile: VecDeque<Change>,
+    names: [Option<Vec<Net>>; NAMES],
     /// What makes the board unsound, once it was looked for.
     flaw: Option<Option<&'static str>>,
     /// How many changes full piles have lost.
@@ -55,6 +60,29 @@ struct Machine {
     /// The boards whose routings the output has, in order.
     routed: Vec<Board>,
     counts: Counts,
+    past: Past,
+}
+
+/// What the counts go by besides the session: the last return since the last row, the names returned to since they were kept, and the names
+/// that lost their nets to a row.
+#[derive(Clone, Default)]
+struct Past {
+    returned: Option<Returned>,
+    returned_to: [bool; NAMES],
+    forgotten: [bool; NAMES],
+}
+
+/// What a return did.
+#[derive(Clone, Copy)]
+struct Returned {
+    /// How many changes it dropped from the pile.
+    dropped: usize,
+    /// Whether the nets were others before it.
+    changed: bool,
+    /// How many changes full piles had lost by then.
+    lost: u64,
+    /// The calls since, the one that is looked at among them.
+    calls: u64,
 }
 
 /// What keeps a session on these rows from being sound.
@@ -115,11 +143,13 @@ impl Machine {
         Machine {
             board: Board::bare(&[]),
             pile: VecDeque::new(),
+            names: Default::default(),
             flaw: None,
             lost: 0,
             output: String::new(),
             routed: Vec::new(),
             counts: Counts::new(),
+            past: Past::default(),
         }
     }
 
@@ -128,13 +158,15 @@ impl Machine {
         if !self.pile.is_empty() {
             self.count("a row dropped a session with changes");
         }
+        self.count_forgotten();
         self.board.rows.push((left, right));
         self.board.nets.clear();
         self.pile.clear();
+        self.names = Default::default();
         self.flaw = None;
     }
 
-    /// 20 where the session is not sound. From a fresh session on, calls keep nets and pile sound (see `lifts`), so the board decides.
+    /// 20 where the session is not sound. From a fresh session on, calls keep nets, pile and names sound (see `lifts`), so the board decides.
     fn unsound(&mut self) -> Result<(), Refused> {
         if self.flaw.is_none() {
             let found = flaw(&self.board.rows);
@@ -206,16 +238,43 @@ impl Machine {
         Ok(())
     }
 
-    /// The rest of soundness by its definition: the nets could all be added to the bare board, and the pile can be lifted to the bottom.
-    fn lifts(&self) -> bool {
+    /// Stores the nets now on the board under the name, over what it held.
+    fn keep(&mut self, name: usize) -> Result<(), Refused> {
+        self.unsound()?;
+        let kept = self.names.get_mut(name).ok_or((35, 0))?;
+        *kept = Some(self.board.nets.clone());
+        Ok(())
+    }
+
+    /// Makes the nets kept under the name current and empties the pile. The name goes on holding them.
+    fn return_to(&mut self, name: usize) -> Result<(), Refused> {
+        self.unsound()?;
+        let kept = self.names.get(name).ok_or((35, 0))?;
+        self.board.nets = kept.clone().ok_or((36, 0))?;
+        self.pile.clear();
+        Ok(())
+    }
+
+    /// The bare board with these nets added one by one, where each of them is accepted.
+    fn with_all(&self, nets: &[Net]) -> Option<Board> {
         let mut board = Board::bare(&self.board.rows);
-        for net in &self.board.nets {
+        for net in nets {
             if add_refused(&board, net).is_some() {
-                return false;
+                return None;
             }
             put(&mut board, net);
         }
+        Some(board)
+    }
+
+    /// The rest of soundness by its definition: the nets, and those of each name, could all be added to the bare board, and the pile can be lifted
+    /// to the bottom. Nets on the board and kept ones are in rising number.
+    fn lifts(&self) -> bool {
+        let addable = |nets: &Vec<Net>| self.with_all(nets).is_some_and(|board| board.nets == *nets);
+        let Some(mut board) = self.with_all(&self.board.nets) else { return false };
         self.pile.len() <= PILE
+            && board == self.board
+            && self.names.iter().flatten().all(addable)
             && self.pile.iter().rev().all(|change| match change {
                 Change::Added(net) => take(&mut board, net.number).as_ref() == Some(net),
                 Change::Withdrawn(net) => {
@@ -228,6 +287,9 @@ impl Machine {
 }
 
 // ---------------------------------------------------------------- the text and its answers
+
+/// The words that tell a call.
+const CALLS: [&str; 8] = ["row", "add", "adds", "withdraw", "back", "paths", "keep", "return"];
 
 /// A word in decimal; above 249 it is read as 255.
 fn number(word: &str) -> usize {
@@ -249,17 +311,21 @@ fn net_text(net: &Net) -> String {
     format!("{} {} {} {} {}", net.number, net.first.0, net.first.1, net.second.0, net.second.1)
 }
 
+fn nets_text(nets: &[Net]) -> String {
+    nets.iter().map(|net| format!("net {}\n", net_text(net))).collect()
+}
+
 impl Machine {
     /// One line of the text: its first word, whole, tells the call; other lines are passed over.
     fn line(&mut self, line: &str) {
         let mut words = line.split(' ').filter(|word| !word.is_empty());
         let call = words.next().unwrap_or("");
-        if !["row", "add", "adds", "withdraw", "back", "paths"].contains(&call) {
+        if !CALLS.contains(&call) {
             return self.count_passed_over(call);
         }
         let numbers: Vec<usize> = words.map(number).collect();
         if call != "row" {
-            self.count("call");
+            self.count_call();
         }
         self.count_numbers(call, &numbers);
         let lost = self.lost;
@@ -267,22 +333,50 @@ impl Machine {
             "row" => self.row(numbers.first().copied().unwrap_or(0), numbers.get(1).copied().unwrap_or(0)),
             "adds" => self.list(&numbers),
             "paths" => self.paths(),
-            _ => {
-                let result = match call {
-                    "add" => self.add(&net_of(&numbers)),
-                    "withdraw" => self.withdraw(numbers.first().copied().unwrap_or(0) as u32),
-                    _ => self.take_back(),
-                };
-                self.count_result(call, result);
-                self.output += &match result {
-                    Ok(()) => "accepted\n".to_string(),
-                    Err((number, place)) => format!("refused {number} {place}\n"),
-                };
-            }
+            _ => self.single(call, &numbers),
         }
         if self.lost > lost {
-            self.count(&format!("{call}: a pile of 64 lost changes"));
+            self.count_since(&format!("{call}: a pile of 64 lost changes"));
         }
+    }
+
+    /// A call that is accepted or refused, with no more to its answer.
+    fn single(&mut self, call: &str, numbers: &[usize]) {
+        let first = numbers.first().copied().unwrap_or(0);
+        let result = match call {
+            "add" => self.add(&net_of(numbers)),
+            "withdraw" => self.withdraw(first as u32),
+            "keep" => self.kept(first),
+            "return" => self.returned(first),
+            _ => self.take_back(),
+        };
+        self.count_result(call, result);
+        self.output += &match result {
+            Ok(()) => "accepted\n".to_string(),
+            Err((number, place)) => format!("refused {number} {place}\n"),
+        };
+    }
+
+    /// The call keep, with what it reached.
+    fn kept(&mut self, name: usize) -> Result<(), Refused> {
+        let held = self.names.get(name).cloned().flatten();
+        let result = self.keep(name);
+        match result {
+            Ok(()) => self.count_keep(name, held.as_deref()),
+            Err((number, _)) => self.count_name_refused("keep", number, name),
+        }
+        result
+    }
+
+    /// The call return, with what it reached.
+    fn returned(&mut self, name: usize) -> Result<(), Refused> {
+        let (nets, dropped) = (self.board.nets.clone(), self.pile.len());
+        let result = self.return_to(name);
+        match result {
+            Ok(()) => self.count_return(name, &nets, dropped),
+            Err((number, _)) => self.count_name_refused("return", number, name),
+        }
+        result
     }
 
     /// The call adds and its answer.
@@ -316,17 +410,21 @@ impl Machine {
         };
     }
 
-    /// After the text: the nets, then the pile from its top.
+    /// After the text: the nets, the pile from its top, then each name that holds something, with its nets.
     fn finish(&mut self) {
         assert!(self.lifts(), "the machine's own session became unsound");
-        for net in &self.board.nets {
-            self.output += &format!("net {}\n", net_text(net));
-        }
+        self.count_held();
+        self.output += &nets_text(&self.board.nets);
         for change in self.pile.iter().rev() {
             self.output += &match change {
                 Change::Added(net) => format!("added {}\n", net_text(net)),
                 Change::Withdrawn(net) => format!("withdrawn {}\n", net_text(net)),
             };
+        }
+        for (name, nets) in self.names.iter().enumerate() {
+            if let Some(nets) = nets {
+                self.output += &format!("kept {name} {}\n{}", nets.len(), nets_text(nets));
+            }
         }
     }
 }
@@ -378,22 +476,52 @@ impl Machine {
         }
     }
 
+    /// Counts what a call came to, and once more where a return came before it.
+    fn count_since(&mut self, what: &str) {
+        self.count(what);
+        if self.past.returned.is_some_and(|returned| returned.calls > 0) {
+            self.count(&format!("{what}, since a return"));
+        }
+    }
+
+    /// One more call, and one more since the last return.
+    fn count_call(&mut self) {
+        self.count("call");
+        if let Some(returned) = &mut self.past.returned {
+            returned.calls += 1;
+        }
+    }
+
     fn count_result(&mut self, call: &str, result: Result<(), Refused>) {
-        if result == Err((27, 0)) && !self.board.nets.is_empty() {
-            self.count("back: pile empty, nets left, since changes were lost");
+        if result == Err((27, 0)) {
+            self.count_pile_empty();
         }
         match result {
-            Ok(()) => self.count(&format!("{call} accepted")),
-            Err((number, place)) => self.count(&format!("{call} refused {number} at {place}")),
+            Ok(()) => self.count_since(&format!("{call} accepted")),
+            Err((number, place)) => self.count_since(&format!("{call} refused {number} at {place}")),
         }
+    }
+
+    /// A take back refused by 27: right after a return, or with nets left though more changes were made than the pile holds.
+    fn count_pile_empty(&mut self) {
+        let right_after = self.past.returned.filter(|returned| returned.calls == 1).map(|returned| returned.dropped);
+        let lost = self.lost > self.past.returned.map_or(0, |returned| returned.lost);
+        let reached = [
+            ("back refused 27 right after a return", right_after.is_some()),
+            ("back refused 27 right after a return that dropped changes", right_after.is_some_and(|dropped| dropped > 0)),
+            ("back refused 27 right after a return that dropped 64 changes", right_after == Some(PILE)),
+            ("back: pile empty, nets left, since changes were lost", lost && !self.board.nets.is_empty()),
+        ];
+        self.count_all(&reached);
     }
 
     /// What a call of paths came to: the number of its refusal, or a routing.
     fn count_paths(&mut self, refused: Option<u32>) {
+        self.count_came_back(refused);
         if let Some(number) = refused {
-            return self.count(&format!("paths refused {number}"));
+            return self.count_since(&format!("paths refused {number}"));
         }
-        self.count("paths: a routing");
+        self.count_since("paths: a routing");
         if !self.board.odd_vertices().is_empty() {
             self.count("paths: a routing, odd vertices");
         }
@@ -406,7 +534,10 @@ impl Machine {
     }
 
     fn count_passed_over(&mut self, word: &str) {
-        let like_a_call = ["row", "add", "withdraw", "back", "paths"].iter().any(|call| word.starts_with(call));
+        let like_a_call = CALLS.iter().any(|call| word.starts_with(call));
+        if word.starts_with("keep") || word.starts_with("return") {
+            self.count("line passed over that begins as keep or return does");
+        }
         self.count(match word {
             "" => "line without a word",
             _ if like_a_call => "line passed over that begins as a call does",
@@ -422,7 +553,7 @@ impl Machine {
             "row" => numbers.len() < 2,
             "add" => numbers.len() < 5,
             "adds" => numbers.len() % 5 > 0,
-            "withdraw" => numbers.is_empty(),
+            "withdraw" | "keep" | "return" => numbers.is_empty(),
             _ => false,
         };
         if missing {
@@ -462,8 +593,113 @@ impl Machine {
     }
 }
 
+// ---------------------------------------------------------------- what was reached of names
+
+impl Machine {
+    /// A keep that was accepted; `held` are the nets that the name held before.
+    fn count_keep(&mut self, name: usize, held: Option<&[Net]>) {
+        self.past.returned_to[name] = false;
+        let (nets, pile) = (self.board.nets.len(), self.pile.len());
+        let reached = [
+            ("keep: the name 7", name == 7),
+            ("keep: no nets", nets == 0),
+            ("keep: 64 nets", nets == 64),
+            ("keep: over what the name held", held.is_some()),
+            ("keep: over other nets", held.is_some_and(|held| held != &self.board.nets[..])),
+            ("keep: over more nets", held.is_some_and(|held| held.len() > nets)),
+            ("keep: no nets over nets", held.is_some_and(|held| nets == 0 && !held.is_empty())),
+            ("keep: changes on the pile", pile > 0),
+            ("keep: 64 changes on the pile", pile == PILE),
+        ];
+        self.count_all(&reached);
+    }
+
+    /// A return that was accepted; `before` are the nets that it found, `dropped` is how many changes it found on the pile.
+    fn count_return(&mut self, name: usize, before: &[Net], dropped: usize) {
+        let now = &self.board.nets;
+        let changed = before != &now[..];
+        let reached = [
+            ("return: the name 7", name == 7),
+            ("return: no nets", now.is_empty()),
+            ("return: no nets, nets left", now.is_empty() && changed),
+            ("return: 64 nets", now.len() == 64),
+            ("return: nets changed", changed),
+            ("return: nets the same, changes dropped", !changed && dropped > 0),
+            ("return: fewer nets than before", now.len() < before.len()),
+            ("return: more nets than before", now.len() > before.len()),
+            ("return: a number with other terminals", before.iter().any(|net| now.iter().any(|n| n.number == net.number && n != net))),
+            ("return: changes dropped", dropped > 0),
+            ("return: 64 changes dropped", dropped == PILE),
+            ("return: to a name returned to before", self.past.returned_to[name]),
+            ("return: right after a return", self.past.returned.is_some_and(|returned| returned.calls == 1)),
+        ];
+        self.count_all(&reached);
+        self.past.returned_to[name] = true;
+        self.past.returned = Some(Returned { dropped, changed, lost: self.lost, calls: 0 });
+    }
+
+    fn count_all(&mut self, reached: &[(&str, bool)]) {
+        reached.iter().filter(|(_, holds)| *holds).for_each(|(what, _)| self.count(what));
+    }
+
+    /// A keep or a return that was refused by that number.
+    fn count_name_refused(&mut self, call: &str, number: u32, name: usize) {
+        if number == 20 && name >= NAMES {
+            self.count(&format!("{call} refused 20 at 0, no name"));
+        }
+        if number == 35 && name == NAMES {
+            self.count(&format!("{call} refused 35 at 0, the number 8"));
+        }
+        if number != 20 && !self.pile.is_empty() {
+            self.count(&format!("{call} refused {number} at 0, changes on the pile"));
+        }
+        if number == 36 && self.past.forgotten[name] {
+            self.count("return refused 36 at 0, kept before a row");
+        }
+    }
+
+    /// A routing given or refused, where there was a return before it.
+    fn count_came_back(&mut self, refused: Option<u32>) {
+        let Some(returned) = self.past.returned else { return };
+        let (routing, changes) = (refused.is_none(), !self.pile.is_empty());
+        // With nothing lost, an empty pile means that the nets are those that came back.
+        let came_back = !changes && returned.lost == self.lost && !self.board.nets.is_empty();
+        let reached = [
+            ("paths: a routing of nets that came back", routing && came_back),
+            ("paths: a routing of nets that came back for others", routing && came_back && returned.changed),
+            ("paths: a routing, changes since a return", routing && changes),
+            ("paths: refused for nets that came back for others", !routing && came_back && returned.changed),
+        ];
+        self.count_all(&reached);
+    }
+
+    /// A row makes the session forget its names.
+    fn count_forgotten(&mut self) {
+        if self.names.iter().any(Option::is_some) {
+            self.count("a row dropped what names held");
+        }
+        let forgotten = std::array::from_fn(|name| self.past.forgotten[name] || self.names[name].is_some());
+        self.past = Past { forgotten, ..Past::default() };
+    }
+
+    /// What the names hold at the end.
+    fn count_held(&mut self) {
+        let held = self.names.iter().flatten().count();
+        let reached = [
+            ("end: nets kept", self.names.iter().flatten().any(|nets| !nets.is_empty())),
+            ("end: no nets kept under a name", self.names.iter().flatten().any(Vec::is_empty)),
+            ("end: all eight names held", held == NAMES),
+            ("end: names held, since a return", held > 0 && self.past.returned.is_some()),
+            ("end: names held, changes on the pile", held > 0 && !self.pile.is_empty()),
+        ];
+        self.count_all(&reached);
+    }
+}
+
+// ---------------------------------------------------------------- what has to be reached
+
 /// What has to be reached in a whole run, and how often at least. Each bound is two thirds or less of what each of the seeds 1985, 1 to 5 reaches.
-const FLOORS: [(&str, u64); 70] = [
+const FLOORS: [(&str, u64); 144] = [
     ("call", 150_000),
     ("add accepted", 20_000),
     ("add refused 20 at 0", 2_000),
@@ -534,6 +770,80 @@ const FLOORS: [(&str, u64); 70] = [
     ("paths: a routing, odd vertices", 1_900),
     ("line passed over", 3_500),
     ("line passed over that begins as a call does", 3_000),
+    ("line passed over that begins as keep or return does", 1_200),
+    ("keep accepted", 4_000),
+    ("keep accepted, since a return", 2_500),
+    ("keep refused 20 at 0", 200),
+    ("keep refused 20 at 0, no name", 40),
+    ("keep refused 35 at 0", 300),
+    ("keep refused 35 at 0, changes on the pile", 200),
+    ("keep refused 35 at 0, the number 8", 65),
+    ("keep: 64 changes on the pile", 100),
+    ("keep: 64 nets", 100),
+    ("keep: a number above 249", 50),
+    ("keep: a number missing", 150),
+    ("keep: changes on the pile", 3_200),
+    ("keep: no nets", 800),
+    ("keep: no nets over nets", 85),
+    ("keep: over more nets", 300),
+    ("keep: over other nets", 1_100),
+    ("keep: over what the name held", 1_300),
+    ("keep: the name 7", 450),
+    ("return accepted", 2_700),
+    ("return refused 20 at 0", 150),
+    ("return refused 20 at 0, no name", 45),
+    ("return refused 35 at 0", 350),
+    ("return refused 35 at 0, changes on the pile", 250),
+    ("return refused 35 at 0, the number 8", 85),
+    ("return refused 36 at 0", 1_100),
+    ("return refused 36 at 0, changes on the pile", 700),
+    ("return refused 36 at 0, kept before a row", 45),
+    ("return: 64 changes dropped", 45),
+    ("return: 64 nets", 40),
+    ("return: a number above 249", 55),
+    ("return: a number missing", 150),
+    ("return: a number with other terminals", 450),
+    ("return: changes dropped", 1_800),
+    ("return: fewer nets than before", 1_200),
+    ("return: more nets than before", 550),
+    ("return: nets changed", 2_000),
+    ("return: nets the same, changes dropped", 100),
+    ("return: no nets", 750),
+    ("return: no nets, nets left", 450),
+    ("return: right after a return", 200),
+    ("return: the name 7", 300),
+    ("return: to a name returned to before", 1_200),
+    ("add accepted, since a return", 9_000),
+    ("add refused 22 at 0, since a return", 750),
+    ("add refused 25 at 0, since a return", 1_900),
+    ("add refused 25 at 1, since a return", 250),
+    ("add: a pile of 64 lost changes, since a return", 700),
+    ("adds accepted, since a return", 2_500),
+    ("adds refused 22 at 0, since a return", 1_300),
+    ("adds refused 25 at 0, since a return", 1_100),
+    ("adds refused 25 at 1, since a return", 500),
+    ("adds: a pile of 64 lost changes, since a return", 200),
+    ("withdraw accepted, since a return", 13_500),
+    ("withdraw refused 26 at 0, since a return", 4_400),
+    ("withdraw: a pile of 64 lost changes, since a return", 1_200),
+    ("back accepted, since a return", 8_500),
+    ("back refused 27 right after a return", 1_100),
+    ("back refused 27 right after a return that dropped 64 changes", 20),
+    ("back refused 27 right after a return that dropped changes", 850),
+    ("paths refused 32, since a return", 1_100),
+    ("paths refused 33, since a return", 2_300),
+    ("paths refused 34, since a return", 20),
+    ("paths: a routing of nets that came back", 150),
+    ("paths: a routing of nets that came back for others", 100),
+    ("paths: a routing, changes since a return", 650),
+    ("paths: a routing, since a return", 1_000),
+    ("paths: refused for nets that came back for others", 600),
+    ("a row dropped what names held", 85),
+    ("end: all eight names held", 70),
+    ("end: names held, changes on the pile", 600),
+    ("end: names held, since a return", 500),
+    ("end: nets kept", 600),
+    ("end: no nets kept under a name", 250),
 ];
 
 fn too_little(counts: &Counts) -> Vec<String> {
@@ -637,10 +947,15 @@ const LARGE: [&str; 16] = [
     "18446744073709551617", "99999999999999999999999999999999999999999",
 ];
 
+/// Numbers that are no names. Some would be names in 3, 4 or 8 bits.
+const NO_NAMES: [usize; 12] = [8, 8, 8, 9, 10, 15, 16, 64, 128, 249, 255, 255];
+
 /// Lines that are passed over, whatever numbers follow.
-const PASSED_OVER: [&str; 36] = [
+const PASSED_OVER: [&str; 54] = [
     "", "", "#", "a", "ad", "addsx", "addx", "adds1", "add1", "added", "addadd", "addss", "Add", "ADDS", "xadd", "r", "ro", "rows", "row0", "Row",
     "b", "bac", "backs", "back1", "Back", "backback", "w", "withdra", "withdraws", "withdrawn", "net", "path", "Paths", "pathss", "accepted", "7",
+    "k", "kee", "keeps", "keep8", "keep0", "keepkeep", "Keep", "kept", "re", "ret", "retur", "returns", "return1", "returned", "returnrow",
+    "rowreturn", "Return", "RETURN",
 ];
 
 /// Writes a text line by line. Its own machine tells what would be right or wrong next.
@@ -952,6 +1267,50 @@ impl Writer {
         self.say("paths", &[]);
     }
 
+    fn say_keep(&mut self) {
+        let name = self.random.below(NAMES);
+        self.say_named("keep", name);
+    }
+
+    /// A return, mostly to a name that holds something.
+    fn say_return(&mut self) {
+        let held: Vec<usize> = (0..NAMES).filter(|&name| self.machine.names[name].is_some()).collect();
+        let name = match self.random.below(6) {
+            0 => self.random.below(NAMES),
+            _ if held.is_empty() => self.random.below(NAMES),
+            _ => self.random.pick(&held),
+        };
+        self.say_named("return", name);
+    }
+
+    /// At times the number is missing, or it is no name, more often so where 20 comes first.
+    fn say_named(&mut self, call: &str, name: usize) {
+        let seldom = if self.machine.unsound().is_err() { 3 } else { 10 };
+        if self.random.one_in(30) {
+            self.say(call, &[]);
+        } else if self.random.one_in(seldom) {
+            let name = self.random.pick(&NO_NAMES);
+            self.say(call, &[name]);
+        } else {
+            self.say(call, &[name]);
+        }
+    }
+
+    /// A keep, or a return with what may follow it: the pile is empty then, and a routing is one of the nets that came back.
+    fn say_keep_or_return(&mut self) {
+        if self.random.one_in(2) {
+            return self.say_keep();
+        }
+        self.say_return();
+        (0..self.random.pick(&[0, 0, 1, 2])).for_each(|_| self.say_back());
+        if self.random.one_in(4) {
+            self.say_return();
+        }
+        if self.random.one_in(3) {
+            self.say_paths();
+        }
+    }
+
     /// A line that is passed over, with numbers as a call would have them.
     fn say_nothing(&mut self) {
         let word = self.random.pick(&PASSED_OVER);
@@ -966,12 +1325,17 @@ impl Writer {
     fn mixture(&mut self, count: usize) {
         let weights: Vec<usize> = (0..4).map(|_| self.random.pick(&[1, 2, 4, 8])).collect();
         let kinds: Vec<usize> = (0..4).flat_map(|kind| vec![kind; weights[kind]]).collect();
+        // How seldom names are used; 0 for never.
+        let seldom = self.random.pick(&[0, 0, 0, 0, 0, 6, 15, 40]);
         for _ in 0..count {
             if !self.room() {
                 return;
             }
             if self.random.one_in(15) {
                 self.say_nothing();
+            }
+            if seldom > 0 && self.random.one_in(seldom) {
+                self.say_keep_or_return();
             }
             if self.random.one_in(12) {
                 self.say_paths();
@@ -993,10 +1357,17 @@ impl Writer {
 
     /// The same call many times in a row, then another, so that the pile fills up, loses changes and is lifted.
     fn bursts(&mut self, count: usize) {
-        let last = self.calls + count;
+        let names = self.random.one_in(3);
+        let last = self.calls + if names { count + count / 2 } else { count };
+        if names {
+            self.say_keep();
+        }
         while self.calls < last {
             if self.random.one_in(2) {
                 self.say_paths();
+            }
+            if names && self.random.one_in(2) {
+                self.say_keep_or_return();
             }
             let kind = self.random.below(6);
             let times = self.random.pick(&[1, 3, 8, 20, 70]);
@@ -1009,7 +1380,7 @@ impl Writer {
                     1 => self.say_withdraw(),
                     2 => self.say_back(),
                     3 if self.full() => self.say_withdraw(),
-                    3 if self.random.one_in(3) => self.say_adds(),
+                    3 if self.random.one_in(2) => self.say_adds(),
                     _ => {
                         // A net that comes and goes.
                         self.say_right_add();
@@ -1031,11 +1402,71 @@ impl Writer {
             let list = self.list_of(length, None, "");
             self.say("adds", &list);
             let (withdrawals, backs) = (self.random.pick(&[0, 1, 5, 64]), self.random.pick(&[0, 1, 5, 66]));
+            if self.random.one_in(2) {
+                self.say_keep();
+            }
             (0..withdrawals).for_each(|_| self.say_withdraw());
             self.say_paths();
             (0..backs).for_each(|_| self.say_back());
+            if self.random.one_in(4) {
+                self.say_return();
+            }
         }
         self.mixture(10);
+    }
+
+    /// Layouts tried in turn, each made from the one before by a few changes; they are routed and kept, and returned to.
+    fn trials(&mut self, count: usize) {
+        let last = self.calls + count;
+        while self.calls < last && self.room() {
+            (0..self.random.pick(&[0, 1, 3, 6])).for_each(|_| self.say_change());
+            if self.random.one_in(3) {
+                self.say_paths();
+            }
+            match self.random.below(12) {
+                0 => self.say_nothing(),
+                1 => self.empty_board(),
+                _ => self.say_keep_or_return(),
+            }
+        }
+        if self.random.one_in(3) {
+            self.all_names();
+        }
+    }
+
+    /// A call that mostly changes the nets.
+    fn say_change(&mut self) {
+        match self.random.below(10) {
+            0 => self.say_add(),
+            1 => self.say_adds(),
+            2 => self.say_back(),
+            3..=5 => self.say_withdraw(),
+            _ if self.full() => self.say_withdraw(),
+            _ => self.say_right_add(),
+        }
+    }
+
+    /// Every net is withdrawn; then no nets are kept, and perhaps returned to after a few changes.
+    fn empty_board(&mut self) {
+        for number in self.machine.board.nets.iter().map(|net| net.number as usize).collect::<Vec<_>>() {
+            self.say("withdraw", &[number]);
+        }
+        let name = self.random.below(NAMES);
+        self.say("keep", &[name]);
+        if self.random.one_in(2) {
+            (0..1 + self.random.below(4)).for_each(|_| self.say_change());
+            self.say("return", &[name]);
+        }
+    }
+
+    /// A keep under every name, in any order and with a change between.
+    fn all_names(&mut self) {
+        let mut names: Vec<usize> = (0..NAMES).collect();
+        self.random.shuffle(&mut names);
+        for name in names {
+            self.say("keep", &[name]);
+            self.say_change();
+        }
     }
 
     /// Calls between rows: each row starts the session afresh.
@@ -1047,8 +1478,15 @@ impl Writer {
         let mut from = 0;
         while from < rows.len() {
             let to = (from + 1 + self.random.below(6)).min(rows.len());
+            let name = self.random.below(NAMES);
+            if self.random.one_in(2) {
+                self.say("keep", &[name]);
+            }
             self.rows(&rows[from..to]);
             from = to;
+            if self.random.one_in(2) {
+                self.say("return", &[name]);
+            }
             let count = 5 + self.random.below(20);
             self.mixture(count);
         }
@@ -1090,7 +1528,17 @@ fn text(random: Random) -> String {
     };
     writer.rows(&rows);
     match kind {
-        7..=9 => writer.bursts(count),
+        5 | 6 => {
+            writer.trials(count / 2);
+            writer.mixture(count);
+        }
+        7..=9 => {
+            writer.bursts(count);
+            if writer.random.one_in(6) {
+                writer.say_return();
+                writer.say_back();
+            }
+        }
         10 => writer.full_board(),
         12 | 13 | 16 => writer.mixture(20 + count / 10),
         14 => writer.restarts(),
@@ -1180,6 +1628,59 @@ const BY_HAND: [(&str, &str); 15] = [
     ),
 ];
 
+/// The same with names.
+const NAMES_BY_HAND: [(&str, &str); 10] = [
+    // A keep and a return lay nothing on the pile, and a return empties it, though the nets stay; the name goes on holding them.
+    ("row 0 1\nadd 1 0 0 1 1\nkeep 0\nreturn 0\nback\n", "accepted\naccepted\naccepted\nrefused 27 0\nnet 1 0 0 1 1\nkept 0 1\nnet 1 0 0 1 1\n"),
+    (
+        "row 0 1\nadd 1 0 0 1 1\nkeep 3\nwithdraw 1\nadd 2 0 1 1 0\nkeep 0\nreturn 3\nback\npaths\nreturn 3\nadd 1 0 0 1 1\nadd 3 0 0 1 1\nback\n",
+        "accepted\naccepted\naccepted\naccepted\naccepted\naccepted\nrefused 27 0\na routing of the nets on the board\naccepted\nrefused 22 0\n\
+         accepted\naccepted\nnet 1 0 0 1 1\nkept 0 1\nnet 2 0 1 1 0\nkept 3 1\nnet 1 0 0 1 1\n",
+    ),
+    // A refused one changes nothing.
+    (
+        "row 0 1\nadd 1 0 0 1 1\nkeep 1\nkeep 8\nreturn 2\nreturn 9\nback\nback\n",
+        "accepted\naccepted\nrefused 35 0\nrefused 36 0\nrefused 35 0\naccepted\nrefused 27 0\nkept 1 1\nnet 1 0 0 1 1\n",
+    ),
+    // 20 comes first, then 35, then 36; no nets count as kept; a missing number is 0.
+    (
+        "keep 0\nreturn 0\nkeep 8\nreturn 8\nreturn\nrow 0 1\nreturn 0\nreturn 8\nkeep 8\nreturn 255\nkeep 250\nkeep 7\nreturn 7\nreturn 249\n\
+         keep 256\nkeep\nreturn\nreturn 6\n",
+        "refused 20 0\nrefused 20 0\nrefused 20 0\nrefused 20 0\nrefused 20 0\nrefused 36 0\nrefused 35 0\nrefused 35 0\nrefused 35 0\n\
+         refused 35 0\naccepted\naccepted\nrefused 35 0\nrefused 35 0\naccepted\naccepted\nrefused 36 0\nkept 0 0\nkept 7 0\n",
+    ),
+    ("row 0 1\nkeep 2\nrow 1 2\nreturn 2\nkeep 9\nreturn 9\n", "accepted\nrefused 20 0\nrefused 20 0\nrefused 20 0\n"),
+    // A row makes the session forget what was kept.
+    ("row 0 1\nadd 1 0 0 1 1\nkeep 4\nrow 0 1\nreturn 4\nkeep 4\nreturn 4\n", "accepted\naccepted\nrefused 36 0\naccepted\naccepted\nkept 4 0\n"),
+    // Fewer nets over more, then none and back again.
+    (
+        "row 0 1\nadds 1 0 0 1 1 2 0 1 1 0\nkeep 5\nback\nkeep 5\nwithdraw 1\nkeep 6\nreturn 5\nreturn 6\nreturn 5\nwithdraw 1\n",
+        "accepted 2\naccepted\naccepted\naccepted\naccepted\naccepted\naccepted\naccepted\naccepted\naccepted\nwithdrawn 1 0 0 1 1\n\
+         kept 5 1\nnet 1 0 0 1 1\nkept 6 0\n",
+    ),
+    // Pins and numbers are taken by the nets that came back, and by no others.
+    (
+        "row 0 1\nadds 1 0 0 1 1 2 0 0 1 1\nkeep 0\nwithdraw 1\nwithdraw 2\nadds 3 0 1 1 0 4 0 1 1 0\nkeep 1\nreturn 0\nadd 5 0 0 0 1\nwithdraw 3\n\
+         withdraw 2\nadd 3 0 0 0 1\n",
+        "accepted 2\naccepted\naccepted\naccepted\naccepted 2\naccepted\naccepted\nrefused 25 0\nrefused 26 0\naccepted\naccepted\nnet 1 0 0 1 1\n\
+         net 3 0 0 0 1\nadded 3 0 0 0 1\nwithdrawn 2 0 0 1 1\nkept 0 2\nnet 1 0 0 1 1\nnet 2 0 0 1 1\nkept 1 2\nnet 3 0 1 1 0\nnet 4 0 1 1 0\n",
+    ),
+    // Routings after returns: none of two nets across a cell, one of one net, an overfull cut of three.
+    (
+        "row 0 1\nadds 1 0 0 1 1 2 0 1 1 0\nkeep 0\npaths\nback\nkeep 1\npaths\nreturn 0\npaths\nreturn 1\npaths\nadds 2 0 0 1 1 3 0 1 1 0\nkeep 2\n\
+         paths\nreturn 1\npaths\nreturn 2\npaths\n",
+        "accepted 2\naccepted\nrefused 34 0\naccepted\naccepted\na routing of the nets on the board\naccepted\nrefused 34 0\naccepted\n\
+         a routing of the nets on the board\naccepted 2\naccepted\nrefused 33 0 0\naccepted\na routing of the nets on the board\naccepted\n\
+         refused 33 0 0\nnet 1 0 0 1 1\nnet 2 0 0 1 1\nnet 3 0 1 1 0\nkept 0 2\nnet 1 0 0 1 1\nnet 2 0 1 1 0\nkept 1 1\nnet 1 0 0 1 1\n\
+         kept 2 3\nnet 1 0 0 1 1\nnet 2 0 0 1 1\nnet 3 0 1 1 0\n",
+    ),
+    // Only whole words are calls.
+    (
+        "row 0 1\nkeeps 1\nkeep1\nkee 1\nKeep 1\nkept 1 0\nreturns 1\nretur 1\nreturn1\nreturnrow 0 1\nreturn 1\nkeep 1\nreturn 1\n",
+        "refused 36 0\naccepted\naccepted\nkept 1 0\n",
+    ),
+];
+
 /// A net that comes and goes: of 65 changes the first is lost, and when 64 are taken back the net is there still.
 fn lost_by_hand() -> (String, String) {
     let comes_and_goes = "add 1 0 0 1 1\nwithdraw 1\n".repeat(32);
@@ -1188,10 +1689,27 @@ fn lost_by_hand() -> (String, String) {
     (text, answers)
 }
 
+/// A full pile that has lost a change is emptied by a return; another one, with none lost, is then taken back to the nets that the return brought.
+fn emptied_by_hand() -> (String, String) {
+    let (comes_and_goes, goes_and_comes) = ("add 1 0 0 1 1\nwithdraw 1\n".repeat(32), "withdraw 1\nadd 1 0 0 1 1\n".repeat(32));
+    let text = format!(
+        "row 0 1\nkeep 6\n{comes_and_goes}add 1 0 0 1 1\nkeep 2\nreturn 6\nback\nreturn 2\n{goes_and_comes}{}",
+        "back\n".repeat(65),
+    );
+    let accepted = "accepted\n".repeat(64);
+    let answers = format!(
+        "accepted\n{accepted}accepted\naccepted\naccepted\nrefused 27 0\naccepted\n{accepted}{accepted}refused 27 0\nnet 1 0 0 1 1\n\
+         kept 2 1\nnet 1 0 0 1 1\nkept 6 0\n"
+    );
+    (text, answers)
+}
+
 /// The machine's answers, and the program's, to the texts above.
 fn by_hand() {
-    let mut all: Vec<(String, String)> = BY_HAND.iter().map(|(text, answers)| (text.to_string(), answers.to_string())).collect();
+    let texts = BY_HAND.iter().chain(&NAMES_BY_HAND);
+    let mut all: Vec<(String, String)> = texts.map(|(text, answers)| (text.to_string(), answers.to_string())).collect();
     all.push(lost_by_hand());
+    all.push(emptied_by_hand());
     for (text, answers) in all {
         let machine = answered(&text);
         assert_eq!(machine.output, answers, "the machine on a text answered by hand:\n{text}");
@@ -1271,6 +1789,7 @@ fn whole(seed: u64) {
         seen("call"),
         seen("list: whole"),
     );
+    println!("{} keeps and {} returns,", seen("keep accepted"), seen("return accepted"));
     println!("{} routings and {} refused by 34; {time:.1} s; no difference", seen("paths: a routing"), seen("paths refused 34"));
 }
 

@@ -145,9 +145,9 @@ OfRouting s ws = (dss : List (List Direction)) × IsRouting s ws dss
 -- ── 1 ──
 -- "Every accepted call .. gives exactly what document 01 lays down for its input, or, for a routing, one of those allowed there. Every refused
 -- call gives its number and place from the table, with the session and each lent buffer the same as before."
--- In each field but the laws, `names-stay`, `none-kept`, `were-alike` and those called rightly: the answer is the definition's, number and place included; what is handed back
--- is the definition's; a refusal changes nothing, but for a list of nets: "for this call alone a refusal leaves that much changed and no more"
--- (document 02, §1).
+-- In each field but the laws, `names-stay`, `none-kept`, `were-alike` and those called rightly: the answer is the definition's, number and place
+-- included; what is handed back is the definition's; a refusal changes nothing, but for a list of nets: "for this call alone a refusal leaves that
+-- much changed and no more" (document 02, §1).
 pub record Demand1 : Type 0 where
   pub add : (s : Session) (n : Net) (r : AfterAdd) → AddPromise s n r
       → (addAnswer (r .answer) ≡ call (sessionOf s) (calls.add n) .answer) × (sessionOf (r .session) ≡ call (sessionOf s) (calls.add n) .next)
@@ -270,8 +270,8 @@ pub record Demand2 : Type 0 where
 
 -- ── 3 ──
 -- "For every list of adds, withdrawals, take-backs and routing calls, refused ones included, from a fresh session on any convex board": what then
--- holds is `Demand3` of crate session_history, file Demand, in the demand's own words. "its lists take in every call that changes a session" (document
--- 02, §5), a list of nets in one call (§1), keeps and returns among them. A session that `fresh` hands back on a convex board is fresh.
+-- holds is `Demand3` of crate session_history, file Demand, in the demand's own words. "its lists take in every call that changes a session"
+-- (document 02, §5), a list of nets in one call (§1), keeps and returns among them. A session that `fresh` hands back on a convex board is fresh.
 pub record Demand3 : Type 0 where
   pub whole : (s : Session) (calls : List Made) → Fresh (sessionOf s) → Chain s calls → history.Demand3 s calls
   pub start : (b : code-block.Block) (s : Session) → Within (blockOf b .board) → Convex (blockOf b .board) → FreshPromise b s

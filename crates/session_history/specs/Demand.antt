@@ -84,7 +84,8 @@ pub record Demand3 (s : code.Session) (ms : List Made) : Type 0 where
   pub session : sessionOf (last s ms) ≡ after (bare (sessionOf s .block)) (callsOf ms)
   -- "and each add, withdrawal and take-back", and each list of nets, keep and return, "was answered as the machine answers."
   pub answered : answersOf ms ≡ answers (bare (sessionOf s .block)) (callsOf ms)
-  -- "a routing after any mixture concerns the nets that the history, returns included, leaves on the board" (02, §5): those that the machine then holds
+  -- "a routing after any mixture concerns the nets that the history, returns included, leaves on the board" (02, §5): those that the machine then
+  -- holds
   pub routings : Everywhere RoutedRightly (bare (sessionOf s .block)) ms
   -- and while every vertex is even, in the demand's own words
   pub even-routings : Everywhere RoutedEven (bare (sessionOf s .block)) ms

@@ -1,5 +1,5 @@
--- Definitions only: what a keep and a return do, sentence by sentence (document 02, §5). Nothing is proved here: that the list machine's calls do so is
--- shown in crate session_laws, `keeps` and `returns`.
+-- Definitions only: what a keep and a return do, sentence by sentence (document 02, §5). Nothing is proved here: that the list machine's calls do so
+-- is shown in crate session_laws, `keeps` and `returns`.
 use mathlib.Core.Path.{_≡_}
 use mathlib.Core.List.{List, [], _∷_}
 use mathlib.Core.Option.{none, some}

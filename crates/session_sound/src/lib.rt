@@ -47,8 +47,8 @@ fn has_room(b: Block, counts: &[u8; 1024], place: Place) -> bool
     }
 }
 
-// Could the nets all be added to the bare board? Their terminals are counted once for all vertices, and then each net is looked at. Outside the limits
-// of a board the answer says nothing, as terminals are counted within them.
+// Could the nets all be added to the bare board? Their terminals are counted once for all vertices, and then each net is looked at. Of a board
+// outside the limits the answer says nothing, as terminals are counted within them.
 pub fn is_addable(b: Block, nets: [Place; 64]) -> bool
     ensures { λ r. ⌜ (Within (blockOf b .board) → r ≡ addable? (blockOf b) [] (netsOf nets)) ⌝ }
     ensures { λ r. ⌜ length nets ≡ 64 ⌝ }

@@ -30,7 +30,8 @@ returns-2 : tie.Need-returns-2
 returns-2 c =
     let at-first = c .before in
     let at-same = at-first .before in
-    rw (at-same .before .before .before .before .held .given .1, at-same .same-vertex .ensures, at-first .has-pins .ensures, c .has-pins2 .ensures) refl
+    let held = at-same .before .before .before .before .held in
+    rw (held .given .1, at-same .same-vertex .ensures, at-first .has-pins .ensures, c .has-pins2 .ensures) refl
 
 pub has-room-spec : {M : Type 1} → statement M
 has-room-spec =

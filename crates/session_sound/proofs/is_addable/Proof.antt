@@ -1,5 +1,5 @@
--- `is_addable` tells whether the nets could all be added to the bare board. The invariant: what was found, and that the places from i on have room, is
--- that all have.
+-- `is_addable` tells whether the nets could all be added to the bare board. The invariant: what was found, and that the places from i on have room,
+-- is that all have.
 use borrow.Author.Needs.{needs}
 use native.Mathlib.Omega.{arith}
 use mathlib.Core.Path.{_≡_, refl, sym, _∙_}

@@ -25,7 +25,8 @@ unfolding addOf
 returns-2 c =
     add-promise (c .before .before .before .args .self) (c .before .before .before .args .net) _
     (c .before .before .is-sound .ensures .1)
-    (rw (sym (c .before .before .is-sound .ensures .0 .same) ∙ not-false (c .before .before .is-sound .result) (c .before .if1 .left)) (c .add-sound .ensures))
+    (rw (sym (c .before .before .is-sound .ensures .0 .same) ∙ not-false (c .before .before .is-sound .result) (c .before .if1 .left))
+    (c .add-sound .ensures))
 
 pub add-spec : {M : Type 1} → statement M
 add-spec = tie.close (tie.spec is-sound-requires returns add-sound-requires returns-2)

@@ -35,7 +35,8 @@ returns c =
     let short = at-short .is-short in (
       decides _ (sound? (sessionOf s)) (sound-exact (sessionOf s))
           (tested s (at-convex .is-convex .result) (addable .result) (short .result) (at-lifts .lifts .result) (fine .result)
-          (at-convex .is-convex .ensures .same) (addable .ensures .0) (short .ensures .0) (at-lifts .lifts .ensures) (fine .ensures .0) (fine .ensures .1)),
+          (at-convex .is-convex .ensures .same) (addable .ensures .0) (short .ensures .0) (at-lifts .lifts .ensures)
+          (fine .ensures .0) (fine .ensures .1)),
       record { nets64 = addable .ensures .1; pile64 = short .ensures .1 },
     )
 

@@ -2,7 +2,12 @@
 use mathlib.Core.Path.{_≡_, refl, sym, _∙_, ap}
 use mathlib.Core.Bool.{true, false}
 use borrow.Author.Tests.{not-true, not-false}
-use Rattle.session.specs.Value.{returnSound}
+use Rattle.session_pile.specs.declared.Pile.{Pile}
+use Rattle.session_pile.specs.Pile.{emptyPile}
+use Rattle.session_answers.specs.declared.ReturnAnswer.the-variants.{Accepted}
+use Rattle.session.specs.declared.Session.{Session}
+use Rattle.session.specs.declared.AfterReturn.{AfterReturn}
+use Rattle.session.specs.Value.{withPlaces, returnSound}
 use borrow.Author.Needs.{needs}
 use Rattle.session.proofs.Session.return_sound.Statement.{statement}
 use Rattle.session.proofs.Session.return_sound.Tie as tie
@@ -43,13 +48,11 @@ returns-3 c =
     let at-if = at-kept .before .before .before .before in
     let name = at-if .before .is-name in
     let some : there .result .kept ≡ true = not-false (there .result .kept) (at-kept .if2 .left) in
-    rw (
-      sym (name .ensures) ∙ not-false (name .result) (at-if .if1 .left),
-      ← there .ensures,
-      some,
-      c .with-places .ensures,
-      at-empty .empty .ensures,
-    ) refl
+    let s = at-if .before .before .args .self in
+    let emptied : withPlaces s (there .result .nets) _ ≡ withPlaces s (there .result .nets) emptyPile
+    = ap (λ (p : Pile). withPlaces s (there .result .nets) p) (at-empty .empty .ensures) in
+    rw (sym (name .ensures) ∙ not-false (name .result) (at-if .if1 .left), ← there .ensures, some)
+    (ap (λ (t : Session). record { answer = Accepted; session = t }) (c .with-places .ensures ∙ emptied))
 
 pub return-sound-spec : {M : Type 1} → statement M
 return-sound-spec =
