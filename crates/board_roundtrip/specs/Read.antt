@@ -11,8 +11,8 @@ use Rattle.board_convex.specs.Test.{isConvex}
 use Rattle.board_convex.specs.Exact.{is-convex}
 use Rattle.net.specs.declared.Net.{Net}
 use Rattle.session_rules.specs.Refusal.{line, firstRefusal}
-use Rattle.session_rules.specs.Session.{Session, withNets}
-use Rattle.session_rules.specs.Sound.{bare, nothingKept, Sound, addable?, lifts?}
+use Rattle.session_rules.specs.Session.{nothingKept, Session, withNets}
+use Rattle.session_rules.specs.Sound.{bare, Sound, addable?, lifts?}
 use Rattle.session_laws.specs.Stays.{fresh-bare}
 use Rattle.session_laws.specs.Rising.{From, from-rising}
 use Rattle.words.specs.BoardWord.{rowWord, endWord}
@@ -29,7 +29,7 @@ pub record Holds (ws : List ℕ) (s : Session) : Type 0 where
   pub words : boardWords s ≡ ws
   pub sound : Sound s
   pub bare-pile : s .pile ≡ []
-  pub none-kept : s .kept ≡ nothingKept
+  pub none-kept : s .names ≡ nothingKept
 
 -- DEFINITION: the session of what was taken
 abbrev sessionIn : Taken → Session

@@ -11,8 +11,8 @@ use lib.ListN.{length, take, drop}
 use lib.Seq.{take-at}
 use borrow.Author.Tests.{le-ltb, not-false}
 use Rattle.session_rules.specs.Refusal.{line, firstRefusal}
-use Rattle.session_rules.specs.Session.{Session}
-use Rattle.session_rules.specs.Sound.{nothingKept, Sound, sound?}
+use Rattle.session_rules.specs.Session.{nothingKept, Session}
+use Rattle.session_rules.specs.Sound.{Sound, sound?}
 use Rattle.session_laws.specs.Exact.{sound-exact}
 use Rattle.words.specs.Bytes.{wordsIn, bytesOf}
 use Rattle.call_rules.specs.Result.{Result, no, yes}
@@ -40,7 +40,7 @@ read-sound ws s e = read-holds ws s e .sound
 pub read-unpiled : (ws : List ℕ) (s : Session) → readWords ws ≡ yes s → s .pile ≡ []
 read-unpiled ws s e = read-holds ws s e .bare-pile
 
-pub read-none-kept : (ws : List ℕ) (s : Session) → readWords ws ≡ yes s → s .kept ≡ nothingKept
+pub read-none-kept : (ws : List ℕ) (s : Session) → readWords ws ≡ yes s → s .names ≡ nothingKept
 read-none-kept ws s e = read-holds ws s e .none-kept
 
 -- which, written, reads back as itself
@@ -90,5 +90,5 @@ read-bytes-write bs s h e =
 pub read-bytes-sound : (bs : List ℕ) (s : Session) → readBytes bs ≡ yes s → Sound s
 read-bytes-sound bs s e = read-sound (wordsIn bs) s (read-even bs s e .1)
 
-pub read-bytes-none-kept : (bs : List ℕ) (s : Session) → readBytes bs ≡ yes s → s .kept ≡ nothingKept
+pub read-bytes-none-kept : (bs : List ℕ) (s : Session) → readBytes bs ≡ yes s → s .names ≡ nothingKept
 read-bytes-none-kept bs s e = read-none-kept (wordsIn bs) s (read-even bs s e .1)

@@ -121,7 +121,7 @@ boardIn t = record { rows = t .rows }
 abbrev pub blockIn : Taken → Block
 blockIn t = plain (boardIn t)
 
--- "Reading gives a session with an empty pile."
+-- "Reading gives a session with an empty pile"; "a fresh, read or blank one has nothing kept" (02, §5)
 unfoldable pub readNets : Taken → Result Session
 readNets t =
     andThen (addListed (blockIn t) [] (reverse (t .nets) []))

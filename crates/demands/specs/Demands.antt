@@ -24,12 +24,12 @@ use Rattle.net.specs.declared.Net.{Net}
 use Rattle.routing_rules.specs.Routing.{trails, Routing, Routable}
 use Rattle.session_rules.specs.Refusal.{Refusal, refusal}
 use Rattle.session_rules.specs.Machine as calls
-use Rattle.session_rules.specs.Machine.{accepted, wentOn, lastName}
+use Rattle.session_rules.specs.Machine.{accepted, wentOn}
 use Rattle.session_rules.specs.Session as machine
-use Rattle.session_rules.specs.Session.{keptAs, pairs}
-use Rattle.session_rules.specs.Sound.{Sound, Fresh, bare, blank, nothingKept, call}
+use Rattle.session_rules.specs.Session.{lastName, nothingKept, withNets, keptUnder, pairs}
+use Rattle.session_rules.specs.Sound.{Sound, Fresh, bare, blank, call}
 use Rattle.session_rules.specs.OneByOne.{singly, OneByOne}
-use Rattle.session_rules.specs.Names.{Keeps, Returns, NoKeep}
+use Rattle.session_rules.specs.Names.{Keeps, Returns, ChangesName, Untouched}
 use Rattle.session.specs.declared.Session.{Session}
 use Rattle.session.specs.declared.AfterAdd.{AfterAdd}
 use Rattle.session.specs.declared.AfterAddAll.{AfterAddAll}
@@ -40,7 +40,7 @@ use Rattle.session.specs.declared.AfterReturn.{AfterReturn}
 use Rattle.session.specs.View.{sessionOf}
 use Rattle.session.specs.Value.{addAllOf}
 use Rattle.session_answers.specs.Answers.{addAnswer, addAllAnswer, withdrawAnswer, takeBackAnswer, keepAnswer, returnAnswer}
-use Rattle.session.specs.Promise.{AddPromise, AddAllPromise, WithdrawPromise, TakeBackPromise, KeepPromise, ReturnPromise, FreshPromise}
+use Rattle.session.specs.Promise.{AddPromise, AddAllPromise, WithdrawPromise, TakeBackPromise, KeepPromise, ReturnPromise, FreshPromise, BlankPromise}
 use Rattle.words.specs.Bytes.{wordsIn}
 use Rattle.words.specs.RoutingWord.{routingWords}
 use Rattle.call_rules.specs.Result.{Result, no, yes}
@@ -61,7 +61,7 @@ use Rattle.route_call.specs.declared.RouteAnswer.{RouteAnswer}
 use Rattle.route_call.specs.Answers.{routeAnswer}
 use Rattle.cidrask.specs.declared.Told.{Told}
 use Rattle.cidrask.specs.Told.{tell, firstOf, refusedTold, routeTold, RoutePromise, JudgePromise, AlikePromise}
-use Rattle.session_history.specs.Made.{Made, changed, routed, routedBytes, Meets, Chain, last, callsOf}
+use Rattle.session_history.specs.Made.{Made, changed, routed, routedBytes, Meets, Chain, last, callsOf, answersOf}
 use Rattle.session_history.specs.Demand as history
 
 -- ── the parts of the statements ──
@@ -145,9 +145,9 @@ OfRouting s ws = (dss : List (List Direction)) × IsRouting s ws dss
 -- ── 1 ──
 -- "Every accepted call .. gives exactly what document 01 lays down for its input, or, for a routing, one of those allowed there. Every refused
 -- call gives its number and place from the table, with the session and each lent buffer the same as before."
--- In each field but the laws, `names-stay`, `none-kept`, `were-alike` and those called rightly: the answer is the definition's, number and place
--- included; what is handed back is the definition's; a refusal changes nothing, but for a list of nets: "for this call alone a refusal leaves that
--- much changed and no more" (document 02, §1).
+-- In each field but `names-stay`, `none-kept` and `were-alike`, which are laws, and those called rightly: the answer is the definition's, number and
+-- place included; what is handed back is the definition's; a refusal changes nothing, but for a list of nets: "for this call alone a refusal leaves
+-- that much changed and no more" (document 02, §1).
 pub record Demand1 : Type 0 where
   pub add : (s : Session) (n : Net) (r : AfterAdd) → AddPromise s n r
       → (addAnswer (r .answer) ≡ call (sessionOf s) (calls.add n) .answer) × (sessionOf (r .session) ≡ call (sessionOf s) (calls.add n) .next)
@@ -180,12 +180,12 @@ pub record Demand1 : Type 0 where
       × Returns (sessionOf s) k (returnAnswer (r .answer)) (sessionOf (r .session))
       × ((returnAnswer (r .answer) ≡ accepted → ⊥) → r .session ≡ s)
   -- what adds, lists of nets, withdrawals, take-backs, returns and keeps under other names do to a name: nothing
-  pub names-stay : (s : machine.Session) (c : calls.Call) (k : ℕ) → (c ≡ calls.keep k → ⊥) → keptAs k (call s c .next) ≡ keptAs k s
-  -- "a fresh, read or blank one has nothing kept"
-  pub none-kept : ((s : machine.Session) → Fresh s → s .kept ≡ nothingKept)
-      × ((ws : List ℕ) (s : machine.Session) → readWords ws ≡ yes s → s .kept ≡ nothingKept)
-      × ((bs : List ℕ) (s : machine.Session) → readBytes bs ≡ yes s → s .kept ≡ nothingKept)
-      × (blank .kept ≡ nothingKept)
+  pub names-stay : (s : machine.Session) (c : calls.Call) (k : ℕ) → (ChangesName k c → ⊥) → keptUnder k (call s c .next) ≡ keptUnder k s
+  -- "a fresh, read or blank one has nothing kept": the sessions that `fresh`, `blank` and readings hand back, refused readings too
+  pub none-kept : ((b : code-block.Block) (r : Session) → FreshPromise b r → sessionOf r .names ≡ nothingKept)
+      × ((r : Session) → BlankPromise r → sessionOf r .names ≡ nothingKept)
+      × ((ws : List ℕ) (r : AfterRead) → ReadPromise (readWords ws) r → sessionOf (r .session) .names ≡ nothingKept)
+      × ((bs : List ℕ) (r : AfterRead) → ReadPromise (readBytes bs) r → sessionOf (r .session) .names ≡ nothingKept)
   pub read-words : (ws : List ℕ) (r : AfterRead) → ReadPromise (readWords ws) r → Reads (readWords ws) r
   pub read-bytes : (bs : List ℕ) (r : AfterRead) → ReadPromise (readBytes bs) r → Reads (readBytes bs) r
   pub write : (s : Session) (before : List ℕ) (r : WriteAnswer) (after : List ℕ) → WritePromise (sessionOf s) before r after
@@ -288,11 +288,12 @@ pub record Demand3 : Type 0 where
       → Meets s (changed (calls.keep k) (keepAnswer (r .answer)) (r .session))
   pub return-made : (s : Session) (k : ℕ) (r : AfterReturn) → ReturnPromise s k r
       → Meets s (changed (calls.returnTo k) (returnAnswer (r .answer)) (r .session))
-  -- 02, §5: a return to a name brings back the nets that were on the board at the keep, with an empty pile, whatever calls came between, routings and
-  -- other returns included, but for another keep under that name
-  pub comes-back : (s : Session) (k : ℕ) (between : List calls.Call) (ms : List Made) → Sound (sessionOf s) → k ≤ lastName → NoKeep k between
+  -- 02, §5: a return to a name is accepted and brings back the nets that were on the board at the keep, with an empty pile, whatever calls came
+  -- between, routings and other returns included, but for another keep under that name; the board and the names are as before the return
+  pub comes-back : (s : Session) (k : ℕ) (between : List calls.Call) (ms : List Made) → Sound (sessionOf s) → k ≤ lastName → Untouched k between
       → callsOf ms ≡ (calls.keep k ∷ between) ++ (calls.returnTo k ∷ []) → Chain s ms
-      → (sessionOf (last s ms) .nets ≡ sessionOf s .nets) × (sessionOf (last s ms) .pile ≡ [])
+      → (sessionOf (last s ms) ≡ withNets (calls.after (sessionOf s) (calls.keep k ∷ between)) (sessionOf s .nets) [])
+      × (answersOf ms ≡ calls.answers (sessionOf s) (calls.keep k ∷ between) ++ (accepted ∷ []))
   -- 02, §1: "A routing after such a call is given or refused as after the single adds": those of the nets that went on, and of the next, if one was
   -- refused. The sessions stand for the same, and two routing calls with the same buffer are refused alike, so also given alike
   pub as-singly : (s : Session) (ns : List Net) (r : AfterAddAll) (singles : List Made) → AddAllPromise s ns r → Chain s singles

@@ -18,7 +18,7 @@ use Rattle.routing_rules.specs.Routing.{Routable}
 use Rattle.corner.specs.Paths.{routing-routable, tidied}
 use Rattle.session_rules.specs.Refusal.{Refusal, refusal}
 use Rattle.session_rules.specs.Session as machine
-use Rattle.session_rules.specs.Session.{pairs}
+use Rattle.session_rules.specs.Session.{nothingKept, pairs}
 use Rattle.session_rules.specs.Machine.{addAll, keep, returnTo, Answer, wentOn, refusalOf, step}
 use Rattle.session_rules.specs.Sound.{Sound, sound?, call}
 use Rattle.session_rules.specs.OneByOne.{OneByOne}
@@ -328,13 +328,19 @@ none-on : (s : Session) (ns : List Net) (t : Session) (k : ℕ) → t ≡ addAll
 unfolding withEach noneAdded
 none-on s ns t k e z = e ∙ ap (λ (i : ℕ). addAllOf s (take i ns) .session) z
 
--- keep and return do what the request says, as the machine's do
-kept-as : (m : machine.Session) (k : ℕ) {a : Answer} {t : machine.Session} → a ≡ call m (keep k) .answer → t ≡ call m (keep k) .next → Keeps m k a t
-kept-as m k e f = rw (e, f) (keeps m k)
+-- a reading that is refused hands back the blank session, which has nothing kept either
+read-kept : (x : Result machine.Session) (r : AfterRead) → ReadPromise x r → ((s : machine.Session) → x ≡ yes s → s .names ≡ nothingKept)
+    → sessionOf (r .session) .names ≡ nothingKept
+read-kept (no q) r P f = ap (λ (m : machine.Session). m .names) (P .session)
+read-kept (yes s) r P f = ap (λ (m : machine.Session). m .names) (P .session) ∙ f s refl
 
-returned-as : (m : machine.Session) (k : ℕ) {a : Answer} {t : machine.Session} → a ≡ call m (returnTo k) .answer → t ≡ call m (returnTo k) .next
+-- keep and return do what the request says, as the machine's do
+kept-by : (m : machine.Session) (k : ℕ) {a : Answer} {t : machine.Session} → a ≡ call m (keep k) .answer → t ≡ call m (keep k) .next → Keeps m k a t
+kept-by m k e f = rw (e, f) (keeps m k)
+
+returned-by : (m : machine.Session) (k : ℕ) {a : Answer} {t : machine.Session} → a ≡ call m (returnTo k) .answer → t ≡ call m (returnTo k) .next
     → Returns m k a t
-returned-as m k e f = rw (e, f) (returns m k)
+returned-by m k e f = rw (e, f) (returns m k)
 
 pub demand-1 : Demand1
 demand-1 = record {
@@ -349,10 +355,15 @@ demand-1 = record {
   );
   withdraw = λ s k r P. (P .call .answers, P .call .next, P .kept);
   take-back = λ s r P. (P .call .answers, P .call .next, P .kept);
-  keep = λ s k r P. (P .call .answers, P .call .next, kept-as (sessionOf s) k (P .call .answers) (P .call .next), P .kept);
-  return-to = λ s k r P. (P .call .answers, P .call .next, returned-as (sessionOf s) k (P .call .answers) (P .call .next), P .kept);
+  keep = λ s k r P. (P .call .answers, P .call .next, kept-by (sessionOf s) k (P .call .answers) (P .call .next), P .kept);
+  return-to = λ s k r P. (P .call .answers, P .call .next, returned-by (sessionOf s) k (P .call .answers) (P .call .next), P .kept);
   names-stay = λ s c k d. names-stay s c k d;
-  none-kept = (λ s F. F .none-kept, read-none-kept, read-bytes-none-kept, refl);
+  none-kept = (
+    λ b r P. ap (λ (m : machine.Session). m .names) (P .bare),
+    λ r P. ap (λ (m : machine.Session). m .names) (P .blank),
+    λ ws r P. read-kept (readWords ws) r P (λ s. read-none-kept ws s),
+    λ bs r P. read-kept (readBytes bs) r P (λ s. read-bytes-none-kept bs s),
+  );
   read-words = λ ws r P. reads (readWords ws) r P;
   read-bytes = λ bs r P. reads (readBytes bs) r P;
   write = λ s before r after P. (
@@ -474,8 +485,7 @@ demand-3 = record {
   keep-made = λ s k r P. P .call;
   return-made = λ s k r P. P .call;
   comes-back = λ s k between ms h l n e each.
-      let f = history-names.comes-back s k between ms h l n e each in
-      (ap (λ (m : machine.Session). m .nets) f, ap (λ (m : machine.Session). m .pile) f);
+      (history-names.comes-back s k between ms h l n e each, history-names.accepted-last s k between ms h l n e each);
   as-singly = λ s ns r singles P k e.
       let why = refusalOf (addAnswer (r .answer .last)) in (
         history-listed.as-singly s (r .session) ns (r .answer .count) why singles (P .call) k e,

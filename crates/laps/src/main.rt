@@ -95,7 +95,7 @@ fn changed(start: Session) -> Session {
 fn kept(start: Session) -> Session {
     let mut session = start;
     let mut name: u8 = 0;
-    while name < 8 {
+    while name <= session_names::LAST_NAME {
         let after = session.keep(name);
         session = after.session;
         name += 1;

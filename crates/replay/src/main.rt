@@ -35,7 +35,9 @@ use session::Session;
 use session_answers::AddAllAnswer;
 use session_answers::Told;
 use session_list::LISTED;
-use session_names::Name;
+use session_names::LAST_NAME;
+use session_names::Layout;
+use session_names::NAMES;
 use session_pile::Pile;
 
 // A number that was read, and where it ended.
@@ -299,9 +301,9 @@ fn print_pile(pile: Pile) {
 }
 
 // What is kept under one name: how many nets, and the nets.
-fn print_name(number: u8, name: Name) {
-    if name.kept {
-        let nets = name.nets;
+fn print_layout(number: u8, layout: Layout) {
+    if layout.kept {
+        let nets = layout.nets;
         text::print_line(
             b"kept",
             &[wide(number), wide(judge_shape::count_nets(nets))],
@@ -310,10 +312,10 @@ fn print_name(number: u8, name: Name) {
     }
 }
 
-fn print_names(names: [Name; 8]) {
+fn print_names(names: [Layout; NAMES]) {
     let mut number: u8 = 0;
-    while number < 8 {
-        print_name(number, session_names::name_of(names, number));
+    while number <= LAST_NAME {
+        print_layout(number, session_names::layout_of(names, number));
         number += 1;
     }
 }

@@ -6,11 +6,12 @@ use Prim.Native.Nat.{ℕ}
 use lib.Dec.{leb}
 use lib.ListN.{getD}
 use Rattle.count.specs.TruthLaws.{bool}
-use Rattle.session_rules.specs.Machine.{accepted, keep, returnTo, returnStep, step, keptUnder, returned, lastName}
+use Rattle.session_rules.specs.Session.{lastName}
+use Rattle.session_rules.specs.Machine.{accepted, keep, returnTo, returnStep, step, stored, returned}
 use Rattle.session_rules.specs.Sound.{sound?, call}
 use Rattle.session_pile.specs.Pile.{pileOf, changesOf}
-use Rattle.session_names.specs.declared.Name.{Name}
-use Rattle.session_names.specs.Names.{keptIn, nothingUnder}
+use Rattle.session_names.specs.declared.Layout.{Layout}
+use Rattle.session_names.specs.Names.{keptIn, noLayout}
 use Rattle.session_names.specs.NamesLaws.{kept-stored, kept-there}
 use Rattle.session_answers.specs.Answers.{keepAnswer, returnAnswer}
 use Rattle.session.specs.declared.Session.{Session}
@@ -26,7 +27,7 @@ unfolding step keepSound
 keep-answer s k = elim (bool (leb k lastName)) [ inl e ↦ rw e refl | inr e ↦ rw e refl ]
 
 keep-next : (s : Session) (k : ℕ) → sessionOf (keepSound s k .session) ≡ step (sessionOf s) (keep k) .next
-unfolding step keepSound keptUnder
+unfolding step keepSound stored
 keep-next s k = elim (bool (leb k lastName)) [ inl e ↦ rw (e, kept-stored (s .names) k (s .nets)) refl | inr e ↦ rw e refl ]
 
 keep-keeps : (s : Session) (k : ℕ) → (keepAnswer (keepSound s k .answer) ≡ accepted → ⊥) → keepSound s k .session ≡ s
@@ -49,34 +50,34 @@ keep-promise s k r e = rw e (record {
 })
 
 -- ── return ──
-named-answer : (s : Session) (n : Name) → returnAnswer (returnNamed s n .answer) ≡ returnStep (keptIn n) (sessionOf s) .answer
+named-answer : (s : Session) (n : Layout) → returnAnswer (returnNamed s n .answer) ≡ returnStep (keptIn n) (sessionOf s) .answer
 named-answer s n = elim (bool (n .kept)) [ inl e ↦ rw e refl | inr e ↦ rw e refl ]
 
-named-next : (s : Session) (n : Name) → sessionOf (returnNamed s n .session) ≡ returnStep (keptIn n) (sessionOf s) .next
+named-next : (s : Session) (n : Layout) → sessionOf (returnNamed s n .session) ≡ returnStep (keptIn n) (sessionOf s) .next
 unfolding returned pileOf changesOf
 named-next s n = elim (bool (n .kept)) [ inl e ↦ rw e refl | inr e ↦ rw e refl ]
 
-named-keeps : (s : Session) (n : Name) → (returnAnswer (returnNamed s n .answer) ≡ accepted → ⊥) → returnNamed s n .session ≡ s
+named-keeps : (s : Session) (n : Layout) → (returnAnswer (returnNamed s n .answer) ≡ accepted → ⊥) → returnNamed s n .session ≡ s
 named-keeps s n = elim (bool (n .kept)) [ inl e ↦ rw e (λ r. absurd (r refl)) | inr e ↦ rw e (λ r. refl) ]
 
 return-answer : (s : Session) (k : ℕ) → returnAnswer (returnSound s k .answer) ≡ step (sessionOf s) (returnTo k) .answer
 unfolding step returnSound
 return-answer s k = elim (bool (leb k lastName)) [
-  | inl e ↦ rw (e, kept-there (s .names) k) (named-answer s (getD (s .names) k nothingUnder))
+  | inl e ↦ rw (e, kept-there (s .names) k) (named-answer s (getD (s .names) k noLayout))
   | inr e ↦ rw e refl
 ]
 
 return-next : (s : Session) (k : ℕ) → sessionOf (returnSound s k .session) ≡ step (sessionOf s) (returnTo k) .next
 unfolding step returnSound
 return-next s k = elim (bool (leb k lastName)) [
-  | inl e ↦ rw (e, kept-there (s .names) k) (named-next s (getD (s .names) k nothingUnder))
+  | inl e ↦ rw (e, kept-there (s .names) k) (named-next s (getD (s .names) k noLayout))
   | inr e ↦ rw e refl
 ]
 
 return-keeps : (s : Session) (k : ℕ) → (returnAnswer (returnSound s k .answer) ≡ accepted → ⊥) → returnSound s k .session ≡ s
 unfolding returnSound
 return-keeps s k = elim (bool (leb k lastName)) [
-  | inl e ↦ rw e (named-keeps s (getD (s .names) k nothingUnder))
+  | inl e ↦ rw e (named-keeps s (getD (s .names) k noLayout))
   | inr e ↦ rw e (λ r. refl)
 ]
 

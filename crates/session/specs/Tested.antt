@@ -12,7 +12,8 @@ use Rattle.board.specs.Board.{Within}
 use Rattle.board_block.specs.View.{blockOf}
 use Rattle.board_convex.specs.Test.{isConvex}
 use Rattle.board_convex.specs.Exact.{is-convex}
-use Rattle.session_rules.specs.Sound.{addable?, lifts?, nameCount, allFine?, sound?}
+use Rattle.session_rules.specs.Session.{nameCount}
+use Rattle.session_rules.specs.Sound.{addable?, lifts?, allFine?, sound?}
 use Rattle.net_places.specs.Places.{netsOf}
 use Rattle.net_places.specs.NetsLaws.{rising-of}
 use Rattle.session_pile.specs.Pile.{pileOf}

@@ -16,14 +16,14 @@ use Rattle.net.specs.declared.Change.the-variants.{Added, Withdrawn}
 use Rattle.net.specs.declared.Held.{Held}
 use Rattle.net.specs.declared.Held.the-variants.{Nothing, Ends}
 use Rattle.net.specs.declared.Place.{Place}
-use Rattle.session_rules.specs.Machine.{lastName}
-use Rattle.session_rules.specs.Sound.{sound?, nameCount}
+use Rattle.session_rules.specs.Session.{lastName, nameCount}
+use Rattle.session_rules.specs.Sound.{sound?}
 use Rattle.net_places.specs.Numbered.{replaced}
 use Rattle.net_places.specs.Places.{net, holding, netsOf, placeAt, reversedIn}
 use Rattle.session_pile.specs.declared.Pile.{Pile}
 use Rattle.session_pile.specs.Pile.{emptyPile, topOf, lifted, laid}
-use Rattle.session_names.specs.declared.Name.{Name}
-use Rattle.session_names.specs.Names.{nothingUnder, keeping}
+use Rattle.session_names.specs.declared.Layout.{Layout}
+use Rattle.session_names.specs.Names.{noLayout, keeping}
 use Rattle.session_answers.specs.Answers.{isAccepted, counting}
 use Rattle.session_add.specs.Lines.{checkOf}
 use Rattle.session_answers.specs.declared.AddAnswer.the-variants.{Accepted, Unsound}
@@ -45,7 +45,7 @@ abbrev pub withPlaces : Session → List Place → Pile → Session
 withPlaces s ps p = record { block = s .block; nets = ps; pile = p; names = s .names }
 
 -- the session with these names; all else that it holds stays
-abbrev pub withNames : Session → List Name → Session
+abbrev pub withNames : Session → List Layout → Session
 withNames s names = record { block = s .block; nets = s .nets; pile = s .pile; names = names }
 
 -- the session with other places, and a change laid on the pile
@@ -82,13 +82,13 @@ keepSound s k = cond (leb k lastName)
     (record { answer = keep-is.NoName; session = s })
 
 -- a return to this name
-abbrev pub returnNamed : Session → Name → AfterReturn
+abbrev pub returnNamed : Session → Layout → AfterReturn
 returnNamed s n = cond (n .kept)
     (record { answer = return-is.Accepted; session = withPlaces s (n .nets) emptyPile })
     (record { answer = return-is.NothingKept; session = s })
 
 unfoldable pub returnSound : Session → ℕ → AfterReturn
-returnSound s k = cond (leb k lastName) (returnNamed s (getD (s .names) k nothingUnder)) (record { answer = return-is.NoName; session = s })
+returnSound s k = cond (leb k lastName) (returnNamed s (getD (s .names) k noLayout)) (record { answer = return-is.NoName; session = s })
 
 -- ── "Every call that takes a session refuses an unsound one first, with 20." ──
 unfoldable pub addOf : Session → Net → AfterAdd
@@ -125,7 +125,7 @@ addAllOf s ns = withEach (noneAdded s) ns
 
 -- ── sessions to start from ──
 unfoldable pub freshOf : code.Block → Session
-freshOf b = record { block = b; nets = replicate 64 nothing; pile = emptyPile; names = replicate nameCount nothingUnder }
+freshOf b = record { block = b; nets = replicate 64 nothing; pile = emptyPile; names = replicate nameCount noLayout }
 
 abbrev pub blankBoard : code-board.Board
 blankBoard = record { count = 1; rows = replicate 31 (record { left = 0; right = 1 }) }

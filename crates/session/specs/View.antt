@@ -9,7 +9,7 @@ use Rattle.session_names.specs.Names.{keptOf}
 use Rattle.session.specs.declared.Session as code
 
 abbrev pub sessionOf : code.Session → Session
-sessionOf s = record { block = blockOf (s .block); nets = netsOf (s .nets); pile = pileOf (s .pile); kept = keptOf (s .names) }
+sessionOf s = record { block = blockOf (s .block); nets = netsOf (s .nets); pile = pileOf (s .pile); names = keptOf (s .names) }
 
 -- the arrays of nets and changes have 64 places
 pub record Sized (s : code.Session) : Type 0 where

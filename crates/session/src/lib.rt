@@ -14,7 +14,8 @@ use session_answers::KeepAnswer;
 use session_answers::ReturnAnswer;
 use session_answers::TakeBackAnswer;
 use session_answers::WithdrawAnswer;
-use session_names::Name;
+use session_names::Layout;
+use session_names::NAMES;
 use session_pile::Pile;
 ghost use mathlib.Core.Path.{_≡_};
 ghost use Rattle.count.specs.Truth.{Decides};
@@ -32,7 +33,7 @@ pub struct Session {
     pub block: Block,
     pub nets: [Place; 64],
     pub pile: Pile,
-    pub names: [Name; 8],
+    pub names: [Layout; NAMES],
 }
 
 // What each call hands back: its answer and the next session.
@@ -71,14 +72,14 @@ pub fn fresh(block: Block) -> Session
     ensures { λ r. ⌜ FreshPromise block r ⌝ }
 {
     let pile = session_pile::empty();
-    let name = session_names::nothing_kept();
+    let layout = session_names::no_layout();
     Session {
         block,
         nets: [Place {
             held: Held::Nothing,
         }; 64],
         pile,
-        names: [name; 8],
+        names: [layout; NAMES],
     }
 }
 
@@ -93,7 +94,7 @@ pub fn blank() -> Session
 }
 
 impl Session {
-    // Is the session sound? That its arrays have 64 places is told to the calls besides.
+    // The test of soundness. That the arrays of nets and changes have 64 places is told to the calls besides.
     fn is_sound(self) -> bool
         ensures { λ r. ⌜ Decides r (sound? (sessionOf self)) (Sound (sessionOf self)) × Sized self ⌝ }
     {
@@ -129,7 +130,7 @@ impl Session {
     }
 
     // The session with these names; all else that it holds stays.
-    fn with_names(self, names: [Name; 8]) -> Session
+    fn with_names(self, names: [Layout; NAMES]) -> Session
         ensures { λ r. ⌜ r ≡ withNames self names ⌝ }
     {
         let block = self.block;
@@ -244,7 +245,7 @@ impl Session {
             };
         }
         let names = self.names;
-        let there = session_names::name_of(names, name);
+        let there = session_names::layout_of(names, name);
         if !there.kept {
             return AfterReturn {
                 answer: ReturnAnswer::NothingKept,

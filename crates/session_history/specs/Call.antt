@@ -14,7 +14,7 @@ use Rattle.net.specs.Terminals.{same}
 use Rattle.net.specs.declared.Net.{Net}
 use Rattle.net.specs.declared.Change.{Change}
 use Rattle.session_rules.specs.Session as machine
-use Rattle.session_rules.specs.Session.{Kept, keptAs, holds, netOf}
+use Rattle.session_rules.specs.Session.{lastName, Kept, keptUnder, holds, netOf}
 use Rattle.session_rules.specs.Refusal.{Refusal, line, firstRefusal}
 use Rattle.session_rules.specs.Add.{goodNumber, full, addLines, addRefused}
 use Rattle.session_rules.specs.Machine.{
@@ -34,10 +34,9 @@ use Rattle.session_rules.specs.Machine.{
   addAllStep,
   withdrawStep,
   takeBackStep,
-  named,
+  ifName,
   returnStep,
-  keptUnder,
-  lastName,
+  stored,
   added,
   after,
   answers,
@@ -90,7 +89,7 @@ back-not-20 : (cs : List Change) (s : machine.Session) → numberOf (takeBackSte
 back-not-20 [] s h = omega arith
 back-not-20 (c ∷ cs) s h = omega arith
 
-named-not-20 : (k : ℕ) (s : machine.Session) (x : Step) → (numberOf (x .answer) ≡ 20 → ⊥) → numberOf (named k s x .answer) ≡ 20 → ⊥
+named-not-20 : (k : ℕ) (s : machine.Session) (x : Step) → (numberOf (x .answer) ≡ 20 → ⊥) → numberOf (ifName k s x .answer) ≡ 20 → ⊥
 named-not-20 k s x f = elim (bool (leb k lastName)) [ inl e ↦ rw e f | inr e ↦ rw e (λ h. omega arith) ]
 
 return-not-20 : (x : Kept) (s : machine.Session) → numberOf (returnStep x s .answer) ≡ 20 → ⊥
@@ -103,8 +102,8 @@ step-not-20 s (add n) = add-not-20 s n
 step-not-20 s (addAll ns) = all-not-20 0 ns s
 step-not-20 s (withdraw k) = withdraw-not-20 (netOf k (s .nets)) s
 step-not-20 s takeBack = back-not-20 (s .pile) s
-step-not-20 s (keep k) = named-not-20 k s (accept (keptUnder k s)) (λ h. omega arith)
-step-not-20 s (returnTo k) = named-not-20 k s (returnStep (keptAs k s) s) (return-not-20 (keptAs k s) s)
+step-not-20 s (keep k) = named-not-20 k s (accept (stored k s)) (λ h. omega arith)
+step-not-20 s (returnTo k) = named-not-20 k s (returnStep (keptUnder k s) s) (return-not-20 (keptUnder k s) s)
 
 -- ── a call that met its promise ──
 -- DEFINITION: after one call from the session s, all is as the machine has it

@@ -19,7 +19,7 @@ use Rattle.session_rules.specs.Sound.{bare}
 use Rattle.session.specs.declared.Session as code
 use Rattle.session.specs.View.{sessionOf}
 use Rattle.call_rules.specs.Result.{Result, no, yes}
-use Rattle.call_rules.specs.Route.{routeRoom, oddLimit, overfullRefusal, HandsBack, HandsBackBytes}
+use Rattle.call_rules.specs.Route.{routeRoom, oddLimit, overfullRefusal, HandsBack, HandsBackBytes, Routes, RoutesBytes}
 use Rattle.route_call.specs.declared.RouteAnswer.{RouteAnswer}
 use Rattle.route_call.specs.Answers.{routeAnswer}
 use Rattle.session_history.specs.Made.{Made, changed, routed, routedBytes, last, callsOf, answersOf, Everywhere}
@@ -50,6 +50,12 @@ abbrev pub RoutedRightly : Session → Made → Type 0
 RoutedRightly m (routed before r after) = routeRoom m ≤ length before → FewOdd m → Rightly m (routeAnswer r) (HandsBack m before after)
 RoutedRightly m (routedBytes before r after) = routeRoom m ≤ length before / 4 → FewOdd m → Rightly m (routeAnswer r) (HandsBackBytes m before after)
 RoutedRightly m (changed c a t) = Unit {0}
+
+-- each routing call, whatever its buffer and the board's odd vertices, was made on m: its answer and buffer are those of m's board and nets
+abbrev pub Concerns : Session → Made → Type 0
+Concerns m (routed before r after) = Routes m before (routeAnswer r) after
+Concerns m (routedBytes before r after) = RoutesBytes m before (routeAnswer r) after
+Concerns m (changed c a t) = Unit {0}
 
 -- ── boards with no odd vertex, as demand 3 has it ──
 -- "while every vertex's degree plus its terminals is even"
@@ -86,6 +92,7 @@ pub record Demand3 (s : code.Session) (ms : List Made) : Type 0 where
   pub answered : answersOf ms ≡ answers (bare (sessionOf s .block)) (callsOf ms)
   -- "a routing after any mixture concerns the nets that the history, returns included, leaves on the board" (02, §5): those that the machine then
   -- holds
+  pub concerned : Everywhere Concerns (bare (sessionOf s .block)) ms
   pub routings : Everywhere RoutedRightly (bare (sessionOf s .block)) ms
   -- and while every vertex is even, in the demand's own words
   pub even-routings : Everywhere RoutedEven (bare (sessionOf s .block)) ms

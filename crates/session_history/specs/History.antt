@@ -18,9 +18,9 @@ use Rattle.session_history.specs.Call.{MadeAs, made-as}
 
 -- DEFINITION: after the calls ms from the session s, all is as the machine has it
 pub record AsTheMachine (s : Session) (ms : List Made) : Type 0 where
-  -- "after it the board, nets and pile are those of 01's list machine,
+  -- "after it the board, nets and pile are those of 01's list machine", and the names (02, §5),
   pub session : sessionOf (last s ms) ≡ after (sessionOf s) (callsOf ms)
-  -- and each add, withdrawal and take-back was answered as the machine answers"
+  -- "and each add, withdrawal and take-back", and each other call that it takes, "was answered as the machine answers"
   pub answer : answersOf ms ≡ answers (sessionOf s) (callsOf ms)
   -- no session was found unsound on the way, and the last one is sound
   pub no-20 : Never 20 (answersOf ms)
@@ -32,7 +32,7 @@ unfolding after
 after-append s [] ys = refl
 after-append s (x ∷ xs) ys = after-append (step s x .next) xs ys
 
-answers-append : (s : machine.Session) (xs ys : List Call) → answers s (xs ++ ys) ≡ answers s xs ++ answers (after s xs) ys
+pub answers-append : (s : machine.Session) (xs ys : List Call) → answers s (xs ++ ys) ≡ answers s xs ++ answers (after s xs) ys
 unfolding after answers
 answers-append s [] ys = refl
 answers-append s (x ∷ xs) ys = ap (λ (l : List Answer). step s x .answer ∷ l) (answers-append (step s x .next) xs ys)

@@ -17,14 +17,13 @@ use Rattle.route_call.specs.Answers.{routeAnswer}
 
 -- a call that was made, with its arguments, and what it handed back
 pub data Made : Type 0 where
-  -- one that the machine takes, as an add, a list of nets, a withdrawal, a take-back, a keep or a return: its answer, and the session handed back
+  -- one that the machine takes: its answer, and the session handed back
   changed : Call → Answer → Session → Made
   -- routing: the lent buffer of words, or of bytes, before; the answer; the buffer after
   routed : (before : List ℕ) → RouteAnswer → (after : List ℕ) → Made
   routedBytes : (before : List ℕ) → RouteAnswer → (after : List ℕ) → Made
 
--- made on the session s, it met the promise of its kind; AddPromise, AddAllPromise, WithdrawPromise, TakeBackPromise, KeepPromise and ReturnPromise
--- each have a CallPromise
+-- made on the session s, it met the promise of its kind; the promise of every call that the machine takes has a CallPromise
 abbrev pub Meets : Session → Made → Type 0
 Meets s (changed c a t) = CallPromise s c a t
 Meets s (routed before r after) = Routes (sessionOf s) before (routeAnswer r) after

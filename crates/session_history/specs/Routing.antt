@@ -18,7 +18,7 @@ use Rattle.routing_rules.specs.Routing.{Routable}
 use Rattle.corner.specs.Paths.{routing-routable, tidied}
 use Rattle.corner.specs.Theorem.{needed-cuts, routable}
 use Rattle.session_rules.specs.Refusal.{Refusal, refusal}
-use Rattle.session_rules.specs.Session.{Session, withNets, withKept, pairs}
+use Rattle.session_rules.specs.Session.{Session, withNets, withNames, pairs}
 use Rattle.session_rules.specs.Machine.{after}
 use Rattle.session_rules.specs.Sound.{Sound, Fresh, bare}
 use Rattle.session_laws.specs.Exact.{sound-exact}
@@ -42,7 +42,8 @@ use Rattle.call_rules.specs.RouteLaws.{passed-roomy, refused-cut}
 use Rattle.route_call.specs.Answers.{routeAnswer}
 use Rattle.route_call.specs.Sessions.{problem-of}
 use Rattle.session_history.specs.Made.{Made, changed, routed, routedBytes, Meets, Chain}
-use Rattle.session_history.specs.Demand.{FewOdd, NoCutOverfull, Rightly, RoutedRightly, AllEven, RightlyEven, RoutedEven, RightlyBoth, Demand3}
+use Rattle.session_history.specs.Demand.{FewOdd, NoCutOverfull, Rightly, RoutedRightly, Concerns}
+use Rattle.session_history.specs.Demand.{AllEven, RightlyEven, RoutedEven, RightlyBoth, Demand3}
 use Rattle.session_history.specs.History.{as-the-machine, everywhere}
 
 -- ── one routing call ──
@@ -143,16 +144,22 @@ each-even s (routed before r after) S k = λ long. words-both (sessionOf s) S lo
 each-even s (routedBytes before r after) S k = λ long. bytes-both (sessionOf s) S long k .all-even
 each-even s (changed c a t) S k = tt
 
+each-concerns : (s : code.Session) (m : Made) → Sound (sessionOf s) → Meets s m → Concerns (sessionOf s) m
+each-concerns s (routed before r after) S k = k
+each-concerns s (routedBytes before r after) S k = k
+each-concerns s (changed c a t) S k = tt
+
 -- ── demand 3 ──
 -- a fresh session is the machine's start
 fresh-bare : (m : Session) → Fresh m → m ≡ bare (m .block)
-fresh-bare m F = λ i. withKept (withNets m (F .no-nets i) (F .no-pile i)) (F .none-kept i)
+fresh-bare m F = λ i. withNames (withNets m (F .no-nets i) (F .no-pile i)) (F .none-kept i)
 
 pub demand-3 : (s : code.Session) (ms : List Made) → Fresh (sessionOf s) → Chain s ms → Demand3 s ms
 demand-3 s ms F k =
     let e = fresh-bare (sessionOf s) F in let h = as-the-machine s ms F k in record {
       session = rw (← e) (h .session);
       answered = rw (← e) (h .answer);
+      concerned = rw (← e) (everywhere Concerns each-concerns s ms (F .sound) k);
       routings = rw (← e) (everywhere RoutedRightly each s ms (F .sound) k);
       even-routings = rw (← e) (everywhere RoutedEven each-even s ms (F .sound) k);
     }

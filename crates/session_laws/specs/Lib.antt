@@ -4,7 +4,7 @@ pub mod Insert
 pub mod Rising
 pub mod Fine
 pub mod Addable
-pub mod Stays
 pub mod Names
+pub mod Stays
 pub mod OneByOne
 pub mod Few

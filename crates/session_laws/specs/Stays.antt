@@ -9,7 +9,6 @@ use Prim.Native.Nat.{ℕ, zero, suc, _+_, _≤_}
 use native.Mathlib.Omega.{arith}
 use lib.Dec.{leb}
 use lib.ListN.{length, take, length-take, length-set, getD, getD-replicate, List·getD-eq-default}
-use lib.Seq.{getD-set-same, getD-set-other}
 use borrow.Author.Tests.{leb-true}
 use Rattle.count.specs.TruthLaws.{bool, and-true, and-yes, eq-or-ne, le-or-lt}
 use Rattle.board.specs.Board.{Within}
@@ -18,7 +17,7 @@ use Rattle.board_block.specs.Block.{Block}
 use Rattle.net.specs.declared.Net.{Net}
 use Rattle.net.specs.declared.Change.{Change}
 use Rattle.net.specs.declared.Change.the-variants.{Added, Withdrawn}
-use Rattle.session_rules.specs.Session.{Kept, Session, keptAs, insert, remove, netOf}
+use Rattle.session_rules.specs.Session.{lastName, nameCount, nothingKept, Kept, Session, keptUnder, insert, remove, netOf}
 use Rattle.session_rules.specs.Add.{addRefused, accepts}
 use Rattle.session_rules.specs.Refusal.{Refusal}
 use Rattle.session_rules.specs.Machine.{
@@ -36,7 +35,7 @@ use Rattle.session_rules.specs.Machine.{
   addAllStep,
   withdrawStep,
   takeBackStep,
-  named,
+  ifName,
   returnStep,
   step,
   lay,
@@ -45,11 +44,11 @@ use Rattle.session_rules.specs.Machine.{
   withdrawn,
   reversed,
   takenBack,
-  keptUnder,
+  stored,
   returned,
-  lastName,
 }
-use Rattle.session_rules.specs.Sound.{rising?, addable?, liftable?, lifts?, Sound, Fresh, bare, nameCount, nothingKept}
+use Rattle.session_rules.specs.Sound.{rising?, addable?, liftable?, lifts?, Sound, Fresh, bare}
+use Rattle.session_laws.specs.Names.{keep-stores, keep-other}
 use Rattle.session_laws.specs.Accept.{free-of, free-accepted}
 use Rattle.session_laws.specs.Insert.{netOf-number, recorded-insert, remove-insert}
 use Rattle.session_laws.specs.Rising.{rising-from, from-rising, insert-remove}
@@ -60,7 +59,7 @@ pub sound-fine : (s : Session) → Sound s → Fine (s .block) (s .nets)
 sound-fine s h = fine-of (s .block) (s .nets) (rising-from (s .nets) (h .rising)) (h .addable)
 
 -- the board and the names stay, the nets keep within the board, and the pile is short and can be lifted
-fine-sound : (s t : Session) → Sound s → t .block ≡ s .block → t .kept ≡ s .kept → Fine (s .block) (t .nets) → length (t .pile) ≤ pileLimit
+fine-sound : (s t : Session) → Sound s → t .block ≡ s .block → t .names ≡ s .names → Fine (s .block) (t .nets) → length (t .pile) ≤ pileLimit
     → lifts? (s .block) (t .nets) (t .pile) ≡ true → Sound t
 fine-sound s t h e n f l k = record {
   within = rw e (h .within);
@@ -130,18 +129,15 @@ sound-back s c cs h e =
 
 -- ── names ──
 -- what a name holds after a keep: the nets on the board, or what it held
-kept-which : (s : Session) (k : ℕ) → Sound s → k ≤ lastName → (j : ℕ) (ns : List Net) → keptAs j (keptUnder k s) ≡ some ns
-    → (ns ≡ s .nets) ⊎ (keptAs j s ≡ some ns)
-unfolding keptUnder
-kept-which s k h l j ns e = elim (eq-or-ne j k) [
-  | inl f ↦
-      let g : some (s .nets) ≡ some ns = sym (getD-set-same (s .kept) k (some (s .nets)) none (let n = h .eight in omega arith)) ∙ (rw f at e) in
-      inl (cc)
-  | inr f ↦ inr (sym (getD-set-other (s .kept) k j (some (s .nets)) none f) ∙ e)
+kept-which : (s : Session) (k : ℕ) → Sound s → k ≤ lastName → (j : ℕ) (ns : List Net) → keptUnder j (stored k s) ≡ some ns
+    → (ns ≡ s .nets) ⊎ (keptUnder j s ≡ some ns)
+kept-which s k h l j ns e = elim (eq-or-ne k j) [
+  | inl f ↦ inl (let g : some (s .nets) ≡ some ns = sym (keep-stores s k h l) ∙ (rw (← f) at e) in cc)
+  | inr f ↦ inr (sym (keep-other s k j f) ∙ e)
 ]
 
-sound-kept : (s : Session) (k : ℕ) → Sound s → k ≤ lastName → Sound (keptUnder k s)
-unfolding keptUnder
+sound-kept : (s : Session) (k : ℕ) → Sound s → k ≤ lastName → Sound (stored k s)
+unfolding stored
 sound-kept s k h l = record {
   within = h .within;
   convex = h .convex;
@@ -149,13 +145,13 @@ sound-kept s k h l = record {
   addable = h .addable;
   short = h .short;
   lifts = h .lifts;
-  eight = length-set (s .kept) k (some (s .nets)) ∙ h .eight;
+  eight = length-set (s .names) k (some (s .nets)) ∙ h .eight;
   kept-rising = λ j ns e. elim (kept-which s k h l j ns e) [ inl f ↦ rw f (h .rising) | inr f ↦ h .kept-rising j ns f ];
   kept-addable = λ j ns e. elim (kept-which s k h l j ns e) [ inl f ↦ rw f (h .addable) | inr f ↦ h .kept-addable j ns f ];
 }
 
 -- nets that a name holds are as good as new, and an empty pile can be lifted
-sound-returned : (s : Session) (k : ℕ) (ns : List Net) → Sound s → keptAs k s ≡ some ns → Sound (returned ns s)
+sound-returned : (s : Session) (k : ℕ) (ns : List Net) → Sound s → keptUnder k s ≡ some ns → Sound (returned ns s)
 unfolding returned lifts?
 sound-returned s k ns h e = record {
   within = h .within;
@@ -194,10 +190,10 @@ back-stays : (s : Session) (cs : List Change) → s .pile ≡ cs → Sound s →
 back-stays s [] e h = h
 back-stays s (c ∷ cs) e h = sound-back s c cs h e
 
-named-stays : (k : ℕ) (s : Session) (x : Step) → Sound s → (k ≤ lastName → Sound (x .next)) → Sound (named k s x .next)
+named-stays : (k : ℕ) (s : Session) (x : Step) → Sound s → (k ≤ lastName → Sound (x .next)) → Sound (ifName k s x .next)
 named-stays k s x h f = elim (bool (leb k lastName)) [ inl e ↦ rw e (f (leb-true k lastName e)) | inr e ↦ rw e h ]
 
-return-stays : (s : Session) (k : ℕ) (x : Kept) → keptAs k s ≡ x → Sound s → Sound (returnStep x s .next)
+return-stays : (s : Session) (k : ℕ) (x : Kept) → keptUnder k s ≡ x → Sound s → Sound (returnStep x s .next)
 return-stays s k none e h = h
 return-stays s k (some ns) e h = sound-returned s k ns h e
 
@@ -208,8 +204,8 @@ stays-sound s (add n) h = add-stays s n (addRefused (s .block) (s .nets) n) refl
 stays-sound s (addAll ns) h = all-stays 0 ns s h
 stays-sound s (withdraw k) h = withdraw-stays s k (netOf k (s .nets)) refl h
 stays-sound s takeBack h = back-stays s (s .pile) refl h
-stays-sound s (keep k) h = named-stays k s (accept (keptUnder k s)) h (sound-kept s k h)
-stays-sound s (returnTo k) h = named-stays k s (returnStep (keptAs k s) s) h (λ l. return-stays s k (keptAs k s) refl h)
+stays-sound s (keep k) h = named-stays k s (accept (stored k s)) h (sound-kept s k h)
+stays-sound s (returnTo k) h = named-stays k s (returnStep (keptUnder k s) s) h (λ l. return-stays s k (keptUnder k s) refl h)
 
 -- nothing is kept under any name
 none-kept : (k : ℕ) → getD nothingKept k none ≡ none

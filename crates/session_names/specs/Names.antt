@@ -7,18 +7,18 @@ use Rattle.net.specs.View.{nothing}
 use Rattle.net.specs.declared.Place.{Place}
 use Rattle.session_rules.specs.Session.{Kept}
 use Rattle.net_places.specs.Places.{netsOf}
-use Rattle.session_names.specs.declared.Name.{Name}
+use Rattle.session_names.specs.declared.Layout.{Layout}
 
 -- what is kept under a name: nothing where the flag says so, whatever stands in the places
-abbrev pub keptIn : Name → Kept
+abbrev pub keptIn : Layout → Kept
 keptIn n = cond (n .kept) (some (netsOf (n .nets))) none
 
 -- the names as the list machine holds them
-abbrev pub keptOf : List Name → List Kept
+abbrev pub keptOf : List Layout → List Kept
 keptOf names = map keptIn names
 
-abbrev pub nothingUnder : Name
-nothingUnder = record { kept = false; nets = replicate 64 nothing }
+abbrev pub noLayout : Layout
+noLayout = record { kept = false; nets = replicate 64 nothing }
 
-abbrev pub keeping : List Place → Name
+abbrev pub keeping : List Place → Layout
 keeping ps = record { kept = true; nets = ps }

@@ -5,11 +5,16 @@ use numbers::wide;
 ghost use mathlib.Core.Path.{_≡_};
 ghost use lib.Dec.{leb};
 ghost use lib.ListN.{getD, set};
-ghost use Rattle.session_rules.specs.Machine.{lastName};
-ghost use Rattle.session_names.specs.Names.{nothingUnder, keeping};
+ghost use Rattle.session_rules.specs.Session.{lastName};
+ghost use Rattle.session_names.specs.Names.{noLayout, keeping};
 
-// What is kept under a name: nets, of which there may be none, or nothing. Where nothing is kept, the places play no part.
-pub struct Name {
+// How many names there are, and the last of them.
+pub const NAMES: usize = 8;
+
+pub const LAST_NAME: u8 = 7;
+
+// A trial layout, what is kept under a name: nets, of which there may be none, or nothing. Where nothing is kept, the places play no part.
+pub struct Layout {
     pub kept: bool,
     pub nets: [Place; 64],
 }
@@ -18,14 +23,14 @@ pub struct Name {
 pub fn is_name(number: u8) -> bool
     ensures { λ r. ⌜ r ≡ leb number lastName ⌝ }
 {
-    number <= 7
+    number <= LAST_NAME
 }
 
-// A name that holds nothing kept.
-pub fn nothing_kept() -> Name
-    ensures { λ r. ⌜ r ≡ nothingUnder ⌝ }
+// Nothing kept.
+pub fn no_layout() -> Layout
+    ensures { λ r. ⌜ r ≡ noLayout ⌝ }
 {
-    Name {
+    Layout {
         kept: false,
         nets: [Place {
             held: Held::Nothing,
@@ -33,22 +38,22 @@ pub fn nothing_kept() -> Name
     }
 }
 
-// What the name of this number holds; above 7 there is none.
-pub fn name_of(names: [Name; 8], number: u8) -> Name
-    ensures { λ r. ⌜ r ≡ getD names number nothingUnder ⌝ }
+// What the name of this number holds; nothing kept above 7.
+pub fn layout_of(names: [Layout; NAMES], number: u8) -> Layout
+    ensures { λ r. ⌜ r ≡ getD names number noLayout ⌝ }
 {
     let at = wide(number);
-    if at < 8 { names[at] } else { nothing_kept() }
+    if at < NAMES { names[at] } else { no_layout() }
 }
 
 // The names with these nets kept under one of them, over what it held; the same names for a number above 7.
-pub fn stored(names: [Name; 8], number: u8, nets: [Place; 64]) -> [Name; 8]
+pub fn stored(names: [Layout; NAMES], number: u8, nets: [Place; 64]) -> [Layout; NAMES]
     ensures { λ r. ⌜ r ≡ set names number (keeping nets) ⌝ }
 {
     let mut next = names;
     let at = wide(number);
-    if at < 8 {
-        next[at] = Name { kept: true, nets };
+    if at < NAMES {
+        next[at] = Layout { kept: true, nets };
     }
     next
 }

@@ -10,7 +10,7 @@ use Rattle.net.specs.declared.Net.{Net}
 use Rattle.net.specs.declared.Change.{Change}
 use Rattle.net.specs.declared.Change.the-variants.{Added, Withdrawn}
 use Rattle.session_rules.specs.Refusal.{Refusal, refusal}
-use Rattle.session_rules.specs.Session.{Kept, Session, withNets, withKept, keptAs, insert, remove, netOf}
+use Rattle.session_rules.specs.Session.{lastName, Kept, Session, withNets, withNames, keptUnder, insert, remove, netOf}
 use Rattle.session_rules.specs.Add.{addRefused}
 
 -- the calls that change a session, with their arguments
@@ -73,8 +73,8 @@ unfoldable pub takenBack : Change → List Change → Session → Session
 takenBack c cs s = withNets s (reversed c (s .nets)) cs
 
 -- 02, §5: "Keep stores the nets now on the board under a name, over what it held."
-unfoldable pub keptUnder : (name : ℕ) → Session → Session
-keptUnder k s = withKept s (set (s .kept) k (some (s .nets)))
+unfoldable pub stored : (name : ℕ) → Session → Session
+stored k s = withNames s (set (s .names) k (some (s .nets)))
 
 -- "Return makes those nets current and empties the pile."
 unfoldable pub returned : List Net → Session → Session
@@ -105,13 +105,9 @@ abbrev pub takeBackStep : List Change → Session → Step
 takeBackStep [] s = refuse (refusal 27 0) s
 takeBackStep (c ∷ cs) s = accept (takenBack c cs s)
 
--- "eight names, 0 to 7"
-abbrev pub lastName : ℕ
-lastName = 7
-
 -- "Refused: 35 for a name above 7"
-abbrev pub named : (name : ℕ) → Session → Step → Step
-named k s x = cond (leb k lastName) x (refuse (refusal 35 0) s)
+abbrev pub ifName : (name : ℕ) → Session → Step → Step
+ifName k s x = cond (leb k lastName) x (refuse (refusal 35 0) s)
 
 -- "then 36 for a return to a name that holds nothing kept (a keep of no nets counts as kept)"
 abbrev pub returnStep : Kept → Session → Step
@@ -124,8 +120,8 @@ step s (add n) = addStep (addRefused (s .block) (s .nets) n) n s
 step s (addAll ns) = addAllStep 0 ns s
 step s (withdraw k) = withdrawStep (netOf k (s .nets)) s
 step s takeBack = takeBackStep (s .pile) s
-step s (keep k) = named k s (accept (keptUnder k s))
-step s (returnTo k) = named k s (returnStep (keptAs k s) s)
+step s (keep k) = ifName k s (accept (stored k s))
+step s (returnTo k) = ifName k s (returnStep (keptUnder k s) s)
 
 -- a list of calls: the session after them, and the answer to each
 unfoldable pub after : Session → List Call → Session

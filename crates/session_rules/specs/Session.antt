@@ -2,39 +2,50 @@
 use mathlib.Core.Bool.{Bool, cond, false, _&&_, _||_}
 use mathlib.Core.List.{List, [], _∷_, map}
 use mathlib.Core.Option.{Option, none, some}
-use Prim.Native.Nat.{ℕ}
+use Prim.Native.Nat.{ℕ, suc}
 use lib.Dec.{eqb, ltb}
-use lib.ListN.{getD}
+use lib.ListN.{getD, replicate}
 use Rattle.board_block.specs.Block.{Block}
 use Rattle.net.specs.Terminals.{same}
 use Rattle.net.specs.declared.Pair.{Pair}
 use Rattle.net.specs.declared.Net.{Net}
 use Rattle.net.specs.declared.Change.{Change}
 
+-- 02, §5: "A session gets eight names, 0 to 7"
+abbrev pub lastName : ℕ
+lastName = 7
+
+abbrev pub nameCount : ℕ
+nameCount = suc lastName
+
 -- what a name holds: nets, of which there may be none, or nothing kept
 abbrev pub Kept : Type 0
 Kept = Option (List Net)
 
+-- "a fresh, read or blank one has nothing kept", under any of the names
+abbrev pub nothingKept : List Kept
+nothingKept = replicate nameCount none
+
 -- "The machine holds the board, the nets in rising number, and a pile of changes". The board stands in the block.
 -- The top of the pile is the first of the list.
--- 02, §5: "A session gets eight names, 0 to 7", "Demand 3's machine holds the names too": what is kept under each, name 0 first.
+-- 02, §5: "Demand 3's machine holds the names too": what is kept under each, name 0 first.
 pub record Session : Type 0 where
   pub block : Block
   pub nets : List Net
   pub pile : List Change
-  pub kept : List Kept
+  pub names : List Kept
 
 -- the session with these nets and this pile; all else that it holds stays
 abbrev pub withNets : Session → List Net → List Change → Session
-withNets s ns cs = record { block = s .block; nets = ns; pile = cs; kept = s .kept }
+withNets s ns cs = record { block = s .block; nets = ns; pile = cs; names = s .names }
 
--- the session with this kept under its names; all else stays
-abbrev pub withKept : Session → List Kept → Session
-withKept s ks = record { block = s .block; nets = s .nets; pile = s .pile; kept = ks }
+-- the session with these names; all else stays
+abbrev pub withNames : Session → List Kept → Session
+withNames s ks = record { block = s .block; nets = s .nets; pile = s .pile; names = ks }
 
 -- what is kept under a name
-abbrev pub keptAs : ℕ → Session → Kept
-keptAs k s = getD (s .kept) k none
+abbrev pub keptUnder : ℕ → Session → Kept
+keptUnder k s = getD (s .names) k none
 
 -- the terminals of the nets
 abbrev pub pairs : List Net → List Pair

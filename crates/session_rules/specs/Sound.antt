@@ -4,9 +4,9 @@ use mathlib.Core.Path.{_≡_}
 use mathlib.Core.Bool.{Bool, true, cond, _&&_}
 use mathlib.Core.List.{List, [], _∷_}
 use mathlib.Core.Option.{none, some}
-use Prim.Native.Nat.{ℕ, suc, _≤_}
+use Prim.Native.Nat.{ℕ, _≤_}
 use lib.Dec.{eqb, leb, ltb}
-use lib.ListN.{length, replicate}
+use lib.ListN.{length}
 use Rattle.board.specs.Board.{Within}
 use Rattle.board.specs.Path.{Convex}
 use Rattle.board_block.specs.Block.{Block, plain}
@@ -15,7 +15,7 @@ use Rattle.net.specs.declared.Net.{Net}
 use Rattle.net.specs.declared.Change.{Change}
 use Rattle.net.specs.declared.Change.the-variants.{Added, Withdrawn}
 use Rattle.session_rules.specs.Refusal.{Refusal, refusal}
-use Rattle.session_rules.specs.Session.{Kept, Session, keptAs, insert, recorded}
+use Rattle.session_rules.specs.Session.{nameCount, Kept, nothingKept, Session, keptUnder, insert, recorded}
 use Rattle.session_rules.specs.Add.{accepts}
 use Rattle.session_rules.specs.Machine.{
   Call,
@@ -32,7 +32,6 @@ use Rattle.session_rules.specs.Machine.{
   step,
   pileLimit,
   reversed,
-  lastName,
 }
 
 -- The nets stand "in rising number".
@@ -56,14 +55,14 @@ unfoldable pub lifts? : Block → List Net → List Change → Bool
 lifts? b ns [] = true
 lifts? b ns (c ∷ cs) = liftable? b ns c && lifts? b (reversed c ns) cs
 
--- how many names there are, from 0
-abbrev pub nameCount : ℕ
-nameCount = suc lastName
+-- nets in rising number that "could all be added to the bare board"
+abbrev pub fine? : Block → List Net → Bool
+fine? b ns = rising? ns && addable? b [] ns
 
--- nothing is kept, or nets in rising number that "could all be added to the bare board"
+-- of what a name holds: nothing is kept, or such nets
 abbrev pub keptFine? : Block → Kept → Bool
 keptFine? b none = true
-keptFine? b (some ns) = rising? ns && addable? b [] ns
+keptFine? b (some ns) = fine? b ns
 
 unfoldable pub allFine? : Block → List Kept → Bool
 allFine? b [] = true
@@ -81,17 +80,17 @@ pub record Sound (s : Session) : Type 0 where
   pub short : length (s .pile) ≤ pileLimit
   pub lifts : lifts? (s .block) (s .nets) (s .pile) ≡ true
   -- 02, §5: "A session is sound only if each name's nets could all be added to the bare board."
-  pub eight : length (s .kept) ≡ nameCount
-  pub kept-rising : (k : ℕ) (ns : List Net) → keptAs k s ≡ some ns → rising? ns ≡ true
-  pub kept-addable : (k : ℕ) (ns : List Net) → keptAs k s ≡ some ns → addable? (s .block) [] ns ≡ true
+  pub eight : length (s .names) ≡ nameCount
+  pub kept-rising : (k : ℕ) (ns : List Net) → keptUnder k s ≡ some ns → rising? ns ≡ true
+  pub kept-addable : (k : ℕ) (ns : List Net) → keptUnder k s ≡ some ns → addable? (s .block) [] ns ≡ true
 
 -- the test of it: see `sound-exact`
 unfoldable pub sound? : Session → Bool
 sound? s =
     isConvex (s .block .board)
-    && ((rising? (s .nets) && addable? (s .block) [] (s .nets))
+    && (fine? (s .block) (s .nets)
     && ((leb (length (s .pile)) pileLimit && lifts? (s .block) (s .nets) (s .pile))
-    && (eqb (length (s .kept)) nameCount && allFine? (s .block) (s .kept))))
+    && (eqb (length (s .names)) nameCount && allFine? (s .block) (s .names))))
 
 -- how a call answers that is refused before anything is done: of a list of nets none went on
 abbrev pub refusedWhole : Call → Refusal → Answer
@@ -106,20 +105,16 @@ refusedWhole (returnTo k) r = refused r
 unfoldable pub call : Session → Call → Step
 call s c = cond (sound? s) (step s c) (record { answer = refusedWhole c (refusal 20 0); next = s })
 
--- 02, §5: "a fresh, read or blank one has nothing kept", under any of the names
-abbrev pub nothingKept : List Kept
-nothingKept = replicate nameCount none
-
 -- "A session is fresh when it is sound, with no nets and an empty pile."
 pub record Fresh (s : Session) : Type 0 where
   pub sound : Sound s
   pub no-nets : s .nets ≡ []
   pub no-pile : s .pile ≡ []
-  pub none-kept : s .kept ≡ nothingKept
+  pub none-kept : s .names ≡ nothingKept
 
 -- a session on a block, with no nets, an empty pile and nothing kept
 abbrev pub bare : Block → Session
-bare b = record { block = b; nets = []; pile = []; kept = nothingKept }
+bare b = record { block = b; nets = []; pile = []; names = nothingKept }
 
 -- "the blank session: row 0 from 0 to 1, no nets."
 abbrev pub blank : Session

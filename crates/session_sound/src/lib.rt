@@ -1,26 +1,27 @@
-// Does what a session holds stand on its board: could its nets all be added, and can its pile be lifted to the bottom?
+// Does what a session holds stand on its board: could its nets all be added, and those under each name, and can its pile be lifted to the bottom?
 use board::Vertex;
 use board_block::Block;
 use net::Change;
 use net::Held;
 use net::Place;
 use numbers::wide;
-use session_names::Name;
+use session_names::Layout;
+use session_names::NAMES;
 use session_pile::Pile;
 ghost use mathlib.Core.Path.{_≡_};
-ghost use mathlib.Core.List.{[]};
 ghost use lib.ListN.{length};
 ghost use Rattle.board.specs.Board.{Within};
 ghost use Rattle.board_block.specs.View.{blockOf};
-ghost use Rattle.session_rules.specs.Sound.{addable?, liftable?, lifts?, nameCount, keptFine?, allFine?};
+ghost use Rattle.session_rules.specs.Session.{nameCount};
+ghost use Rattle.session_rules.specs.Sound.{liftable?, lifts?, keptFine?, allFine?};
 ghost use Rattle.net_places.specs.Places.{netsOf};
 ghost use Rattle.session_pile.specs.Pile.{pileOf};
 ghost use Rattle.session_names.specs.Names.{keptIn, keptOf};
-ghost use Rattle.session_sound.specs.Room.{roomAt, heldRoom};
+ghost use Rattle.session_sound.specs.Room.{countedAt, roomAt, heldRoom, roomy, layoutRoomy, allRoomy};
 
 // Are there pins at v for all the terminals counted there? Outside lines and columns 0 to 31 no place has pins.
 fn has_pins(b: Block, counts: &[u8; 1024], v: Vertex) -> bool
-    ensures { λ r. ⌜ r ≡ roomAt (blockOf b) (now (counts .entry)) v ⌝ }
+    ensures { λ r. ⌜ r ≡ roomAt (blockOf b) (countedAt (now (counts .entry)) v) v ⌝ }
 {
     if v.line < 32 {
         if v.column < 32 {
@@ -33,7 +34,7 @@ fn has_pins(b: Block, counts: &[u8; 1024], v: Vertex) -> bool
 
 // Do the terminals of what a place holds stand apart, each with pins enough?
 fn has_room(b: Block, counts: &[u8; 1024], place: Place) -> bool
-    ensures { λ r. ⌜ r ≡ heldRoom (blockOf b) (now (counts .entry)) (place .held) ⌝ }
+    ensures { λ r. ⌜ r ≡ heldRoom (blockOf b) (countedAt (now (counts .entry))) (place .held) ⌝ }
 {
     let held = place.held;
     match held {
@@ -47,11 +48,10 @@ fn has_room(b: Block, counts: &[u8; 1024], place: Place) -> bool
     }
 }
 
-// Could the nets all be added to the bare board? Their terminals are counted once for all vertices, and then each net is looked at. Of a board
-// outside the limits the answer says nothing, as terminals are counted within them.
+// Could the nets all be added to the bare board? Their terminals are counted once for all vertices, and then each net is looked at. On a board within
+// the limits that is so exactly where they have room (law `room-addable`).
 pub fn is_addable(b: Block, nets: [Place; 64]) -> bool
-    ensures { λ r. ⌜ (Within (blockOf b .board) → r ≡ addable? (blockOf b) [] (netsOf nets)) ⌝ }
-    ensures { λ r. ⌜ length nets ≡ 64 ⌝ }
+    ensures { λ r. ⌜ (r ≡ roomy (blockOf b) nets) × (length nets ≡ 64) ⌝ }
 {
     let counts = net_terminals::count_terminals(nets);
     let mut ok = true;
@@ -61,24 +61,24 @@ pub fn is_addable(b: Block, nets: [Place; 64]) -> bool
     ok
 }
 
-// Could the nets that are kept under a name all be added to the bare board?
-fn is_fine(b: Block, name: Name) -> bool
-    ensures { λ r. ⌜ (Within (blockOf b .board) → r ≡ keptFine? (blockOf b) (keptIn name)) ⌝ }
+// Could the nets that are kept under a name all be added to the bare board? Yes where nothing is kept.
+fn is_fine(b: Block, layout: Layout) -> bool
+    ensures { λ r. ⌜ (r ≡ layoutRoomy (blockOf b) layout) × (Within (blockOf b .board) → r ≡ keptFine? (blockOf b) (keptIn layout)) ⌝ }
 {
-    if !name.kept {
+    if !layout.kept {
         return true;
     }
-    let nets = name.nets;
+    let nets = layout.nets;
     is_addable(b, nets)
 }
 
 // Could each name's nets all be added to the bare board?
-pub fn all_fine(b: Block, names: [Name; 8]) -> bool
-    ensures { λ r. ⌜ (Within (blockOf b .board) → r ≡ allFine? (blockOf b) (keptOf names)) ⌝ }
+pub fn all_fine(b: Block, names: [Layout; NAMES]) -> bool
+    ensures { λ r. ⌜ (r ≡ allRoomy (blockOf b) names) × (Within (blockOf b .board) → r ≡ allFine? (blockOf b) (keptOf names)) ⌝ }
     ensures { λ r. ⌜ length (keptOf names) ≡ nameCount ⌝ }
 {
     let mut ok = true;
-    for i in 0..8 {
+    for i in 0..NAMES {
         ok = ok & is_fine(b, names[i]);
     }
     ok

@@ -10,12 +10,15 @@ use lib.ListN.{replicate, set}
 use Rattle.net.specs.declared.Net.{Net}
 use Rattle.net.specs.declared.Change.the-variants.{Added}
 use Rattle.board_block.specs.Block.{Block, plain}
-use Rattle.session_rules.specs.Session.{Kept, Session, withKept}
+use Rattle.session_rules.specs.Session.{nothingKept, Session, withNets, withNames}
 use Rattle.session_rules.specs.Machine.{Call, add, addAll, withdraw, takeBack, keep, returnTo, after, answers}
-use Rattle.session_rules.specs.Sound.{sound?, call, bare, nothingKept}
+use Rattle.session_rules.specs.Sound.{sound?, call, bare}
+use Rattle.call_rules.specs.Writing.{writeBoard}
+use Rattle.call_rules.specs.Judge.{judgeWords}
+use Rattle.call_rules.specs.Route.{routeRefused}
 use Rattle.worked_cases.specs.Everything.{everything}
-use Rattle.worked_cases.specs.Boards.{row, board, net}
-use Rattle.worked_cases.specs.Sessions.{answerList}
+use Rattle.worked_cases.specs.Boards.{row, board, net, why}
+use Rattle.worked_cases.specs.Sessions.{refusalList, answerList}
 
 abbrev cell : Block
 cell = plain (board (row 0 1 ∷ []))
@@ -30,15 +33,15 @@ trials : map answerList (answers (bare cell) (
     ∷ returnTo 0 ∷ withdraw 1 ∷ takeBack
     -- a name goes on holding its nets, and no return lays a change on the pile
     ∷ returnTo 7 ∷ takeBack ∷ withdraw 1 ∷ returnTo 7 ∷ withdraw 2 ∷ withdraw 1
-    -- over what it held; a keep lays no change on the pile, so that the withdrawal is taken back
-    ∷ keep 7 ∷ takeBack ∷ returnTo 7 ∷ withdraw 1
+    -- over what it held; a keep lays no change on the pile: the withdrawal is taken back, and then the pile is empty
+    ∷ keep 7 ∷ takeBack ∷ takeBack ∷ withdraw 1 ∷ returnTo 7 ∷ withdraw 1
     -- other names hold nothing
     ∷ returnTo 1 ∷ []))
     ≡ (36 ∷ 0 ∷ []) ∷ (36 ∷ 0 ∷ []) ∷ (35 ∷ 0 ∷ []) ∷ (35 ∷ 0 ∷ []) ∷ (35 ∷ 0 ∷ [])
     ∷ [] ∷ [] ∷ [] ∷ []
     ∷ [] ∷ (26 ∷ 0 ∷ []) ∷ (27 ∷ 0 ∷ [])
     ∷ [] ∷ (27 ∷ 0 ∷ []) ∷ [] ∷ [] ∷ (26 ∷ 0 ∷ []) ∷ []
-    ∷ [] ∷ [] ∷ [] ∷ (26 ∷ 0 ∷ [])
+    ∷ [] ∷ [] ∷ (27 ∷ 0 ∷ []) ∷ [] ∷ [] ∷ (26 ∷ 0 ∷ [])
     ∷ (36 ∷ 0 ∷ []) ∷ []
 unfolding everything
 trials = refl
@@ -52,49 +55,63 @@ trial-history : after (bare cell) (
       block = cell;
       nets = net 1 1 0 0 1 ∷ net 2 0 0 1 1 ∷ net 4 0 0 1 1 ∷ [];
       pile = Added (net 4 0 0 1 1) ∷ [];
-      kept = none ∷ some (net 1 1 0 0 1 ∷ net 2 0 0 1 1 ∷ []) ∷ none ∷ none ∷ none ∷ none ∷ some (net 3 0 0 1 1 ∷ []) ∷ none ∷ [];
+      names = none ∷ some (net 1 1 0 0 1 ∷ net 2 0 0 1 1 ∷ []) ∷ none ∷ none ∷ none ∷ none ∷ some (net 3 0 0 1 1 ∷ []) ∷ none ∷ [];
     }
 unfolding everything
 trial-history = refl
 
 -- ── which names make a session unsound ──
--- the bare cell with these nets under name 7
-abbrev keeping : List Net → Session
-keeping ns = withKept (bare cell) (set nothingKept 7 (some ns))
+-- the bare cell with these nets under a name
+abbrev under : ℕ → List Net → Session
+under k ns = withNames (bare cell) (set nothingKept k (some ns))
 
-fine-names : sound? (keeping []) ≡ true
+fine-names : sound? (under 7 []) ≡ true
 unfolding everything
 fine-names = refl
 
-fine-nets : sound? (keeping (net 1 0 0 1 1 ∷ net 2 0 0 1 1 ∷ [])) ≡ true
+fine-nets : sound? (under 7 (net 1 0 0 1 1 ∷ net 2 0 0 1 1 ∷ [])) ≡ true
 unfolding everything
 fine-nets = refl
 
+-- "could all be added to the bare board": the nets that are on the board take no pins from those under a name
+fine-beside : sound? (withNets (under 3 (net 1 0 0 1 1 ∷ net 2 0 0 1 1 ∷ [])) (net 1 0 0 1 1 ∷ net 2 0 0 1 1 ∷ []) []) ≡ true
+unfolding everything
+fine-beside = refl
+
 -- a third terminal where there are two pins; a terminal that is no vertex; numbers that do not rise
-crowded-name : sound? (keeping (net 1 0 0 1 1 ∷ net 2 0 0 1 1 ∷ net 3 0 0 1 0 ∷ [])) ≡ false
+crowded-name : sound? (under 7 (net 1 0 0 1 1 ∷ net 2 0 0 1 1 ∷ net 3 0 0 1 0 ∷ [])) ≡ false
 unfolding everything
 crowded-name = refl
 
-outside-name : sound? (keeping (net 1 0 0 1 2 ∷ [])) ≡ false
+outside-name : sound? (under 0 (net 1 0 0 1 2 ∷ [])) ≡ false
 unfolding everything
 outside-name = refl
 
-falling-name : sound? (keeping (net 2 0 0 1 1 ∷ net 1 0 0 1 1 ∷ [])) ≡ false
+falling-name : sound? (under 4 (net 2 0 0 1 1 ∷ net 1 0 0 1 1 ∷ [])) ≡ false
 unfolding everything
 falling-name = refl
 
 -- seven names, or nine
-too-few : sound? (withKept (bare cell) (replicate 7 none)) ≡ false
+too-few : sound? (withNames (bare cell) (replicate 7 none)) ≡ false
 unfolding everything
 too-few = refl
 
-too-many : sound? (withKept (bare cell) (replicate 9 none)) ≡ false
+too-many : sound? (withNames (bare cell) (replicate 9 none)) ≡ false
 unfolding everything
 too-many = refl
 
--- 20 before 35 and 36, and for every call, though the nets on the board are fine
-unsound-name : map (λ (c : Call). answerList (call (keeping (net 1 0 0 1 2 ∷ [])) c .answer))
-    (keep 8 ∷ keep 7 ∷ returnTo 8 ∷ returnTo 7 ∷ returnTo 0 ∷ add (net 1 0 0 1 1) ∷ withdraw 1 ∷ takeBack ∷ [])
-    ≡ (20 ∷ 0 ∷ []) ∷ (20 ∷ 0 ∷ []) ∷ (20 ∷ 0 ∷ []) ∷ (20 ∷ 0 ∷ []) ∷ (20 ∷ 0 ∷ []) ∷ (20 ∷ 0 ∷ []) ∷ (20 ∷ 0 ∷ []) ∷ (20 ∷ 0 ∷ []) ∷ []
+-- 20 before 35 and 36, and for every other call, though the nets on the board are fine
+abbrev bad : Session
+bad = under 7 (net 1 0 0 1 2 ∷ [])
+
+unsound-name : map (λ (c : Call). answerList (call bad c .answer))
+    (keep 8 ∷ keep 7 ∷ returnTo 8 ∷ returnTo 7 ∷ returnTo 0 ∷ add (net 1 0 0 1 1) ∷ withdraw 1 ∷ takeBack ∷ addAll [] ∷ [])
+    ≡ (20 ∷ 0 ∷ []) ∷ (20 ∷ 0 ∷ []) ∷ (20 ∷ 0 ∷ []) ∷ (20 ∷ 0 ∷ []) ∷ (20 ∷ 0 ∷ [])
+    ∷ (20 ∷ 0 ∷ []) ∷ (20 ∷ 0 ∷ []) ∷ (20 ∷ 0 ∷ []) ∷ (0 ∷ 20 ∷ 0 ∷ []) ∷ []
 unfolding everything
 unsound-name = refl
+
+unsound-elsewhere : refusalList (routeRefused bad 2049) ∷ why (writeBoard bad 96) ∷ why (judgeWords bad (0xE0000000 ∷ [])) ∷ []
+    ≡ (20 ∷ 0 ∷ []) ∷ (20 ∷ 0 ∷ []) ∷ (20 ∷ 0 ∷ []) ∷ []
+unfolding everything
+unsound-elsewhere = refl

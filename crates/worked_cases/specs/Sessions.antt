@@ -11,16 +11,16 @@ use Rattle.net.specs.declared.Net.{Net}
 use Rattle.net.specs.declared.Change.the-variants.{Added, Withdrawn}
 use Rattle.board_block.specs.Block.{plain}
 use Rattle.session_rules.specs.Refusal.{Refusal}
-use Rattle.session_rules.specs.Session.{withNets}
+use Rattle.session_rules.specs.Session.{nothingKept, withNets}
 use Rattle.session_rules.specs.Machine.{Call, add, addAll, withdraw, takeBack, Answer, accepted, refused, wentOn, after, answers}
-use Rattle.session_rules.specs.Sound.{sound?, call, bare, blank, nothingKept}
+use Rattle.session_rules.specs.Sound.{sound?, call, bare, blank}
 use Rattle.call_rules.specs.Writing.{writeBoard}
 use Rattle.call_rules.specs.Route.{routeRefused}
 use Rattle.worked_cases.specs.Everything.{everything}
 use Rattle.worked_cases.specs.Boards.{row, board, net, session, ring, why}
 
 -- a refusal as one list, its number and place; nothing where there is none
-abbrev refusalList : Option Refusal → List ℕ
+abbrev pub refusalList : Option Refusal → List ℕ
 refusalList none = []
 refusalList (some r) = r .number ∷ r .place
 
@@ -66,7 +66,7 @@ history : after (bare (plain (board (row 0 1 ∷ [])))) (add (net 2 0 0 1 1) ∷
       block = plain (board (row 0 1 ∷ []));
       nets = net 1 1 0 0 1 ∷ net 2 0 0 1 1 ∷ [];
       pile = Added (net 1 1 0 0 1) ∷ Added (net 2 0 0 1 1) ∷ [];
-      kept = nothingKept;
+      names = nothingKept;
     }
 unfolding everything
 history = refl
@@ -104,7 +104,7 @@ list-history : after (bare (plain (board (row 0 1 ∷ [])))) (addAll (net 4 0 0 
       block = plain (board (row 0 1 ∷ []));
       nets = net 3 1 0 0 1 ∷ net 4 0 0 1 1 ∷ [];
       pile = Added (net 3 1 0 0 1) ∷ Added (net 4 0 0 1 1) ∷ [];
-      kept = nothingKept;
+      names = nothingKept;
     }
 unfolding everything
 list-history = refl

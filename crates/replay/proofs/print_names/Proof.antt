@@ -13,11 +13,11 @@ abbrev μ-loop : tie.MeasureT-loop
 loop-holds : tie.Need-loop-holds Inv-loop μ-loop
 loop-holds c = search needs
 
-name-of-requires : tie.Need-name-of-requires Inv-loop μ-loop
-name-of-requires c κs = search needs
+layout-of-requires : tie.Need-layout-of-requires Inv-loop μ-loop
+layout-of-requires c κs = search needs
 
-print-name-requires : tie.Need-print-name-requires Inv-loop μ-loop
-print-name-requires c κs = search needs
+print-layout-requires : tie.Need-print-layout-requires Inv-loop μ-loop
+print-layout-requires c κs = search needs
 
 add-number : tie.Need-add-number Inv-loop μ-loop
 add-number c = search needs
@@ -38,8 +38,8 @@ print-names-spec =
     Inv-loop
     μ-loop
     loop-holds
-    name-of-requires
-    print-name-requires
+    layout-of-requires
+    print-layout-requires
     add-number
     loop-less
     loop-again

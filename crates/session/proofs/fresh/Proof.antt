@@ -9,12 +9,12 @@ use Rattle.session.proofs.fresh.Tie as tie
 empty-requires : tie.Need-empty-requires
 empty-requires c κs = search needs
 
-nothing-kept-requires : tie.Need-nothing-kept-requires
-nothing-kept-requires c κs = search needs
+no-layout-requires : tie.Need-no-layout-requires
+no-layout-requires c κs = search needs
 
 returns : tie.Need-returns
 unfolding freshOf
-returns c = fresh-promise (c .before .before .args .block) _ (rw (c .nothing-kept .ensures, c .before .empty .ensures) refl)
+returns c = fresh-promise (c .before .before .args .block) _ (rw (c .no-layout .ensures, c .before .empty .ensures) refl)
 
 pub fresh-spec : {M : Type 1} → statement M
-fresh-spec = tie.close (tie.spec empty-requires nothing-kept-requires returns)
+fresh-spec = tie.close (tie.spec empty-requires no-layout-requires returns)

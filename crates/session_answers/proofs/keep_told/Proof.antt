@@ -1,4 +1,5 @@
 -- `keep_told` gives the number and place of an answer.
+use mathlib.Core.Path.{refl}
 use borrow.Author.Needs.{needs}
 use Rattle.session_answers.proofs.keep_told.Statement.{statement}
 use Rattle.session_answers.proofs.keep_told.Tie as tie
@@ -13,13 +14,13 @@ enum-told-3 : tie.Need-enum-told-3
 enum-told-3 c = search needs
 
 returns : tie.Need-returns
-returns c = cc
+returns c = rw (c .enum-told .given .1) refl
 
 returns-2 : tie.Need-returns-2
-returns-2 c = cc
+returns-2 c = rw (c .enum-told2 .given .1) refl
 
 returns-3 : tie.Need-returns-3
-returns-3 c = cc
+returns-3 c = rw (c .enum-told3 .given .1) refl
 
 pub keep-told-spec : {M : Type 1} → statement M
 keep-told-spec = tie.close (tie.spec enum-told enum-told-2 enum-told-3 returns returns-2 returns-3)

@@ -1,4 +1,5 @@
 -- `return_told` gives the number and place of an answer.
+use mathlib.Core.Path.{refl}
 use borrow.Author.Needs.{needs}
 use Rattle.session_answers.proofs.return_told.Statement.{statement}
 use Rattle.session_answers.proofs.return_told.Tie as tie
@@ -16,16 +17,16 @@ enum-told-4 : tie.Need-enum-told-4
 enum-told-4 c = search needs
 
 returns : tie.Need-returns
-returns c = cc
+returns c = rw (c .enum-told .given .1) refl
 
 returns-2 : tie.Need-returns-2
-returns-2 c = cc
+returns-2 c = rw (c .enum-told2 .given .1) refl
 
 returns-3 : tie.Need-returns-3
-returns-3 c = cc
+returns-3 c = rw (c .enum-told3 .given .1) refl
 
 returns-4 : tie.Need-returns-4
-returns-4 c = cc
+returns-4 c = rw (c .enum-told4 .given .1) refl
 
 pub return-told-spec : {M : Type 1} → statement M
 return-told-spec =

@@ -9,7 +9,8 @@ use Rattle.board.specs.Board.{Within}
 use Rattle.board_block.specs.View.{blockOf}
 use Rattle.session_rules.specs.Sound.{allFine?}
 use Rattle.session_names.specs.Names.{keptIn, keptOf}
-use Rattle.session_sound.specs.NamesFine.{fine-next, fine-last}
+use Rattle.session_sound.specs.Room.{allRoomy}
+use Rattle.session_sound.specs.NamesFine.{roomy-next, fine-next, roomy-last, fine-last}
 use Rattle.session_sound.proofs.all_fine.Statement.{statement}
 use Rattle.session_sound.proofs.all_fine.Tie as tie
 
@@ -17,13 +18,14 @@ abbrev Inv-loop : tie.InvT-loop
 Inv-loop b names ok₀ i₀ ok i =
     (i ≤ 8)
     × (length names ≡ 8)
+    × (ok && allRoomy (blockOf b) (drop i names) ≡ allRoomy (blockOf b) names)
     × (Within (blockOf b .board) → ok && allFine? (blockOf b) (keptOf (drop i names)) ≡ allFine? (blockOf b) (keptOf names))
 
 abbrev μ-loop : tie.MeasureT-loop
 μ-loop b names ok₀ i₀ ok i = 8 - i
 
 loop-holds : tie.Need-loop-holds Inv-loop μ-loop
-loop-holds c = (omega arith, search needs, λ within. refl)
+loop-holds c = (omega arith, search needs, refl, λ within. refl)
 
 mul-is-fine : tie.Need-mul-is-fine Inv-loop μ-loop
 mul-is-fine c = search needs
@@ -45,12 +47,13 @@ loop-again c =
     let at3 = c .before .before .before in
     let at = at3 .loop in
     let args = at3 .before .args in
+    let b = blockOf (args .b) in
+    let this = c .is-fine .result in
     let inv = at .inv in (
       omega arith,
       inv .1,
-      λ within.
-          fine-next (blockOf (args .b)) (args .t2) (at .i) _ (at .ok) (c .is-fine .result) _ (omega arith)
-          (c .is-fine .ensures within) (inv .2 within),
+      roomy-next b (args .t2) (at .i) _ (at .ok) this _ (omega arith) (c .is-fine .ensures .0) (inv .2),
+      λ within. fine-next b (args .t2) (at .i) _ (at .ok) this _ (omega arith) (c .is-fine .ensures .1 within) (inv .3 within),
     )
 
 returns : tie.Need-returns Inv-loop μ-loop
@@ -58,7 +61,10 @@ returns c =
     let at = c .before .loop in
     let args = c .before .before .args in
     let last : at .i ≡ length (args .t2) = omega arith in (
-      λ within. fine-last (blockOf (args .b)) (args .t2) (at .ok) _ (rw last at (at .inv .2 within)),
+      (
+        roomy-last (blockOf (args .b)) (args .t2) (at .ok) _ (rw last at (at .inv .2)),
+        λ within. fine-last (blockOf (args .b)) (args .t2) (at .ok) _ (rw last at (at .inv .3 within)),
+      ),
       length-map (args .t2) keptIn ∙ at .inv .1,
     )
 

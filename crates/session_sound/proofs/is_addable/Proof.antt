@@ -2,13 +2,15 @@
 -- is that all have.
 use borrow.Author.Needs.{needs}
 use native.Mathlib.Omega.{arith}
-use mathlib.Core.Path.{_≡_, refl, sym, _∙_}
+use mathlib.Core.Path.{_≡_, refl, _∙_}
 use mathlib.Core.Bool.{_&&_}
 use Prim.Native.Nat.{_-_, _≤_}
-use lib.ListN.{length, drop}
+use lib.ListN.{length, getD, drop}
 use Rattle.board_block.specs.View.{blockOf}
-use Rattle.session_sound.specs.Room.{placesRoom}
-use Rattle.session_sound.specs.RoomLaws.{room-addable, room-next, room-last}
+use Rattle.net.specs.Terminals.{terminals}
+use Rattle.net.specs.View.{nothing, pairsOf}
+use Rattle.session_sound.specs.Room.{placesRoom, roomy}
+use Rattle.session_sound.specs.RoomLaws.{counted-room, room-next, room-last}
 use Rattle.session_sound.proofs.is_addable.Statement.{statement}
 use Rattle.session_sound.proofs.is_addable.Tie as tie
 use Rattle.session_sound.proofs.is_addable.Reads as reads
@@ -18,7 +20,7 @@ use Rattle.session_sound.proofs.has_room.Reads as has-room-reads
 
 abbrev Inv-loop : tie.InvT-loop
 Inv-loop b nets counts ok₀ i₀ ok i =
-    (i ≤ 64) × (length nets ≡ 64) × (ok && placesRoom (blockOf b) counts (drop i nets) ≡ placesRoom (blockOf b) counts nets)
+    (i ≤ 64) × (length nets ≡ 64) × (ok && placesRoom (blockOf b) (terminals (pairsOf nets)) (drop i nets) ≡ roomy (blockOf b) nets)
 
 abbrev μ-loop : tie.MeasureT-loop
 μ-loop b nets counts ok₀ i₀ ok i = 64 - i
@@ -46,28 +48,22 @@ loop-less c = search needs
 
 loop-again : tie.Need-loop-again Inv-loop μ-loop
 loop-again c =
-    let at3 = c .before .before .before .before in
-    let at = at3 .loop in
-    let start = at3 .before .before in
-    let inv = at .inv in (
-      omega arith,
-      inv .1,
-      room-next (blockOf (start .args .b)) _ (start .args .t2) (at .i) (at .ok) (c .has-room .result) _ (omega arith) (c .has-room .ensures) (inv .2),
-    )
+    let at4 = c .before .before .before .before in
+    let at = at4 .loop in
+    let counted = at4 .before in
+    let args = counted .before .args in
+    let b = blockOf (args .b) in
+    let nets = args .t2 in
+    let has = c .has-room .ensures ∙ counted-room b (pairsOf nets) _ (counted .count-terminals .ensures) (getD nets (at .i) nothing .held) in
+    (omega arith, at .inv .1, room-next b (terminals (pairsOf nets)) nets (at .i) (at .ok) (c .has-room .result) _ (omega arith) has (at .inv .2))
 
 returns : tie.Need-returns Inv-loop μ-loop
 returns c =
     let at = c .before .loop in
-    let counted = c .before .before in
-    let start = counted .before in
-    let b = blockOf (start .args .b) in
-    let nets = start .args .t2 in
-    let last : at .i ≡ length nets = omega arith in (
-      λ within.
-          room-last b _ nets (at .ok) _ (rw last at (at .inv .2))
-          ∙ room-addable b nets _ within (at .inv .1) (counted .count-terminals .ensures),
-      at .inv .1,
-    )
+    let args = c .before .before .before .args in
+    let nets = args .t2 in
+    let last : at .i ≡ length nets = omega arith in
+    (room-last (blockOf (args .b)) (terminals (pairsOf nets)) nets (at .ok) _ (rw last at (at .inv .2)), at .inv .1)
 
 pub is-addable-spec : {M : Type 1} → statement M
 is-addable-spec =

@@ -1,7 +1,10 @@
 -- `is_sound` decides whether the session is sound, and tells the lengths of its arrays.
+use mathlib.Core.Path.{_∙_}
 use Rattle.count.specs.TruthLaws.{decides}
 use Rattle.session_rules.specs.Sound.{sound?}
 use Rattle.session_laws.specs.Exact.{sound-exact}
+use Rattle.board_block.specs.View.{blockOf}
+use Rattle.session_sound.specs.RoomLaws.{room-addable}
 use Rattle.session.specs.View.{sessionOf}
 use Rattle.session.specs.Tested.{tested}
 use borrow.Author.Needs.{needs}
@@ -35,8 +38,9 @@ returns c =
     let short = at-short .is-short in (
       decides _ (sound? (sessionOf s)) (sound-exact (sessionOf s))
           (tested s (at-convex .is-convex .result) (addable .result) (short .result) (at-lifts .lifts .result) (fine .result)
-          (at-convex .is-convex .ensures .same) (addable .ensures .0) (short .ensures .0) (at-lifts .lifts .ensures)
-          (fine .ensures .0) (fine .ensures .1)),
+          (at-convex .is-convex .ensures .same)
+          (λ within. addable .ensures .0 ∙ room-addable (blockOf (s .block)) (s .nets) within (addable .ensures .1))
+          (short .ensures .0) (at-lifts .lifts .ensures) (fine .ensures .0 .1) (fine .ensures .1)),
       record { nets64 = addable .ensures .1; pile64 = short .ensures .1 },
     )
 

@@ -6,7 +6,6 @@ use Rattle.session_pile.specs.declared.Pile.{Pile}
 use Rattle.session_pile.specs.Pile.{emptyPile}
 use Rattle.session_answers.specs.declared.ReturnAnswer.the-variants.{Accepted}
 use Rattle.session.specs.declared.Session.{Session}
-use Rattle.session.specs.declared.AfterReturn.{AfterReturn}
 use Rattle.session.specs.Value.{withPlaces, returnSound}
 use borrow.Author.Needs.{needs}
 use Rattle.session.proofs.Session.return_sound.Statement.{statement}
@@ -21,13 +20,13 @@ returns c =
     let name = c .before .is-name in
     rw (sym (name .ensures) ∙ not-true (name .result) (c .if1 .taken)) refl
 
-name-of-requires : tie.Need-name-of-requires
-name-of-requires c κs = search needs
+layout-of-requires : tie.Need-layout-of-requires
+layout-of-requires c κs = search needs
 
 returns-2 : tie.Need-returns-2
 unfolding returnSound
 returns-2 c =
-    let there = c .before .before .name-of in
+    let there = c .before .before .layout-of in
     let at-if = c .before .before .before .before in
     let name = at-if .before .is-name in
     let none : there .result .kept ≡ false = not-true (there .result .kept) (c .if2 .taken) in
@@ -44,7 +43,7 @@ unfolding returnSound
 returns-3 c =
     let at-empty = c .before in
     let at-kept = at-empty .before .before in
-    let there = at-kept .before .before .name-of in
+    let there = at-kept .before .before .layout-of in
     let at-if = at-kept .before .before .before .before in
     let name = at-if .before .is-name in
     let some : there .result .kept ≡ true = not-false (there .result .kept) (at-kept .if2 .left) in
@@ -60,7 +59,7 @@ return-sound-spec =
     (tie.spec
     is-name-requires
     returns
-    name-of-requires
+    layout-of-requires
     returns-2
     empty-requires
     with-places-requires

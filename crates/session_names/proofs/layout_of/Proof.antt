@@ -1,15 +1,15 @@
--- `name_of` gives what the name of a number holds, nothing where there is none.
+-- `layout_of` gives what the name of a number holds, nothing where there is none.
 use native.Mathlib.Omega.{arith}
 use mathlib.Core.Path.{_≡_, _∙_}
 use lib.ListN.{length}
 use Rattle.session_names.specs.NamesLaws.{name-in, name-out}
 use borrow.Author.Needs.{needs}
-use Rattle.session_names.proofs.name_of.Statement.{statement}
-use Rattle.session_names.proofs.name_of.Tie as tie
-use Rattle.session_names.proofs.name_of.Reads as reads
-use Rattle.session_names.proofs.name_of.Lts as lts
+use Rattle.session_names.proofs.layout_of.Statement.{statement}
+use Rattle.session_names.proofs.layout_of.Tie as tie
+use Rattle.session_names.proofs.layout_of.Reads as reads
+use Rattle.session_names.proofs.layout_of.Lts as lts
 use Rattle.numbers.proofs.wide.Reads as wide-reads
-use Rattle.session_names.proofs.nothing_kept.Reads as nothing-kept-reads
+use Rattle.session_names.proofs.no_layout.Reads as no-layout-reads
 
 wide-requires : tie.Need-wide-requires
 wide-requires c κs = search needs
@@ -20,8 +20,8 @@ mul-result c = search needs
 array-copy-out-result : tie.Need-array-copy-out-result
 array-copy-out-result c = search needs
 
-nothing-kept-requires : tie.Need-nothing-kept-requires
-nothing-kept-requires c κs = search needs
+no-layout-requires : tie.Need-no-layout-requires
+no-layout-requires c κs = search needs
 
 returns : tie.Need-returns
 returns c =
@@ -36,15 +36,15 @@ returns-2 c =
     let at-wide = c .before .before in
     let args = at-wide .before .args in
     let eight : length (args .t1) ≡ 8 = search needs in
-    c .nothing-kept .ensures ∙ name-out (args .t1) (args .number) (omega (arith, at-wide .wide .ensures .0))
+    c .no-layout .ensures ∙ name-out (args .t1) (args .number) (omega (arith, at-wide .wide .ensures .0))
 
-pub name-of-spec : {M : Type 1} → statement M
-name-of-spec =
+pub layout-of-spec : {M : Type 1} → statement M
+layout-of-spec =
     tie.close
     (tie.spec
     wide-requires
     mul-result
     array-copy-out-result
-    nothing-kept-requires
+    no-layout-requires
     returns
     returns-2)
