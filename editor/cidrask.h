@@ -23,7 +23,7 @@
  *   - first, second and third each point to a uint64_t that may be written;
  *   - what a call writes to (the buffer and the numbers) overlaps nothing else that the call is lent;
  *   - no other thread writes to what is lent while the call runs;
- *   - there is stack enough. This is not proved. In the library for x86-64, frames times the code's bounds on recursion come to under 488 KiB for
+ *   - there is stack enough. This is not proved. In the library for x86-64, frames times the code's bounds on recursion come to under 480 KiB for
  *     cidrask_route, and to under 31 KiB for cidrask_judge and cidrask_alike, which do not recurse. Seen in use were at most 59 KiB by cidrask_route,
  *     over 12,000 random large boards, half of them with odd vertices, and 30 KiB by cidrask_judge.
  *

@@ -18,7 +18,7 @@ use Rattle.session.specs.declared.Session.{Session}
 use Rattle.session.specs.declared.AfterKeep.{AfterKeep}
 use Rattle.session.specs.declared.AfterReturn.{AfterReturn}
 use Rattle.session.specs.View.{sessionOf}
-use Rattle.session.specs.Value.{keepSound, returnNamed, returnSound, keepOf, returnOf}
+use Rattle.session.specs.Value.{keepSound, returnLayout, returnSound, keepOf, returnOf}
 use Rattle.session.specs.Promise.{CallPromise, KeepPromise, ReturnPromise}
 
 -- ── keep ──
@@ -30,9 +30,9 @@ keep-next : (s : Session) (k : ℕ) → sessionOf (keepSound s k .session) ≡ s
 unfolding step keepSound stored
 keep-next s k = elim (bool (leb k lastName)) [ inl e ↦ rw (e, kept-stored (s .names) k (s .nets)) refl | inr e ↦ rw e refl ]
 
-keep-keeps : (s : Session) (k : ℕ) → (keepAnswer (keepSound s k .answer) ≡ accepted → ⊥) → keepSound s k .session ≡ s
+keep-same : (s : Session) (k : ℕ) → (keepAnswer (keepSound s k .answer) ≡ accepted → ⊥) → keepSound s k .session ≡ s
 unfolding keepSound
-keep-keeps s k = elim (bool (leb k lastName)) [ inl e ↦ rw e (λ r. absurd (r refl)) | inr e ↦ rw e (λ r. refl) ]
+keep-same s k = elim (bool (leb k lastName)) [ inl e ↦ rw e (λ r. absurd (r refl)) | inr e ↦ rw e (λ r. refl) ]
 
 keep-call : (s : Session) (k : ℕ) → CallPromise s (keep k) (keepAnswer (keepOf s k .answer)) (keepOf s k .session)
 unfolding keepOf call
@@ -46,38 +46,38 @@ unfolding keepOf
 keep-promise s k r e = rw e (record {
   value = refl;
   call = keep-call s k;
-  kept = elim (bool (sound? (sessionOf s))) [ inl f ↦ rw f (keep-keeps s k) | inr f ↦ rw f (λ r. refl) ];
+  kept = elim (bool (sound? (sessionOf s))) [ inl f ↦ rw f (keep-same s k) | inr f ↦ rw f (λ r. refl) ];
 })
 
 -- ── return ──
-named-answer : (s : Session) (n : Layout) → returnAnswer (returnNamed s n .answer) ≡ returnStep (keptIn n) (sessionOf s) .answer
-named-answer s n = elim (bool (n .kept)) [ inl e ↦ rw e refl | inr e ↦ rw e refl ]
+layout-answer : (s : Session) (l : Layout) → returnAnswer (returnLayout s l .answer) ≡ returnStep (keptIn l) (sessionOf s) .answer
+layout-answer s l = elim (bool (l .kept)) [ inl e ↦ rw e refl | inr e ↦ rw e refl ]
 
-named-next : (s : Session) (n : Layout) → sessionOf (returnNamed s n .session) ≡ returnStep (keptIn n) (sessionOf s) .next
+layout-next : (s : Session) (l : Layout) → sessionOf (returnLayout s l .session) ≡ returnStep (keptIn l) (sessionOf s) .next
 unfolding returned pileOf changesOf
-named-next s n = elim (bool (n .kept)) [ inl e ↦ rw e refl | inr e ↦ rw e refl ]
+layout-next s l = elim (bool (l .kept)) [ inl e ↦ rw e refl | inr e ↦ rw e refl ]
 
-named-keeps : (s : Session) (n : Layout) → (returnAnswer (returnNamed s n .answer) ≡ accepted → ⊥) → returnNamed s n .session ≡ s
-named-keeps s n = elim (bool (n .kept)) [ inl e ↦ rw e (λ r. absurd (r refl)) | inr e ↦ rw e (λ r. refl) ]
+layout-same : (s : Session) (l : Layout) → (returnAnswer (returnLayout s l .answer) ≡ accepted → ⊥) → returnLayout s l .session ≡ s
+layout-same s l = elim (bool (l .kept)) [ inl e ↦ rw e (λ r. absurd (r refl)) | inr e ↦ rw e (λ r. refl) ]
 
 return-answer : (s : Session) (k : ℕ) → returnAnswer (returnSound s k .answer) ≡ step (sessionOf s) (returnTo k) .answer
 unfolding step returnSound
 return-answer s k = elim (bool (leb k lastName)) [
-  | inl e ↦ rw (e, kept-there (s .names) k) (named-answer s (getD (s .names) k noLayout))
+  | inl e ↦ rw (e, kept-there (s .names) k) (layout-answer s (getD (s .names) k noLayout))
   | inr e ↦ rw e refl
 ]
 
 return-next : (s : Session) (k : ℕ) → sessionOf (returnSound s k .session) ≡ step (sessionOf s) (returnTo k) .next
 unfolding step returnSound
 return-next s k = elim (bool (leb k lastName)) [
-  | inl e ↦ rw (e, kept-there (s .names) k) (named-next s (getD (s .names) k noLayout))
+  | inl e ↦ rw (e, kept-there (s .names) k) (layout-next s (getD (s .names) k noLayout))
   | inr e ↦ rw e refl
 ]
 
-return-keeps : (s : Session) (k : ℕ) → (returnAnswer (returnSound s k .answer) ≡ accepted → ⊥) → returnSound s k .session ≡ s
+return-same : (s : Session) (k : ℕ) → (returnAnswer (returnSound s k .answer) ≡ accepted → ⊥) → returnSound s k .session ≡ s
 unfolding returnSound
-return-keeps s k = elim (bool (leb k lastName)) [
-  | inl e ↦ rw e (named-keeps s (getD (s .names) k noLayout))
+return-same s k = elim (bool (leb k lastName)) [
+  | inl e ↦ rw e (layout-same s (getD (s .names) k noLayout))
   | inr e ↦ rw e (λ r. refl)
 ]
 
@@ -93,5 +93,5 @@ unfolding returnOf
 return-promise s k r e = rw e (record {
   value = refl;
   call = return-call s k;
-  kept = elim (bool (sound? (sessionOf s))) [ inl f ↦ rw f (return-keeps s k) | inr f ↦ rw f (λ r. refl) ];
+  kept = elim (bool (sound? (sessionOf s))) [ inl f ↦ rw f (return-same s k) | inr f ↦ rw f (λ r. refl) ];
 })

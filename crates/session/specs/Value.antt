@@ -81,14 +81,14 @@ keepSound s k = cond (leb k lastName)
     (record { answer = keep-is.Accepted; session = withNames s (set (s .names) k (keeping (s .nets))) })
     (record { answer = keep-is.NoName; session = s })
 
--- a return to this name
-abbrev pub returnNamed : Session → Layout → AfterReturn
-returnNamed s n = cond (n .kept)
-    (record { answer = return-is.Accepted; session = withPlaces s (n .nets) emptyPile })
+-- a return to this layout
+abbrev pub returnLayout : Session → Layout → AfterReturn
+returnLayout s l = cond (l .kept)
+    (record { answer = return-is.Accepted; session = withPlaces s (l .nets) emptyPile })
     (record { answer = return-is.NothingKept; session = s })
 
 unfoldable pub returnSound : Session → ℕ → AfterReturn
-returnSound s k = cond (leb k lastName) (returnNamed s (getD (s .names) k noLayout)) (record { answer = return-is.NoName; session = s })
+returnSound s k = cond (leb k lastName) (returnLayout s (getD (s .names) k noLayout)) (record { answer = return-is.NoName; session = s })
 
 -- ── "Every call that takes a session refuses an unsound one first, with 20." ──
 unfoldable pub addOf : Session → Net → AfterAdd

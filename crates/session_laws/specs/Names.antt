@@ -123,9 +123,9 @@ module _ (s : Session) (k : ℕ) where
   keep-accepted h l = call-step s (keep k) h ∙ rw (le-leb k lastName l) refl
 
   -- what no keep changes
-  keep-keeps : {A : Type 0} (f : Session → A) → f (stored k s) ≡ f s → f (call s (keep k) .next) ≡ f s
+  keep-leaves : {A : Type 0} (f : Session → A) → f (stored k s) ≡ f s → f (call s (keep k) .next) ≡ f s
   unfolding call step
-  keep-keeps f h = elim (bool (sound? s)) [
+  keep-leaves f h = elim (bool (sound? s)) [
     | inl e ↦ elim (bool (leb k lastName)) [ inl g ↦ rw (e, g) h | inr g ↦ rw (e, g) refl ]
     | inr e ↦ rw e refl
   ]
@@ -136,11 +136,11 @@ module _ (s : Session) (k : ℕ) where
     unsound = λ n. let e = unsound-call s (keep k) n in (rw e refl, rw e refl);
     no-name = λ h l. let e = keep-refused h l in (rw e refl, rw e refl);
     stores = λ h l. let e = keep-accepted h l in (rw e refl, rw e (keep-stores s k h l));
-    block = keep-keeps (λ (t : Session). t .block) refl;
-    nets = keep-keeps (λ (t : Session). t .nets) refl;
-    pile = keep-keeps (λ (t : Session). t .pile) refl;
-    others = λ j d. keep-keeps (λ (t : Session). keptUnder j t) (keep-other s k j (λ e. d (sym e)));
-    as-many = keep-keeps (λ (t : Session). length (t .names)) (length-set (s .names) k (some (s .nets)));
+    block = keep-leaves (λ (t : Session). t .block) refl;
+    nets = keep-leaves (λ (t : Session). t .nets) refl;
+    pile = keep-leaves (λ (t : Session). t .pile) refl;
+    others = λ j d. keep-leaves (λ (t : Session). keptUnder j t) (keep-other s k j (λ e. d (sym e)));
+    as-many = keep-leaves (λ (t : Session). length (t .names)) (length-set (s .names) k (some (s .nets)));
   }
 
   return-refused : Sound s → lastName < k → call s (returnTo k) ≡ refuse (refusal 35 0) s
@@ -152,9 +152,9 @@ module _ (s : Session) (k : ℕ) where
   return-named h l = call-step s (returnTo k) h ∙ rw (le-leb k lastName l) refl
 
   -- what no return changes
-  return-keeps : {A : Type 0} (f : Session → A) → ((x : Kept) → f (returnStep x s .next) ≡ f s) → f (call s (returnTo k) .next) ≡ f s
+  return-leaves : {A : Type 0} (f : Session → A) → ((x : Kept) → f (returnStep x s .next) ≡ f s) → f (call s (returnTo k) .next) ≡ f s
   unfolding call step
-  return-keeps f h = elim (bool (sound? s)) [
+  return-leaves f h = elim (bool (sound? s)) [
     | inl e ↦ elim (bool (leb k lastName)) [ inl g ↦ rw (e, g) (h (keptUnder k s)) | inr g ↦ rw (e, g) refl ]
     | inr e ↦ rw e refl
   ]
@@ -171,8 +171,8 @@ module _ (s : Session) (k : ℕ) where
     no-name = λ h l. let e = return-refused h l in (rw e refl, rw e refl);
     nothing-kept = λ h l x. let e = return-named h l in (rw (e, x) refl, rw (e, x) refl);
     brings = λ h l ns x. let e = return-named h l in (rw (e, x) refl, rw (e, x) refl, rw (e, x) refl);
-    block = return-keeps (λ (t : Session). t .block) return-block;
-    names = return-keeps (λ (t : Session). t .names) (λ x. return-same x s);
+    block = return-leaves (λ (t : Session). t .block) return-block;
+    names = return-leaves (λ (t : Session). t .names) (λ x. return-same x s);
   }
 
 -- ── kept, and returned to after other calls ──

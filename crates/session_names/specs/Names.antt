@@ -11,7 +11,7 @@ use Rattle.session_names.specs.declared.Layout.{Layout}
 
 -- what is kept under a name: nothing where the flag says so, whatever stands in the places
 abbrev pub keptIn : Layout → Kept
-keptIn n = cond (n .kept) (some (netsOf (n .nets))) none
+keptIn l = cond (l .kept) (some (netsOf (l .nets))) none
 
 -- the names as the list machine holds them
 abbrev pub keptOf : List Layout → List Kept

@@ -20,12 +20,12 @@ kept-stored (n ∷ ns) (suc k) ps = ap (λ (ks : List Kept). keptIn n ∷ ks) (k
 pub kept-there : (names : List Layout) (k : ℕ) → getD (keptOf names) k none ≡ keptIn (getD names k noLayout)
 kept-there names k = List·getD-map keptIn names k noLayout
 
--- ── the name of a number, as the code finds it ──
+-- ── what the name of a number holds, as the code finds it ──
 -- where there is one, what stands past the end plays no part
-pub name-in : (names : List Layout) (k : ℕ) (d : Layout) → k < length names → getD names k d ≡ getD names k noLayout
-name-in [] k d h = absurd (omega arith)
-name-in (n ∷ ns) zero d h = refl
-name-in (n ∷ ns) (suc k) d h = name-in ns k d (omega arith)
+pub layout-in : (names : List Layout) (k : ℕ) (d : Layout) → k < length names → getD names k d ≡ getD names k noLayout
+layout-in [] k d h = absurd (omega arith)
+layout-in (n ∷ ns) zero d h = refl
+layout-in (n ∷ ns) (suc k) d h = layout-in ns k d (omega arith)
 
-pub name-out : (names : List Layout) (k : ℕ) → length names ≤ k → noLayout ≡ getD names k noLayout
-name-out names k h = sym (List·getD-eq-default names noLayout {n = k} h)
+pub layout-out : (names : List Layout) (k : ℕ) → length names ≤ k → noLayout ≡ getD names k noLayout
+layout-out names k h = sym (List·getD-eq-default names noLayout {n = k} h)

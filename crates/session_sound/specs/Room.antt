@@ -1,5 +1,5 @@
 -- Definitions only: whether the nets of an array of places have room on a block, by how many terminals stand at each vertex; and the same of what is
--- kept under each name. Nothing is proved here: RoomLaws and NamesFine have the laws.
+-- kept under each name. Nothing is proved here: RoomLaws has the laws.
 use mathlib.Core.Bool.{Bool, true, false, not, cond, _&&_}
 use mathlib.Core.List.{List, [], _∷_}
 use Prim.Native.Nat.{ℕ, _+_, _*_}

@@ -1,18 +1,16 @@
 -- The nets of an array of places have room exactly where they could all be added to the bare board, on a board within the limits (`room-addable`);
--- an array that counts the terminals of all vertices tells it (`counted-room`); and how a loop over the places asks it.
+-- an array that counts the terminals of all vertices tells it (`counted-room`).
 -- Assumes nothing.
-use mathlib.Core.Path.{_≡_, refl, sym, _∙_}
+use mathlib.Core.Path.{_≡_, refl}
 use mathlib.Core.Bool.{Bool, true, not, _&&_}
 use mathlib.Core.List.{List, [], _∷_}
 use mathlib.Core.Logic.{_⊎_, inl, inr}
 use Prim.Native.Nat.{ℕ, suc, _+_, _≤_, _<_}
-use native.Mathlib.Numerals.{add-one}
 use native.Mathlib.Omega.{arith}
 use lib.Dec.{ltb}
-use lib.ListN.{length, getD, drop}
-use lib.Seq.{drop-cons, drop-length}
+use lib.ListN.{length}
 use borrow.Author.Tests.{lt-ltb, ltb-true, le-leb, leb-true, not-true}
-use Rattle.count.specs.TruthLaws.{bool, clash, bool-eq, and-true, and-yes, and-assoc}
+use Rattle.count.specs.TruthLaws.{bool, clash, bool-eq, and-true, and-yes}
 use Rattle.board.specs.Board.{Within}
 use Rattle.board.specs.Degree.{vertex?, pins}
 use Rattle.board.specs.Tests.{vertex-exact}
@@ -22,7 +20,7 @@ use Rattle.board_block.specs.Pins.{pins-below}
 use Rattle.board_convex.specs.Places.{vertex-in-row}
 use Rattle.net.specs.Terminals.{same, terminals}
 use Rattle.net.specs.Same.{same-exact}
-use Rattle.net.specs.View.{nothing, heldThen, pairsOf}
+use Rattle.net.specs.View.{heldThen, pairsOf}
 use Rattle.net.specs.declared.Pair.{Pair}
 use Rattle.net.specs.declared.Held.{Held}
 use Rattle.net.specs.declared.Held.the-variants.{Nothing, Ends}
@@ -34,7 +32,6 @@ use Rattle.session_laws.specs.Fine.{Good, AllGood, first-there, second-there}
 use Rattle.session_laws.specs.Addable.{fine-of, fine-addable}
 use Rattle.net_places.specs.Places.{net, heldNet, netsFrom, netsOf}
 use Rattle.net_places.specs.NetsLaws.{pairs-of, rising-of}
-use Rattle.session_sound.specs.Reverse.{and-none}
 use Rattle.session_sound.specs.Room.{countedAt, roomAt, heldRoom, placesRoom, roomy}
 
 -- ── pins are at vertices alone ──
@@ -183,14 +180,3 @@ room-addable b nets W l =
     }))
     (λ e. let f = fine-of b (netsOf nets) up e in
     all-has b W all (λ v. rw (← pairs-of nets) (f .room v)) 1 nets (f .good))
-
--- ── a loop over the places ──
-module _ (b : Block) (here : Vertex → ℕ) (nets : List Place) where
-  pub room-next : (i : ℕ) (ok has was : Bool) → i < length nets → has ≡ heldRoom b here (getD nets i nothing .held)
-      → ok && placesRoom b here (drop i nets) ≡ was → (ok && has) && placesRoom b here (drop (i + 1) nets) ≡ was
-  unfolding placesRoom
-  room-next i ok has was h e inv = rw (e, and-assoc, add-one i) (rw (drop-cons nets i nothing h) at inv)
-
-  pub room-last : (ok was : Bool) → ok && placesRoom b here (drop (length nets) nets) ≡ was → ok ≡ was
-  unfolding placesRoom
-  room-last ok was inv = sym (and-none ok) ∙ (rw (drop-length nets) at inv)

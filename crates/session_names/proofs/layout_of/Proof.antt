@@ -2,7 +2,7 @@
 use native.Mathlib.Omega.{arith}
 use mathlib.Core.Path.{_≡_, _∙_}
 use lib.ListN.{length}
-use Rattle.session_names.specs.NamesLaws.{name-in, name-out}
+use Rattle.session_names.specs.NamesLaws.{layout-in, layout-out}
 use borrow.Author.Needs.{needs}
 use Rattle.session_names.proofs.layout_of.Statement.{statement}
 use Rattle.session_names.proofs.layout_of.Tie as tie
@@ -29,14 +29,14 @@ returns c =
     let args = at-wide .before .args in
     let same = at-wide .wide .ensures .0 in
     let eight : length (args .t1) ≡ 8 = search needs in
-    rw (← same) (name-in (args .t1) (at-wide .wide .result) _ (omega arith))
+    rw (← same) (layout-in (args .t1) (at-wide .wide .result) _ (omega arith))
 
 returns-2 : tie.Need-returns-2
 returns-2 c =
     let at-wide = c .before .before in
     let args = at-wide .before .args in
     let eight : length (args .t1) ≡ 8 = search needs in
-    c .no-layout .ensures ∙ name-out (args .t1) (args .number) (omega (arith, at-wide .wide .ensures .0))
+    c .no-layout .ensures ∙ layout-out (args .t1) (args .number) (omega (arith, at-wide .wide .ensures .0))
 
 pub layout-of-spec : {M : Type 1} → statement M
 layout-of-spec =

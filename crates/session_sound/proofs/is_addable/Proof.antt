@@ -3,14 +3,18 @@
 use borrow.Author.Needs.{needs}
 use native.Mathlib.Omega.{arith}
 use mathlib.Core.Path.{_≡_, refl, _∙_}
-use mathlib.Core.Bool.{_&&_}
+use mathlib.Core.Bool.{Bool, _&&_}
+use mathlib.Core.List.{List}
 use Prim.Native.Nat.{_-_, _≤_}
 use lib.ListN.{length, getD, drop}
+use Rattle.board_block.specs.Block.{Block}
 use Rattle.board_block.specs.View.{blockOf}
 use Rattle.net.specs.Terminals.{terminals}
 use Rattle.net.specs.View.{nothing, pairsOf}
-use Rattle.session_sound.specs.Room.{placesRoom, roomy}
-use Rattle.session_sound.specs.RoomLaws.{counted-room, room-next, room-last}
+use Rattle.net.specs.declared.Place.{Place}
+use Rattle.session_sound.specs.Room.{heldRoom, placesRoom, roomy}
+use Rattle.session_sound.specs.Every.{every-next, every-last}
+use Rattle.session_sound.specs.RoomLaws.{counted-room}
 use Rattle.session_sound.proofs.is_addable.Statement.{statement}
 use Rattle.session_sound.proofs.is_addable.Tie as tie
 use Rattle.session_sound.proofs.is_addable.Reads as reads
@@ -46,7 +50,12 @@ add-i c = search needs
 loop-less : tie.Need-loop-less Inv-loop μ-loop
 loop-less c = search needs
 
+-- DEFINITION: what is asked of a place
+abbrev hasRoom : Block → List Place → Place → Bool
+hasRoom b nets p = heldRoom b (terminals (pairsOf nets)) (p .held)
+
 loop-again : tie.Need-loop-again Inv-loop μ-loop
+unfolding placesRoom
 loop-again c =
     let at4 = c .before .before .before .before in
     let at = at4 .loop in
@@ -55,15 +64,22 @@ loop-again c =
     let b = blockOf (args .b) in
     let nets = args .t2 in
     let has = c .has-room .ensures ∙ counted-room b (pairsOf nets) _ (counted .count-terminals .ensures) (getD nets (at .i) nothing .held) in
-    (omega arith, at .inv .1, room-next b (terminals (pairsOf nets)) nets (at .i) (at .ok) (c .has-room .result) _ (omega arith) has (at .inv .2))
+    let all = placesRoom b (terminals (pairsOf nets)) in (
+      omega arith,
+      at .inv .1,
+      every-next all (hasRoom b nets) (λ p ps. refl) nets (at .i) nothing (at .ok) (c .has-room .result) _ (omega arith) has (at .inv .2),
+    )
 
 returns : tie.Need-returns Inv-loop μ-loop
+unfolding placesRoom
 returns c =
     let at = c .before .loop in
     let args = c .before .before .before .args in
     let nets = args .t2 in
     let last : at .i ≡ length nets = omega arith in
-    (room-last (blockOf (args .b)) (terminals (pairsOf nets)) nets (at .ok) _ (rw last at (at .inv .2)), at .inv .1)
+    let b = blockOf (args .b) in
+    let all = placesRoom b (terminals (pairsOf nets)) in
+    (every-last all (hasRoom b nets) (λ p ps. refl) nets refl (at .ok) _ (rw last at (at .inv .2)), at .inv .1)
 
 pub is-addable-spec : {M : Type 1} → statement M
 is-addable-spec =
