@@ -1,6 +1,7 @@
 //! Seeded inputs: boards true and damaged, and lists of routing words true and damaged.
 
 use crate::independent::*;
+use std::collections::{HashSet, VecDeque};
 
 /// splitmix64.
 pub struct Random(u64);
@@ -54,7 +55,7 @@ pub fn convex_rows(random: &mut Random, most_rows: usize, most_width: usize) -> 
     let width = 1 + random.below(most_width);
     let left = random.below(32 - width);
     let count = 1 + random.below(most_rows);
-    let (mut span, mut rows) = ((left, left + width), std::collections::VecDeque::new());
+    let (mut span, mut rows) = ((left, left + width), VecDeque::new());
     let steep = random.pick(&[2, 4, 1000]);
     for _ in 0..count {
         if random.one_in(2) {
@@ -78,7 +79,7 @@ pub fn stepped_rows(random: &mut Random, most_rows: usize, most_width: usize) ->
     let width = 1 + random.below(most_width);
     let left = random.below(32 - width);
     let mut span = (left, left + width);
-    let mut rows = std::collections::VecDeque::from([span]);
+    let mut rows = VecDeque::from([span]);
     let (count, steep) = (1 + random.below(most_rows), random.pick(&[1, 2, 3]));
     while rows.len() < count {
         if random.one_in(steep) {
@@ -451,7 +452,7 @@ pub fn edge_of(v: Vertex, direction: usize) -> (Vertex, usize) {
 
 /// Random trails, each from its net's first terminal to its second along free edges; they may pass a vertex twice. None where one gets stuck.
 pub fn trails(random: &mut Random, board: &Board) -> Option<Vec<Vec<usize>>> {
-    let mut used = std::collections::HashSet::new();
+    let mut used = HashSet::new();
     let mut paths = Vec::new();
     for net in &board.nets {
         let (mut at, mut path) = (net.first, Vec::new());
@@ -483,6 +484,61 @@ pub fn trails(random: &mut Random, board: &Board) -> Option<Vec<Vec<usize>>> {
         paths.push(path);
     }
     Some(paths)
+}
+
+/// The paths with a loop laid on one of them along free edges, so that it turns twice at the vertex where the loop begins and ends.
+/// None where there is no room for one.
+pub fn touching(random: &mut Random, board: &Board, paths: &[Vec<usize>]) -> Option<Vec<Vec<usize>>> {
+    let (mut used, mut inner) = (HashSet::new(), Vec::new());
+    for (index, (net, path)) in board.nets.iter().zip(paths).enumerate() {
+        let mut at = net.first;
+        for (steps, &direction) in path.iter().enumerate() {
+            if steps > 0 {
+                inner.push((index, steps, at));
+            }
+            used.insert(edge_of(at, direction));
+            at = step(at, direction);
+        }
+    }
+    random.shuffle(&mut inner);
+    let mut loop_there = |(index, steps, at): (usize, usize, Vertex)| {
+        let around = [paths[index][steps - 1], paths[index][steps]];
+        touching_loop(random, board, &used, at, around).map(|more| (index, steps, more))
+    };
+    let (index, steps, more) = inner.into_iter().find_map(&mut loop_there)?;
+    let mut touching = paths.to_vec();
+    touching[index].splice(steps..steps, more);
+    Some(touching)
+}
+
+/// A loop from a vertex to itself along free edges, for a path that comes and leaves in these two directions: it turns into the loop and out of it.
+fn touching_loop(random: &mut Random, board: &Board, used: &HashSet<(Vertex, usize)>, at: Vertex, [comes, leaves]: [usize; 2]) -> Option<Vec<usize>> {
+    let open: Vec<usize> = (0..4).filter(|&d| board.edge(at, d) && !used.contains(&edge_of(at, d))).collect();
+    let [one, two] = open[..] else { return None };
+    let both = if random.one_in(2) { [(one, two), (two, one)] } else { [(two, one), (one, two)] };
+    let (out, back) = both.into_iter().find(|&(out, back)| out % 2 != comes % 2 && back % 2 != leaves % 2)?;
+    let mut taken = used.clone();
+    taken.extend([edge_of(at, out), edge_of(at, back)]);
+    let between = free_steps(random, board, &taken, step(at, out), step(at, back))?;
+    Some([vec![out], between, vec![(back + 2) % 4]].concat())
+}
+
+/// As few steps as can be from one vertex to another along edges not taken. None where no such steps lead there.
+fn free_steps(random: &mut Random, board: &Board, taken: &HashSet<(Vertex, usize)>, from: Vertex, to: Vertex) -> Option<Vec<usize>> {
+    let (mut seen, mut front) = (HashSet::from([from]), VecDeque::from([(from, Vec::new())]));
+    while let Some((at, steps)) = front.pop_front() {
+        if at == to {
+            return Some(steps);
+        }
+        let mut open: Vec<usize> = (0..4).filter(|&d| board.edge(at, d) && !taken.contains(&edge_of(at, d))).collect();
+        random.shuffle(&mut open);
+        for direction in open {
+            if seen.insert(step(at, direction)) {
+                front.push_back((step(at, direction), [&steps[..], &[direction]].concat()));
+            }
+        }
+    }
+    None
 }
 
 pub const LIST_KINDS: [&str; 19] = [

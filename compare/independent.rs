@@ -520,7 +520,12 @@ pub fn steps_of(words: &[u32]) -> Vec<Vec<usize>> {
 pub struct Report {
     pub edges: u32,
     pub turns: u32,
+    /// Vertices where two turns occur, whether of two paths or of one.
     pub knock_knees: u32,
+    /// Those of them where one net turns twice.
+    pub turned_twice: u32,
+    /// The greatest number of turns at a vertex.
+    pub most_turns: u32,
 }
 
 /// Indices of a path word and of the word after its last run.
@@ -586,7 +591,7 @@ fn shape(board: &Board, words: &[u32]) -> Result<Vec<Part>, Refusal> {
 fn walk(board: &Board, words: &[u32], parts: &[Part], each: &mut dyn FnMut(&Net, Edge)) -> Result<Report, Refusal> {
     let mut used = [[[false; 2]; 32]; 32];
     let mut turning: Vec<(Vertex, u32)> = Vec::new();
-    let mut report = Report { edges: 0, turns: 0, knock_knees: 0 };
+    let mut report = Report { edges: 0, turns: 0, knock_knees: 0, turned_twice: 0, most_turns: 0 };
     for (net, part) in board.nets.iter().zip(parts) {
         let mut at = net.first;
         for index in part.path + 1..part.end {
@@ -616,17 +621,18 @@ fn walk(board: &Board, words: &[u32], parts: &[Part], each: &mut dyn FnMut(&Net,
             return refuse(46, part.path);
         }
     }
-    report.knock_knees = knock_knees(turning);
+    knock_knees(&mut report, turning);
     Ok(report)
 }
 
-/// The count of vertices where two different nets each turn.
-fn knock_knees(mut turning: Vec<(Vertex, u32)>) -> u32 {
+/// What occurs at the vertices where paths turn; each turn is given by its vertex and its net.
+fn knock_knees(report: &mut Report, mut turning: Vec<(Vertex, u32)>) {
     turning.sort();
-    turning.dedup();
-    let mut vertices: Vec<Vertex> = turning.windows(2).filter(|w| w[0].0 == w[1].0).map(|w| w[0].0).collect();
-    vertices.dedup();
-    vertices.len() as u32
+    for turns in turning.chunk_by(|a, b| a.0 == b.0) {
+        report.knock_knees += (turns.len() > 1) as u32;
+        report.turned_twice += turns.windows(2).any(|w| w[0] == w[1]) as u32;
+        report.most_turns = report.most_turns.max(turns.len() as u32);
+    }
 }
 
 // ---------------------------------------------------------------- two routings

@@ -34,6 +34,8 @@ const CASES_F: u64 = 6_000;
 const OTHER_LIST: [u32; 5] = [0x40100001, 0x54000001, 0x40200001, 0x58000001, 0xE0000002];
 /// Bytes before and after a buffer that must stay as they are.
 const GUARD: usize = 16;
+const LOOPS: &str = "list with loops laid on";
+const TURNED_TWICE: &str = "lists with a vertex where one net turns twice";
 
 /// The refusals that reading, routing and judging of bytes can give. 22 is not among them: a number that is on the board
 /// already is not above the last one, and gets 13 before any net is added.
@@ -54,7 +56,11 @@ struct Run {
     most_nets: usize,
     large: u64,
     full_cuts: u64,
+    passed: u64,
     knock_knees: u64,
+    /// Lists that passed with a vertex where one net turns twice, and the count of these vertices.
+    lists_turned_twice: u64,
+    turned_twice: u64,
 }
 
 impl Run {
@@ -79,6 +85,17 @@ impl Run {
         self.most_nets = self.most_nets.max(b.nets.len());
         self.large += (b.rows.len() >= 16 && b.nets.len() >= 16 && b.rows.iter().any(|row| row != &b.rows[0])) as u64;
         self.full_cuts += b.cuts().iter().any(|&cut| b.cut_edges(cut) > 0 && b.margin(cut) == 0) as u64;
+    }
+
+    /// Counts what a list that passes has. That no vertex has more than two turns is seen here, not taken for granted.
+    fn count_passed(&mut self, report: &Report, board: &[u8], list: &[u8]) {
+        if report.most_turns > 2 {
+            self.difference(&format!("both judges pass a list with {} turns at one vertex", report.most_turns), board, list);
+        }
+        self.passed += 1;
+        self.knock_knees += report.knock_knees as u64;
+        self.lists_turned_twice += (report.turned_twice > 0) as u64;
+        self.turned_twice += report.turned_twice as u64;
     }
 
     /// How often this refusal was due.
@@ -173,7 +190,7 @@ impl Run {
             self.count_refused(refusal);
         }
         let report = expected.ok()?;
-        self.knock_knees += report.knock_knees as u64;
+        self.count_passed(&report, board, list);
         Some(report)
     }
 
@@ -252,6 +269,9 @@ impl Run {
         if words.is_none() {
             words = self.route_and_judge(&mut random, &bytes, 8196).map(|list| words_of(&list).unwrap());
         }
+        if random.one_in(3) {
+            words = words.map(|list| self.with_loops(&mut random, &board, list));
+        }
         let words = words.unwrap_or_else(|| {
             // No routing: straight runs that need not be on the board.
             let paths: Vec<Vec<usize>> = board.nets.iter().map(toward).collect();
@@ -272,6 +292,26 @@ impl Run {
             self.count("list for a damaged board");
             self.judge(&damaged, &list);
         }
+    }
+
+    /// A list with up to three loops laid on, each at a vertex where its net then turns twice; the list as it is where there is no room.
+    fn with_loops(&mut self, random: &mut Random, board: &Board, words: Vec<u32>) -> Vec<u32> {
+        let (mut paths, mut loops) = (steps_of(&words), 0);
+        for _ in 0..1 + random.below(3) {
+            let Some(touching) = touching(random, board, &paths) else { break };
+            (paths, loops) = (touching, loops + 1);
+        }
+        if loops == 0 {
+            return words;
+        }
+        self.count(LOOPS);
+        let words = routing_words(board, &paths);
+        let (bytes, list) = (bytes_of(&board.words()), bytes_of(&words));
+        let twice = self.judge(&bytes, &list).map(|report| report.turned_twice);
+        if twice.is_none_or(|twice| twice < loops) {
+            self.difference(&format!("{loops} loops are laid on, but vertices where one net turns twice: {twice:?}"), &bytes, &list);
+        }
+        words
     }
 
     /// A random even board of up to 5 by 5 cells.
@@ -537,7 +577,7 @@ fn print_small(what: &str, found: &Found, start: Instant) {
 
 /// Every kind of input.
 fn kinds() -> impl Iterator<Item = &'static str> {
-    let others = ["33 for a row", "33 for a column", "routing from random trails", "list for a damaged board"];
+    let others = ["33 for a row", "33 for a column", "routing from random trails", LOOPS, "list for a damaged board"];
     BOARD_KINDS.into_iter().chain(LIST_KINDS).chain(others)
 }
 
@@ -552,7 +592,8 @@ fn reached(run: &Run) -> Vec<(String, u64, u64)> {
         ("nets on a board that is routed", run.most_nets as u64, 64),
         ("words of the longest routing", run.most_words as u64, 350),
         ("lists judged", run.judged, 200_000),
-        ("knock-knees", run.knock_knees, 150_000),
+        ("knock-knees", run.knock_knees, 240_000),
+        (TURNED_TWICE, run.lists_turned_twice, 9_500),
     ];
     let mut all: Vec<(String, u64, u64)> = reached.map(|(what, seen, least)| (what.to_string(), seen, least)).into();
     all.extend(kinds().map(|kind| (format!("inputs of the kind \"{kind}\""), run.counted(kind), 1_000)));
@@ -579,8 +620,17 @@ fn print_run(run: &Run) {
     println!("{} routings handed back, at most {} nets and {} words", run.routed, run.most_nets, run.most_words);
     println!("of them {} with a full cut, {} on uneven boards with 16 rows and 16 nets or more", run.full_cuts, run.large);
     println!("{} knock-knees in the lists that passed", run.knock_knees);
+    print_turned_twice("parts a and b", &[run]);
     REFUSALS.iter().for_each(|&number| println!("refusal {number}: {}", run.refused(number)));
     println!("refusal 22: {} (13 comes before it)", run.refused(22));
+}
+
+/// How many lists have a vertex where one net turns twice. A list with a vertex of more turns has ended the run.
+fn print_turned_twice(parts: &str, runs: &[&Run]) {
+    let sum = |count: &dyn Fn(&Run) -> u64| runs.iter().map(|run| count(run)).sum::<u64>();
+    let (passed, lists, vertices) = (sum(&|run| run.passed), sum(&|run| run.lists_turned_twice), sum(&|run| run.turned_twice));
+    println!("{parts}: {lists} of the {passed} lists that passed have a vertex where one net turns twice, {vertices} such vertices in all;");
+    println!("no list that passed has a vertex with more than two turns");
 }
 
 /// Parts c, d and f: small boards through the exhaustive router.
@@ -607,12 +657,13 @@ fn whole(run: &mut Run) {
     println!("part b: {CASES_B} boards, each with 3 lists or more; {:.1} s", start.elapsed().as_secs_f64());
     print_run(run);
     end_if_short("parts a and b reach", reached(run));
-    pairs::whole(run.seed);
+    let compared = pairs::whole(run.seed);
     let Ok(other) = small.join() else {
         println!("FAILED: the small boards were broken off");
         std::process::exit(1);
     };
     odd::print_34([run, &other]);
+    print_turned_twice("all parts", &[run, &compared, &other]);
     println!("no difference");
 }
 

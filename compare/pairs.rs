@@ -1,8 +1,8 @@
-//! Part e: pairs of lists, true and damaged, through the comparison of two routings.
+//! Part e: pairs of lists, true and damaged, through the comparison of two routings. The true ones are judged as well.
 
 use crate::generate::*;
 use crate::independent::*;
-use crate::{end_if_short, Run, CASES_E, OTHER_LIST};
+use crate::{end_if_short, Run, CASES_E, OTHER_LIST, TURNED_TWICE};
 use std::collections::{HashMap, HashSet};
 use std::time::Instant;
 
@@ -226,6 +226,8 @@ impl Run {
         for (kind, made_for) in TRUE_PAIRS {
             let Some(other) = other_paths(&mut random, kind, &board, &paths) else { continue };
             let mut lists = [bytes_of(&words), bytes_of(&routing_words(&board, &other))];
+            // The first pair's is the first list itself.
+            self.judge(&bytes, &lists[1]);
             if random.one_in(2) {
                 lists.swap(0, 1);
             }
@@ -340,15 +342,18 @@ fn reached(run: &Run) -> Vec<(String, u64, u64)> {
     LISTS.iter().for_each(|list| due.extend(STATES.map(|state| (state_of(list, state), 5_000))));
     due.extend(DUE.map(|(what, least)| (what.to_string(), least)));
     LISTS.iter().for_each(|list| due.extend([10, 41, 42, 43, 44, 45, 46].map(|number| (refused_by(list, number), 500))));
-    due.into_iter().map(|(what, least)| (what.clone(), run.counted(&what), least)).collect()
+    let mut reached: Vec<_> = due.into_iter().map(|(what, least)| (what.clone(), run.counted(&what), least)).collect();
+    reached.push((TURNED_TWICE.to_string(), run.lists_turned_twice, 4_300));
+    reached
 }
 
-/// All cases, and what they reached.
-pub fn whole(seed: u64) {
+/// All cases, and what they reached. Answers with the run.
+pub fn whole(seed: u64) -> Run {
     let (mut run, start) = (Run { seed, ..Run::default() }, Instant::now());
     (0..CASES_E).for_each(|case| run.part_e(case));
     println!("part e: {CASES_E} boards, {} pairs of lists; {:.1} s", run.pairs, start.elapsed().as_secs_f64());
     let reached = reached(&run);
     reached.iter().for_each(|(what, seen, _)| println!("{seen:8} {what}"));
     end_if_short("part e reaches", reached);
+    run
 }

@@ -1,6 +1,6 @@
-//! The independent side tried on its own: the ring and the boards a to i of the requirements, pairs of routings whose answer is known,
-//! the three readings of convexity against each other, the exhaustive router on boards whose answer is known, odd vertices and their pairings,
-//! and the revised cut test on boards worked out by hand and against other ways to work it out.
+//! The independent side tried on its own: the ring and the boards a to i of the requirements, reports by hand and against another way to work
+//! them out, pairs of routings whose answer is known, the three readings of convexity against each other, the exhaustive router on boards whose
+//! answer is known, odd vertices and their pairings, and the revised cut test on boards worked out by hand and against other ways to work it out.
 
 mod exhaustive;
 #[allow(dead_code)]
@@ -8,7 +8,7 @@ mod generate;
 mod independent;
 
 use exhaustive::{route, Answer};
-use generate::{convex_rows, mirrored, odd_nets, stepped_rows, turned, Care, Random};
+use generate::{convex_rows, mirrored, odd_nets, stepped_rows, touching, trails, true_board, turned, Care, Random};
 use independent::*;
 use std::collections::BTreeMap;
 
@@ -30,6 +30,11 @@ fn refused(number: u32, place: u32) -> Refusal {
     Refusal { number, place: [place, 0] }
 }
 
+/// Edges, turns and knock-knees; the vertices where one net turns twice, and the most turns at a vertex.
+fn report([edges, turns, knock_knees]: [u32; 3], turned_twice: u32, most_turns: u32) -> Report {
+    Report { edges, turns, knock_knees, turned_twice, most_turns }
+}
+
 fn routes(board: &Board) -> bool {
     match route(board, u64::MAX) {
         Answer::Paths(paths) => {
@@ -47,7 +52,7 @@ fn ring_and_boards() {
     // a
     let a = read(&bytes_of(&RING)).unwrap();
     assert_eq!(a.words(), RING);
-    assert_eq!(judge(&a, &bytes_of(&RING_ROUTED)), Ok(Report { edges: 4, turns: 0, knock_knees: 0 }));
+    assert_eq!(judge(&a, &bytes_of(&RING_ROUTED)), Ok(report([4, 0, 0], 0, 0)));
     assert_eq!(route_refused(&a, 8196), None);
     assert_eq!(route_refused(&a, 8195), Some(refused(31, 0)));
     let steps = [vec![RIGHT], vec![DOWN], vec![LEFT], vec![UP]];
@@ -81,7 +86,111 @@ fn ring_and_boards() {
     // i
     let i = with_nets(&[(0, 2), (0, 2)], &[(1, (0, 1), (1, 0)), (2, (1, 2), (2, 1))]);
     let crossing = routing_words(&i, &[vec![DOWN, LEFT], vec![LEFT, DOWN]]);
-    assert_eq!(judge(&i, &bytes_of(&crossing)), Ok(Report { edges: 4, turns: 2, knock_knees: 1 }));
+    assert_eq!(judge(&i, &bytes_of(&crossing)), Ok(report([4, 2, 1], 0, 2)));
+}
+
+type Ends = (u32, Vertex, Vertex);
+
+/// What the judge says of these paths for these nets.
+fn judged(rows: &[(usize, usize)], nets: &[Ends], paths: &[&[usize]]) -> Result<Report, Refusal> {
+    let board = with_nets(rows, nets);
+    let paths: Vec<Vec<usize>> = paths.iter().map(|path| path.to_vec()).collect();
+    judge(&board, &bytes_of(&routing_words(&board, &paths)))
+}
+
+/// Turns of one net on the board of i and on three rows of three cells.
+fn turns_of_one_net() {
+    let (two, three) = ([(0, 2); 2], [(0, 3); 3]);
+    let (right, left) = ([(1, (0, 1), (1, 2))], [(1, (0, 1), (1, 0))]);
+    // Twice at (1, 1), which takes its edges upward and to the left together or upward and to the right.
+    assert_eq!(judged(&two, &right, &[&[DOWN, LEFT, DOWN, RIGHT, UP, RIGHT]]), Ok(report([6, 5, 1], 1, 2)));
+    assert_eq!(judged(&two, &left, &[&[DOWN, RIGHT, DOWN, LEFT, UP, LEFT]]), Ok(report([6, 5, 1], 1, 2)));
+    // Twice at (1, 1) and at (2, 2).
+    let back = [DOWN, RIGHT, DOWN, RIGHT, DOWN, LEFT, UP, LEFT, UP, LEFT];
+    assert_eq!(judged(&three, &left, &[&back]), Ok(report([10, 9, 2], 2, 2)));
+    // Once at each vertex, or at none.
+    assert_eq!(judged(&two, &[(1, (0, 0), (2, 2))], &[&[RIGHT, DOWN, RIGHT, DOWN]]), Ok(report([4, 3, 0], 0, 1)));
+    assert_eq!(judged(&two, &[(1, (0, 1), (2, 1))], &[&[DOWN, DOWN]]), Ok(report([2, 0, 0], 0, 0)));
+    // Twice through (1, 1), straight on both times.
+    assert_eq!(judged(&two, &right, &[&[DOWN, DOWN, LEFT, UP, RIGHT, RIGHT]]), Ok(report([6, 3, 0], 0, 1)));
+    // Twice at (0, 1), which is a terminal: a turn there and an end, straight on and an end, a start and a turn, a start and straight on.
+    let (to, from) = ([(1, (0, 0), (0, 1))], [(1, (0, 1), (0, 0))]);
+    assert_eq!(judged(&[(0, 2)], &to, &[&[RIGHT, DOWN, RIGHT, UP, LEFT]]), Ok(report([5, 4, 0], 0, 1)));
+    assert_eq!(judged(&[(0, 2)], &to, &[&[RIGHT, RIGHT, DOWN, LEFT, UP]]), Ok(report([5, 3, 0], 0, 1)));
+    assert_eq!(judged(&[(0, 2)], &from, &[&[RIGHT, DOWN, LEFT, UP, LEFT]]), Ok(report([5, 4, 0], 0, 1)));
+    assert_eq!(judged(&[(0, 2)], &from, &[&[DOWN, RIGHT, UP, LEFT, LEFT]]), Ok(report([5, 3, 0], 0, 1)));
+    // Straight on through (1, 1) and then a turn there: one edge is used again.
+    assert_eq!(judged(&two, &right, &[&[DOWN, DOWN, LEFT, UP, RIGHT, UP]]), Err(refused(45, 5)));
+}
+
+/// Turns of two nets on the same boards.
+fn turns_of_two_nets() {
+    let (two, three) = ([(0, 2); 2], [(0, 3); 3]);
+    // Both at (1, 1), as on board i and the other way.
+    let other_way = [(1, (0, 1), (1, 2)), (2, (1, 0), (2, 1))];
+    assert_eq!(judged(&two, &other_way, &[&[DOWN, RIGHT], &[RIGHT, DOWN]]), Ok(report([4, 2, 1], 0, 2)));
+    // Both at (1, 1) and at (2, 2).
+    let stairs = [(1, (1, 0), (3, 2)), (2, (0, 1), (2, 3))];
+    assert_eq!(judged(&three, &stairs, &[&[RIGHT, DOWN, RIGHT, DOWN], &[DOWN, RIGHT, DOWN, RIGHT]]), Ok(report([8, 6, 2], 0, 2)));
+    // Net 1 twice at (1, 1), both at (1, 2).
+    let mixed = [(1, (0, 1), (3, 2)), (2, (0, 2), (1, 3))];
+    assert_eq!(judged(&three, &mixed, &[&[DOWN, LEFT, DOWN, RIGHT, UP, RIGHT, DOWN, DOWN], &[DOWN, RIGHT]]), Ok(report([10, 7, 2], 1, 2)));
+    // Both straight on through (1, 1).
+    assert_eq!(judged(&two, &[(1, (0, 1), (2, 1)), (2, (1, 0), (1, 2))], &[&[DOWN, DOWN], &[RIGHT, RIGHT]]), Ok(report([4, 0, 0], 0, 0)));
+    // Net 1 turns at (0, 1), where net 2 starts.
+    assert_eq!(judged(&two, &[(1, (0, 0), (1, 0)), (2, (0, 1), (1, 2))], &[&[RIGHT, DOWN, LEFT], &[RIGHT, DOWN]]), Ok(report([5, 3, 0], 0, 1)));
+    // Net 1 turns at (1, 1), and net 2 goes straight on: along the line or along the column, one edge is used again.
+    let along_line = [(1, (0, 1), (1, 0)), (2, (1, 2), (2, 0))];
+    assert_eq!(judged(&two, &along_line, &[&[DOWN, LEFT], &[LEFT, LEFT, DOWN]]), Err(refused(45, 4)));
+    let along_column = [(1, (0, 1), (1, 0)), (2, (2, 1), (0, 2))];
+    assert_eq!(judged(&two, &along_column, &[&[DOWN, LEFT], &[UP, UP, RIGHT]]), Err(refused(45, 4)));
+}
+
+/// For each vertex the nets of the turns there: a step along a line and one along a column, one after the other.
+fn turns_by_steps(board: &Board, paths: &[Vec<usize>]) -> BTreeMap<Vertex, Vec<u32>> {
+    let mut turns: BTreeMap<Vertex, Vec<u32>> = BTreeMap::new();
+    for (net, path) in board.nets.iter().zip(paths) {
+        let mut at = net.first;
+        for two in path.windows(2) {
+            at = step(at, two[0]);
+            if two[0] % 2 != two[1] % 2 {
+                turns.entry(at).or_default().push(net.number);
+            }
+        }
+    }
+    turns
+}
+
+/// The report step by step.
+fn report_by_steps(board: &Board, paths: &[Vec<usize>]) -> Report {
+    let turns = turns_by_steps(board, paths);
+    let counts: Vec<u32> = turns.values().map(|nets| nets.len() as u32).collect();
+    let two = counts.iter().filter(|&&count| count == 2).count() as u32;
+    let of_one = turns.values().filter(|nets| nets.len() == 2 && nets[0] == nets[1]).count() as u32;
+    let edges = paths.iter().map(|path| path.len() as u32).sum();
+    report([edges, counts.iter().sum(), two], of_one, counts.iter().copied().max().unwrap_or(0))
+}
+
+/// Reports on random trails, some with a loop laid on. Answers with how many lists were judged, and how many of them have a vertex where one net
+/// turns twice.
+fn reports_on_trails() -> (usize, usize) {
+    let (mut lists, mut twice) = (0, 0);
+    for case in 0..6_000 {
+        let mut random = Random::of_case(7, 'k', case);
+        let size = random.pick(&[2, 4, 6]);
+        let board = true_board(&mut random, (size, size));
+        let Some(mut paths) = trails(&mut random, &board) else { continue };
+        if random.one_in(2) {
+            paths = touching(&mut random, &board, &paths).unwrap_or(paths);
+        }
+        let due = report_by_steps(&board, &paths);
+        assert!(due.most_turns <= 2);
+        assert_eq!(judge(&board, &bytes_of(&routing_words(&board, &paths))), Ok(due));
+        lists += 1;
+        twice += (due.turned_twice > 0) as usize;
+    }
+    assert!(lists > 1_000 && twice > 100, "{lists} {twice}");
+    (lists, twice)
 }
 
 /// Lists one word away from the ring's, with the refusal that the table gives.
@@ -382,6 +491,9 @@ fn convexity() -> usize {
 
 fn main() {
     ring_and_boards();
+    turns_of_one_net();
+    turns_of_two_nets();
+    let (lists, twice) = reports_on_trails();
     refusals();
     pairs();
     refusals_of_pairs();
@@ -391,6 +503,7 @@ fn main() {
     revised_cuts();
     let odd = odd_boards();
     let boards = convexity();
-    println!("self test: the ring, boards a to i, the refusals, pairs of routings; odd vertices, pairings and the revised cut test by hand");
-    println!("and on {odd} boards; convexity on {boards} boards three ways: passed");
+    println!("self test: the ring, boards a to i, the refusals, pairs of routings; reports by hand and on {lists} lists, {twice} of them");
+    println!("with a vertex where one net turns twice; odd vertices, pairings and the revised cut test by hand and on {odd} boards;");
+    println!("convexity on {boards} boards three ways: passed");
 }

@@ -456,7 +456,7 @@ fn with_routings_judged(output: &str, routed: &[Board]) -> String {
         if ends || word_of(line).is_none() && !words.is_empty() {
             let list = bytes_of(&std::mem::take(&mut words));
             text += &match boards.next().map(|board| judge(board, &list)) {
-                Some(Ok(_)) => format!("{ROUTING}\n"),
+                Some(Ok(report)) if report.most_turns <= 2 => format!("{ROUTING}\n"),
                 judged => format!("no routing: {judged:?}\n"),
             };
         }

@@ -5,6 +5,7 @@ pub mod Writing
 pub mod Shape
 pub mod Walk
 pub mod Report
+pub mod ReportLaws
 pub mod Alike
 pub mod AlikeLaws
 pub mod Judge

@@ -1,12 +1,12 @@
--- Definitions only: the report on a judged routing (document 01, "Judging a routing"). Nothing is proved here.
+-- Definitions only: the report on a judged routing (document 01, "Judging a routing"; document 02, §6). Nothing is proved here.
 -- It speaks of pairs and their paths as lists of directions.
+use mathlib.Core.Path.{_≡_}
 use mathlib.Core.Bool.{Bool, cond}
 use mathlib.Core.List.{List, [], _∷_, _++_}
-use Prim.Native.Nat.{ℕ, _+_}
+use Prim.Native.Nat.{ℕ, _+_, _<_}
 use lib.Dec.{ltb}
-use lib.ListN.{length, replicate}
-use Rattle.count.specs.Truth.{one}
-use Rattle.count.specs.Lists.{select}
+use lib.ListN.{length, getD, replicate}
+use Rattle.count.specs.Lists.{select, tally}
 use Rattle.board.specs.Path.{next, turn, turns}
 use Rattle.board.specs.declared.Vertex.{Vertex}
 use Rattle.board.specs.declared.Direction.{Direction}
@@ -36,18 +36,31 @@ turnsAt v u [] = 0
 turnsAt v u (d ∷ []) = 0
 turnsAt v u (d ∷ (e ∷ ds)) = cond (same (next d u) v) (turn d e) 0 + turnsAt v (next d u) (e ∷ ds)
 
--- how many of the paths turn at v
-unfoldable pub turning : Vertex → List Pair → List (List Direction) → ℕ
-turning v [] dss = 0
-turning v (p ∷ ps) [] = 0
-turning v (p ∷ ps) (ds ∷ dss) = one (ltb 0 (turnsAt v (p .first) ds)) + turning v ps dss
+-- how often each of the paths turns at v
+unfoldable pub turnsOfEach : Vertex → List Pair → List (List Direction) → List ℕ
+turnsOfEach v [] dss = []
+turnsOfEach v (p ∷ ps) [] = []
+turnsOfEach v (p ∷ ps) (ds ∷ dss) = turnsAt v (p .first) ds ∷ turnsOfEach v ps dss
 
--- "knock-knees: vertices where two different nets each turn"
+-- how many turns occur at v
+unfoldable pub turnsOccurring : Vertex → List Pair → List (List Direction) → ℕ
+turnsOccurring v ps dss = tally (λ n. n) (turnsOfEach v ps dss)
+
+-- "A knock-knee is from now on a vertex where two turns occur, whether of two paths or of one. At no vertex can there be more than two."
 unfoldable pub knockKnee : List Pair → List (List Direction) → Vertex → Bool
-knockKnee ps dss v = ltb 1 (turning v ps dss)
+knockKnee ps dss v = ltb 1 (turnsOccurring v ps dss)
 
 unfoldable pub knockKnees : List Pair → List (List Direction) → ℕ
 knockKnees ps dss = length (select (knockKnee ps dss) readingOrder)
+
+-- that sentence by its two cases, of how often each path turns at a vertex
+pub data TwoTurns (ns : List ℕ) : Type 0 where
+  ofOne : (i : ℕ) → getD ns i 0 ≡ 2 → TwoTurns ns
+  ofTwo : (i j : ℕ) → i < j → getD ns i 0 ≡ 1 → getD ns j 0 ≡ 1 → TwoTurns ns
+
+-- what it was before: "vertices where two different nets each turn"
+unfoldable pub knockKneeOfNets : List Pair → List (List Direction) → Vertex → Bool
+knockKneeOfNets ps dss v = ltb 1 (length (select (ltb 0) (turnsOfEach v ps dss)))
 
 -- "The report gives edges used, turns .., and knock-knees"
 pub record Report : Type 0 where

@@ -18,6 +18,7 @@ use Rattle.board.specs.View.{boardOf}
 use Rattle.board.specs.declared.Board as code-board
 use Rattle.board_block.specs.View.{blockOf}
 use Rattle.board_block.specs.declared.Block as code-block
+use Rattle.board.specs.declared.Vertex.{Vertex}
 use Rattle.board.specs.declared.Direction.{Direction}
 use Rattle.board_convex.specs.Test.{isConvex}
 use Rattle.net.specs.declared.Net.{Net}
@@ -46,7 +47,7 @@ use Rattle.words.specs.RoutingWord.{routingWords}
 use Rattle.call_rules.specs.Result.{Result, no, yes}
 use Rattle.call_rules.specs.Reading.{boardLimit, readWords, readBytes}
 use Rattle.call_rules.specs.Writing.{writeBoard, countOf, bufferAfter, writtenInto}
-use Rattle.call_rules.specs.Report.{Report, reportOf, edgesUsed, turnsMade, knockKnees}
+use Rattle.call_rules.specs.Report.{Report, reportOf, edgesUsed, turnsMade, turnsOfEach, turnsOccurring, knockKnee, knockKnees, TwoTurns}
 use Rattle.call_rules.specs.Alike.{Alike, equallyMany}
 use Rattle.call_rules.specs.Judge.{judged, judgeWords, ofList, compareWords, judgeBytes, compareBytes}
 use Rattle.call_rules.specs.Route.{routeRoom, routeRefused, HandsBack, HandsBackBytes, Routes, RoutesBytes}
@@ -145,9 +146,9 @@ OfRouting s ws = (dss : List (List Direction)) × IsRouting s ws dss
 -- ── 1 ──
 -- "Every accepted call .. gives exactly what document 01 lays down for its input, or, for a routing, one of those allowed there. Every refused
 -- call gives its number and place from the table, with the session and each lent buffer the same as before."
--- In each field but `names-stay`, `none-kept` and `were-alike`, which are laws, and those called rightly: the answer is the definition's, number and
--- place included; what is handed back is the definition's; a refusal changes nothing, but for a list of nets: "for this call alone a refusal leaves
--- that much changed and no more" (document 02, §1).
+-- In each field but `names-stay`, `none-kept`, `two-turns` and `were-alike`, which are laws, and those called rightly: the answer is the
+-- definition's, number and place included; what is handed back is the definition's; a refusal changes nothing, but for a list of nets: "for this
+-- call alone a refusal leaves that much changed and no more" (document 02, §1).
 pub record Demand1 : Type 0 where
   pub add : (s : Session) (n : Net) (r : AfterAdd) → AddPromise s n r
       → (addAnswer (r .answer) ≡ call (sessionOf s) (calls.add n) .answer) × (sessionOf (r .session) ≡ call (sessionOf s) (calls.add n) .next)
@@ -198,6 +199,10 @@ pub record Demand1 : Type 0 where
       → (Unsound (sessionOf s) → judgementOf r ≡ no (refusal 20 0))
       × (Sound (sessionOf s) → ((WholeWords bs → ⊥) → judgementOf r ≡ no (refusal 10 0))
       × (WholeWords bs → Judges (sessionOf s) (wordsIn bs) (judgementOf r)))
+  -- 02, §6: "A knock-knee is from now on a vertex where two turns occur, whether of two paths or of one. At no vertex can there be more than two."
+  pub two-turns : (s : machine.Session) (ws : List ℕ) (dss : List (List Direction)) → judged s ws ≡ yes dss → (v : Vertex)
+      → (turnsOccurring v (pairs (s .nets)) dss ≤ 2)
+      × ((knockKnee (pairs (s .nets)) dss v ≡ true) ↔ TwoTurns (turnsOfEach v (pairs (s .nets)) dss))
   pub compare : (s : Session) (vs ws : List ℕ) (r : Likeness) → likenessOf r ≡ compareWords (sessionOf s) vs ws
       → (Unsound (sessionOf s) → likenessOf r ≡ no (refusal 20 0)) × (Sound (sessionOf s) → Compares (sessionOf s) vs ws (likenessOf r))
   pub compare-bytes : (s : Session) (one two : List ℕ) (r : Likeness) → likenessOf r ≡ compareBytes (sessionOf s) one two

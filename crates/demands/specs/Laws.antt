@@ -63,6 +63,7 @@ use Rattle.judge_call.specs.Answers.{judgementOf, likenessOf}
 use Rattle.judge_laws.specs.Passing.{Numbered}
 use Rattle.judge_laws.specs.Exact.{passes-exactly}
 use Rattle.judge_laws.specs.Alike.{judged-equally-many}
+use Rattle.judge_laws.specs.TwoTurns.{judged-two-turns}
 use Rattle.board_roundtrip.specs.Parts.{asRead}
 use Rattle.board_roundtrip.specs.RoundTrip.{buffer-reads, read-written, read-bytes-sound, read-none-kept, read-bytes-none-kept}
 use Rattle.session_answers.specs.Answers.{addAnswer}
@@ -389,6 +390,7 @@ demand-1 = record {
   compare-bytes = λ s one two r e.
       let m = sessionOf s in let f = e ∙ compare-bytes-is m one two in
       (λ n. f ∙ unsound-first m _ n, λ S. compares-bytes m one two (likenessOf r) (f ∙ sound-then m _ S));
+  two-turns = judged-two-turns;
   were-alike = λ s vs ws dss ess e f h. judged-equally-many s vs ws dss ess e f h;
   route-rightly = λ s before r after R S long. history.words-both (sessionOf s) S long R;
   route-bytes-rightly = λ s before r after R S long. history.bytes-both (sessionOf s) S long R;

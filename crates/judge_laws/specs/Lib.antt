@@ -7,4 +7,5 @@ pub mod Edges
 pub mod Exact
 pub mod Alike
 pub mod Loops
+pub mod TwoTurns
 pub mod Reported

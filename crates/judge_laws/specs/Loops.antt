@@ -27,7 +27,7 @@ unfoldable pub backwards : List Direction → List Direction
 backwards [] = []
 backwards (d ∷ ds) = backwards ds ++ (back d ∷ [])
 
-step-back : (b : Board) (d : Direction) (u : Vertex) → IsEdge b (along d u)
+pub step-back : (b : Board) (d : Direction) (u : Vertex) → IsEdge b (along d u)
     → (next (back d) (next d u) ≡ u) × (along (back d) (next d u) ≡ along d u)
 step-back b d u h = go d (edge-rises b (along d u) h)
   where

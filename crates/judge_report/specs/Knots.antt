@@ -1,4 +1,4 @@
--- The marks of two nets, counted over an array and over the vertices in reading order.
+-- The marks of two turns, counted over an array and over the vertices in reading order.
 -- Assumes nothing.
 use mathlib.Core.Path.{_≡_, refl, ap, _∙_}
 use mathlib.Core.Bool.{Bool, true, false, cond}
@@ -6,7 +6,7 @@ use mathlib.Core.List.{List, [], _∷_, map, flatMap}
 use Prim.Native.Nat.{ℕ, suc, _+_, _-_, _/_, _%_, _<_, _≤_}
 use native.Mathlib.Numerals.{add-one}
 use native.Mathlib.Omega.{arith}
-use lib.Dec.{eqb}
+use lib.Dec.{ltb}
 use lib.ListN.{length, drop, getD, drop-of-length-le}
 use lib.Seq.{drop-cons}
 use Rattle.count.specs.Truth.{one}
@@ -16,7 +16,7 @@ use Rattle.board.specs.declared.Vertex.{Vertex}
 use Rattle.cut.specs.Odd.{readingOrder}
 use Rattle.judge_report.specs.Traces.{knots}
 
-pub knots-more : (a : List ℕ) (i : ℕ) → i < length a → knots (drop i a) ≡ one (eqb (getD a i 0) 128) + knots (drop (i + 1) a)
+pub knots-more : (a : List ℕ) (i : ℕ) → i < length a → knots (drop i a) ≡ one (ltb 1 (getD a i 0)) + knots (drop (i + 1) a)
 unfolding knots
 knots-more a i h = rw (add-one i, drop-cons a i 0 h) refl
 
@@ -40,20 +40,20 @@ length-select {A} p x xs = go (p x) (select p xs)
     go true ys = omega arith
     go false ys = omega arith
 
-knots-from : (p : Vertex → Bool) (i : ℕ) (a : List ℕ) → ((j : ℕ) → j < length a → eqb (getD a j 0) 128 ≡ p (vertexAt (i + j)))
+knots-from : (p : Vertex → Bool) (i : ℕ) (a : List ℕ) → ((j : ℕ) → j < length a → ltb 1 (getD a j 0) ≡ p (vertexAt (i + j)))
     → knots a ≡ length (select p (map vertexAt (rising i (length a))))
 unfolding knots select
 knots-from p i [] h = refl
 knots-from p i (m ∷ ms) h =
     let e : i + 0 ≡ i = omega arith in
-    let f : eqb m 128 ≡ p (vertexAt i) = rw e at (h 0 (omega arith)) in
+    let f : ltb 1 m ≡ p (vertexAt i) = rw e at (h 0 (omega arith)) in
     let r : knots ms ≡ length (select p (map vertexAt (rising (suc i) (length ms)))) =
     knots-from p (suc i) ms (λ j k. let g : i + suc j ≡ suc i + j = omega arith in rw g at (h (suc j) (omega arith))) in
     let q = length-select p (vertexAt i) (map vertexAt (rising (suc i) (length ms))) in
     omega (arith, ap one f)
 
--- the marks that say two nets, where they say it just of the vertices that pass a test
-pub knots-are : (p : Vertex → Bool) (a : List ℕ) → length a ≡ 1024 → ((j : ℕ) → j < 1024 → eqb (getD a j 0) 128 ≡ p (vertexAt j))
+-- the marks that say two turns, where they say it just of the vertices that pass a test
+pub knots-are : (p : Vertex → Bool) (a : List ℕ) → length a ≡ 1024 → ((j : ℕ) → j < 1024 → ltb 1 (getD a j 0) ≡ p (vertexAt j))
     → knots a ≡ length (select p readingOrder)
 knots-are p a l h =
     let r = knots-from p 0 a (λ j k. let g : 0 + j ≡ j = omega arith in rw g (h j (omega arith))) in

@@ -2,7 +2,7 @@ pub mod Traces
 pub mod Measures
 pub mod Reports
 pub mod Directions
-pub mod Codes
+pub mod Marks
 pub mod Tracing
 pub mod Knots
 pub mod Paths

@@ -1,13 +1,12 @@
--- All paths of a list, one net on: their edges, their turns, and at which vertices how many of them turn.
+-- All paths of a list, one net on: their edges, their turns, and how many turns occur at each vertex.
 -- Assumes nothing.
 use mathlib.Core.Path.{_≡_, refl, ap, _∙_}
 use mathlib.Core.List.{List, [], _∷_}
 use Prim.Native.Nat.{ℕ, suc, _+_, _-_, _*_, _/_, _%_, _<_, _≤_}
 use native.Mathlib.Numerals.{add-one}
 use native.Mathlib.Omega.{arith}
-use lib.Dec.{ltb, eqb}
+use lib.Dec.{ltb}
 use lib.ListN.{length, take, drop, getD}
-use Rattle.count.specs.Truth.{one}
 use Rattle.board.specs.Path.{turns}
 use Rattle.board.specs.declared.Vertex.{Vertex}
 use Rattle.board.specs.declared.Direction.{Direction}
@@ -19,16 +18,16 @@ use Rattle.net.specs.declared.Place.{Place}
 use Rattle.session_rules.specs.Session.{pairs}
 use Rattle.net_places.specs.Places.{net, heldNet, netsFrom, netsOf}
 use Rattle.call_rules.specs.Shape.{pathsFrom}
-use Rattle.call_rules.specs.Report.{edgesUsed, turnsMade, turnsAt, turning, knockKnee, knockKnees}
-use Rattle.call_rules.specs.Report.{reportOf}
+use Rattle.call_rules.specs.Report.{edgesUsed, turnsMade, turnsAt, turnsOccurring, knockKnee, knockKnees, reportOf}
+use Rattle.call_rules.specs.ReportLaws.{occurring-no-path, occurring-no-pair, occurring-more}
 use Rattle.call_rules.specs.Judge.{pathsIn}
 use Rattle.judge_shape.specs.Moves.{nets-more, nets-none}
 use Rattle.judge_walk.specs.PartLaws.{Found, paths-out, paths-part}
 use Rattle.judge_report.specs.Traces.{knots}
 use Rattle.judge_report.specs.Knots.{vertexAt, knots-are}
-use Rattle.judge_report.specs.Measures.{dirsOf, Says, Measured, left, MeasuresPlace}
+use Rattle.judge_report.specs.Measures.{dirsOf, Says, Measured, left, turnsLeft, MeasuresPlace}
 use Rattle.judge_report.specs.Directions.{dirs-are}
-use Rattle.judge_report.specs.Codes.{code-skip, code-knot}
+use Rattle.judge_report.specs.Marks.{mark-knot}
 use Rattle.judge_report.specs.declared.Trace.{Trace}
 use Rattle.judge_report.specs.declared.Sum.{Sum}
 
@@ -40,50 +39,44 @@ pub left-more : {ws : List ℕ} {i from to : ℕ} → Found ws i from to → (n 
 left-more {ws} {i} {from} {to} f n ns =
     rw (paths-part f n ns) (ap (λ (ds : List Direction). ds ∷ left ns ws to) (dirs-are (suc i) (take (to - from) (drop from ws))))
 
-turning-none : (v : Vertex) (ps : List Pair) → turning v ps [] ≡ 0
-unfolding turning
-turning-none v [] = refl
-turning-none v (p ∷ ps) = refl
-
 -- ── what a place holds ──
-says-skip : {k : ℕ} {n : Vertex → ℕ} {a : List ℕ} → Says k n a → Says (suc k) n a
-says-skip s = record { long = s .long; codes = λ l c p q. code-skip (s .codes l c p q) }
-
-pub place-none : {k : ℕ} {ws : List ℕ} {s : Sum} {a : List ℕ} → MeasuresPlace k Nothing ws s a s a
+pub place-none : {ws : List ℕ} {s : Sum} {a : List ℕ} → MeasuresPlace Nothing ws s a s a
 place-none = record {
-  edges = λ ns. refl;
-  turned = λ ns. refl;
-  marks = λ n p q h. (n, says-skip h, λ ns v. refl);
+  edges = λ k ns. refl;
+  turned = λ k ns. refl;
+  marks = λ n h. (n, h, λ k ns v. refl);
 }
 
-pub place-out : {k : ℕ} {ends : Pair} {ws : List ℕ} {s : Sum} {a : List ℕ} → length ws ≤ s .at → MeasuresPlace k (Ends ends) ws s a s a
-place-out {k} {ends} {ws} {s} h = record {
-  edges = λ ns. rw (left-out (net k ends ∷ ns) ws (s .at) h, left-out ns ws (s .at) h) refl;
-  turned = λ ns. rw (left-out (net k ends ∷ ns) ws (s .at) h, left-out ns ws (s .at) h) refl;
-  marks = λ n p q y. (
+pub place-out : {ends : Pair} {ws : List ℕ} {s : Sum} {a : List ℕ} → length ws ≤ s .at → MeasuresPlace (Ends ends) ws s a s a
+place-out {ends} {ws} {s} h = record {
+  edges = λ k ns. rw (left-out (net k ends ∷ ns) ws (s .at) h, left-out ns ws (s .at) h) refl;
+  turned = λ k ns. rw (left-out (net k ends ∷ ns) ws (s .at) h, left-out ns ws (s .at) h) refl;
+  marks = λ n y. (
     n,
-    says-skip y,
-    λ ns v.
+    y,
+    λ k ns v.
         rw (
           left-out (net k ends ∷ ns) ws (s .at) h,
           left-out ns ws (s .at) h,
-          turning-none v (pairs ns),
-          turning-none v (pairs (net k ends ∷ ns)),
+          occurring-no-path v (pairs ns),
+          occurring-no-path v (pairs (net k ends ∷ ns)),
         ) refl,
   );
 }
 
-pub place-on : {k : ℕ} {ends : Pair} {ws : List ℕ} {s : Sum} {a a' : List ℕ} {from to : ℕ} → Found ws (s .at) from to
-    → {t : Trace} → Measured (ends .first) k (take (to - from) (drop from ws)) t a a'
-    → {r : Sum} → r ≡ record { at = to; edges = s .edges + t .edges; turns = s .turns + t .turns } → MeasuresPlace k (Ends ends) ws s a r a'
-unfolding edgesUsed turnsMade turning
-place-on {k} {ends} {ws} {s} {a} {a'} {from} {to} f {t} m g = rw g (record {
-  edges = λ ns. rw (left-more f (net k ends) ns) (omega (arith, m .edges));
-  turned = λ ns. rw (left-more f (net k ends) ns) (omega (arith, m .turned));
-  marks = λ n h q y. (
-    (λ v. n v + one (ltb 0 (turnsAt v (ends .first) (dirsOf (take (to - from) (drop from ws)))))),
-    m .marks n h q y,
-    λ ns v. rw (left-more f (net k ends) ns) (omega arith),
+pub place-on : {ends : Pair} {ws : List ℕ} {s : Sum} {a a' : List ℕ} {from to : ℕ} → Found ws (s .at) from to
+    → {t : Trace} → Measured (ends .first) (take (to - from) (drop from ws)) t a a'
+    → {r : Sum} → r ≡ record { at = to; edges = s .edges + t .edges; turns = s .turns + t .turns } → MeasuresPlace (Ends ends) ws s a r a'
+unfolding edgesUsed turnsMade
+place-on {ends} {ws} {s} {a} {a'} {from} {to} f {t} m g = rw g (record {
+  edges = λ k ns. rw (left-more f (net k ends) ns) (omega (arith, m .edges));
+  turned = λ k ns. rw (left-more f (net k ends) ns) (omega (arith, m .turned));
+  marks = λ n y. (
+    (λ v. n v + turnsAt v (ends .first) (dirsOf (take (to - from) (drop from ws)))),
+    m .marks n y,
+    λ k ns v.
+        rw (left-more f (net k ends) ns)
+        (omega (arith, occurring-more v ends (pairs ns) (dirsOf (take (to - from) (drop from ws))) (left ns ws to))),
   );
 })
 
@@ -92,10 +85,9 @@ place-on {k} {ends} {ws} {s} {a} {a'} {from} {to} f {t} m g = rw g (record {
 pub record Measuring (nets : List Place) (ws : List ℕ) (a₀ : List ℕ) (i : ℕ) (s : Sum) (a : List ℕ) : Type 0 where
   pub edges : s .edges + edgesUsed (left (netsFrom (suc i) (drop i nets)) ws (s .at)) ≡ edgesUsed (left (netsOf nets) ws 0)
   pub turned : s .turns + turnsMade (left (netsFrom (suc i) (drop i nets)) ws (s .at)) ≡ turnsMade (left (netsOf nets) ws 0)
-  pub marks : Says 1 (λ v. 0) a₀
-      → (n : Vertex → ℕ) × Says (suc i) n a
-      × ((v : Vertex) → n v + turning v (pairs (netsFrom (suc i) (drop i nets))) (left (netsFrom (suc i) (drop i nets)) ws (s .at))
-      ≡ turning v (pairs (netsOf nets)) (left (netsOf nets) ws 0))
+  pub marks : Says (λ v. 0) a₀
+      → (n : Vertex → ℕ) × Says n a
+      × ((v : Vertex) → n v + turnsLeft v (netsFrom (suc i) (drop i nets)) ws (s .at) ≡ turnsLeft v (netsOf nets) ws 0)
 
 pub measuring-start : {nets : List Place} {ws : List ℕ} {a : List ℕ} → Measuring nets ws a 0 (record { at = 0; edges = 0; turns = 0 }) a
 unfolding netsOf
@@ -105,15 +97,15 @@ measuring-start = record {
   marks = λ h. ((λ v. 0), h, λ v. omega arith);
 }
 
-pub measuring-on : {nets : List Place} {ws a₀ : List ℕ} {i : ℕ} {s : Sum} {a : List ℕ} → Measuring nets ws a₀ i s a → i < length nets → i < 64
-    → {r : Sum} {a' : List ℕ} → {k : ℕ} → k ≡ i + 1 → MeasuresPlace k (getD nets i nothing .held) ws s a r a' → Measuring nets ws a₀ (i + 1) r a'
-measuring-on {nets} {ws} {a₀} {i} {s} {a} h l l64 {r} {a'} {k} g m = rw (add-one i) (record {
-  edges = omega (arith, h .edges, ap (λ (x : List Net). edgesUsed (left x ws (s .at))) more, p .edges ns);
-  turned = omega (arith, h .turned, ap (λ (x : List Net). turnsMade (left x ws (s .at))) more, p .turned ns);
+pub measuring-on : {nets : List Place} {ws a₀ : List ℕ} {i : ℕ} {s : Sum} {a : List ℕ} → Measuring nets ws a₀ i s a → i < length nets
+    → {r : Sum} {a' : List ℕ} → MeasuresPlace (getD nets i nothing .held) ws s a r a' → Measuring nets ws a₀ (i + 1) r a'
+measuring-on {nets} {ws} {a₀} {i} {s} {a} h l {r} {a'} p = rw (add-one i) (record {
+  edges = omega (arith, h .edges, ap (λ (x : List Net). edgesUsed (left x ws (s .at))) more, p .edges (suc i) ns);
+  turned = omega (arith, h .turned, ap (λ (x : List Net). turnsMade (left x ws (s .at))) more, p .turned (suc i) ns);
   marks = λ y.
       let (n, q, z) = h .marks y in
-      let (n', q', z') = p .marks n (omega arith) (omega arith) q in
-      (n', q', λ v. omega (arith, z v, z' ns v, ap (λ (x : List Net). turning v (pairs x) (left x ws (s .at))) more));
+      let (n', q', z') = p .marks n q in
+      (n', q', λ v. omega (arith, z v, z' (suc i) ns v, ap (λ (x : List Net). turnsLeft v x ws (s .at)) more));
 })
   where
     ns : List Net
@@ -122,16 +114,13 @@ measuring-on {nets} {ws} {a₀} {i} {s} {a} h l l64 {r} {a'} {k} g m = rw (add-o
     more : netsFrom (suc i) (drop i nets) ≡ heldNet (suc i) (getD nets i nothing .held) ns
     more = nets-more nets i l
 
-    p : MeasuresPlace (suc i) (getD nets i nothing .held) ws s a r a'
-    p = let e : k ≡ suc i = omega arith in rw e at m
-
 -- ── the report ──
-pub measuring-done : {nets : List Place} {ws a₀ : List ℕ} {i : ℕ} {s : Sum} {a : List ℕ} → Measuring nets ws a₀ i s a → length nets ≤ i → i ≡ 64
-    → Says 1 (λ v. 0) a₀
+pub measuring-done : {nets : List Place} {ws a₀ : List ℕ} {i : ℕ} {s : Sum} {a : List ℕ} → Measuring nets ws a₀ i s a → length nets ≤ i
+    → Says (λ v. 0) a₀
     → {n : ℕ} → n ≡ knots a
     → record { edges = s .edges; turns = s .turns; knockKnees = n } ≡ reportOf (pairs (netsOf nets)) (pathsIn (pathsFrom 0 (netsOf nets) ws))
-unfolding edgesUsed turnsMade turning knockKnees knockKnee pathsFrom
-measuring-done {nets} {ws} {a₀} {i} {s} {a} h l e y {n} k = λ j. record { edges = pe j; turns = pt j; knockKnees = pk j }
+unfolding edgesUsed turnsMade knockKnees knockKnee pathsFrom
+measuring-done {nets} {ws} {a₀} {i} {s} {a} h l y {n} k = λ j. record { edges = pe j; turns = pt j; knockKnees = pk j }
   where
     dss : List (List Direction)
     dss = left (netsOf nets) ws 0
@@ -145,20 +134,17 @@ measuring-done {nets} {ws} {a₀} {i} {s} {a} h l e y {n} k = λ j. record { edg
     pt : s .turns ≡ turnsMade dss
     pt = omega (arith, h .turned, ap (λ (x : List Net). turnsMade (left x ws (s .at))) none)
 
-    m : (c : Vertex → ℕ) × Says (suc i) c a × ((v : Vertex)
-        → c v + turning v (pairs (netsFrom (suc i) (drop i nets))) (left (netsFrom (suc i) (drop i nets)) ws (s .at))
-        ≡ turning v (pairs (netsOf nets)) dss)
+    m : (c : Vertex → ℕ) × Says c a × ((v : Vertex) → c v + turnsLeft v (netsFrom (suc i) (drop i nets)) ws (s .at) ≡ turnsLeft v (netsOf nets) ws 0)
     m = h .marks y
 
-    all : (v : Vertex) → m .0 v ≡ turning v (pairs (netsOf nets)) dss
-    all v = omega (arith, m .2 v, ap (λ (x : List Net). turning v (pairs x) (left x ws (s .at))) none)
+    all : (v : Vertex) → m .0 v ≡ turnsOccurring v (pairs (netsOf nets)) dss
+    all v = omega (arith, m .2 v, ap (λ (x : List Net). turnsLeft v x ws (s .at)) none, occurring-no-pair v (left [] ws (s .at)))
 
-    at-index : (j : ℕ) → j < 1024 → eqb (getD a j 0) 128 ≡ knockKnee (pairs (netsOf nets)) dss (vertexAt j)
+    at-index : (j : ℕ) → j < 1024 → ltb 1 (getD a j 0) ≡ knockKnee (pairs (netsOf nets)) dss (vertexAt j)
     at-index j q =
         let x : j / 32 * 32 + j % 32 ≡ j = omega arith in
-        let c = m .1 .codes (j / 32) (j % 32) (omega arith) (omega arith) in
-        let z = code-knot (omega arith) c in
-        rw (x, all (vertexAt j)) at z
+        let c = m .1 .marks (j / 32) (j % 32) (omega arith) (omega arith) in
+        rw (x, all (vertexAt j)) at (ap (ltb 1) c ∙ mark-knot (m .0 (vertexAt j)))
 
     pk : n ≡ knockKnees (pairs (netsOf nets)) dss
     pk = k ∙ knots-are (knockKnee (pairs (netsOf nets)) dss) a (m .1 .long) at-index

@@ -1,5 +1,5 @@
 -- Definitions only: a path traced run by run, and the marks of its turns. Nothing is proved here.
--- A mark is 0 where no net turned, a net's number where that one alone did, and 128 where two did.
+-- A mark is 0 where no turn occurred, 1 where one did, and 2 where more did.
 use mathlib.Core.Bool.{cond, not, _&&_}
 use mathlib.Core.List.{List, [], _∷_}
 use Prim.Native.Nat.{ℕ, _+_, _-_, _*_, _≤_}
@@ -63,17 +63,17 @@ abbrev pub begin : Vertex → Trace
 begin v = record { line = v .line; column = v .column; last = Nothing; edges = 0; turns = 0 }
 
 -- ── the marks ──
--- the mark m after a turn of net k
-abbrev pub marked : (m k : ℕ) → ℕ
-marked m k = cond (eqb m 0) k (cond (eqb m k) k 128)
+-- the mark m after one more turn
+abbrev pub marked : (m : ℕ) → ℕ
+marked m = cond (eqb m 0) 1 2
 
-abbrev pub markAt : (line column k : ℕ) → List ℕ → List ℕ
-markAt l c k a = changedAt (λ m. marked m k) l c a
+abbrev pub markAt : (line column : ℕ) → List ℕ → List ℕ
+markAt l c a = changedAt marked l c a
 
-unfoldable pub markRun : ℕ → Trace → Run → List ℕ → List ℕ
-markRun k t r a = cond (eqb (turnBy (t .last) r) 1) (markAt (t .line) (t .column) k a) a
+unfoldable pub markRun : Trace → Run → List ℕ → List ℕ
+markRun t r a = cond (ltb 0 (turnBy (t .last) r)) (markAt (t .line) (t .column) a) a
 
--- how many marks say that two nets turned
+-- how many marks say that two turns or more occurred
 unfoldable pub knots : List ℕ → ℕ
 knots [] = 0
-knots (m ∷ ms) = one (eqb m 128) + knots ms
+knots (m ∷ ms) = one (ltb 1 m) + knots ms

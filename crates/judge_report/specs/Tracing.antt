@@ -1,5 +1,5 @@
 -- A path traced run by run: its edges, its turns, and the marks of its turns.
--- Assumes nothing; what is said of marks is for a net of number 1 to 64.
+-- Assumes nothing.
 use mathlib.Core.Path.{_≡_, refl, ap, _∙_}
 use mathlib.Core.Bool.{Bool, true, false, cond, not, _&&_}
 use mathlib.Core.List.{List, [], _++_}
@@ -23,9 +23,9 @@ use Rattle.judge_shape.specs.declared.Last.{Last}
 use Rattle.judge_shape.specs.declared.Last.the-variants.{Nothing, Was}
 use Rattle.net.specs.GridLaws.{length-changed, changed-same, changed-other}
 use Rattle.judge_report.specs.Traces.{turnBy, traceRun, begin, marked, markAt, markRun}
-use Rattle.judge_report.specs.Measures.{dirsOf, Says, Measured}
+use Rattle.judge_report.specs.Measures.{dirsOf, markOf, Says, Measured}
 use Rattle.judge_report.specs.Directions.{edges-run, turnsAfter, turns-run, turnsFrom, from-run}
-use Rattle.judge_report.specs.Codes.{Coding, before, code-turn, code-done}
+use Rattle.judge_report.specs.Marks.{mark-more}
 use Rattle.judge_report.specs.declared.Trace.{Trace}
 
 -- ── the marks, one run on ──
@@ -37,54 +37,54 @@ turn-one (Was e) r = go (ltb 0 (r .length) && not (eqb (number e) (number (r .di
     go true = inr refl
     go false = inl refl
 
-length-mark-run : (k : ℕ) (t : Trace) (r : Run) (a : List ℕ) → length (markRun k t r a) ≡ length a
+length-mark-run : (t : Trace) (r : Run) (a : List ℕ) → length (markRun t r a) ≡ length a
 unfolding markRun
-length-mark-run k t r a = go (eqb (turnBy (t .last) r) 1)
+length-mark-run t r a = go (ltb 0 (turnBy (t .last) r))
   where
-    go : (s : Bool) → length (cond s (markAt (t .line) (t .column) k a) a) ≡ length a
-    go true = length-changed (λ m. marked m k) (t .line) (t .column) a
+    go : (s : Bool) → length (cond s (markAt (t .line) (t .column) a) a) ≡ length a
+    go true = length-changed marked (t .line) (t .column) a
     go false = refl
 
--- the mark of the vertex (m, d), with the turns of net k there so far
-mark-run : {k n x : ℕ} → 0 < k → k ≤ 64 → (t : Trace) (r : Run) (a : List ℕ) (m d : ℕ) → length a ≡ 1024 → m < 32 → d < 32
-    → Coding k n x (getD a (m * 32 + d) 0)
-    → Coding k n (x + cond (same (at (t .line) (t .column)) (at m d)) (turnBy (t .last) r) 0) (getD (markRun k t r a) (m * 32 + d) 0)
+-- the mark of the vertex (m, d), where n turns occurred before
+mark-run : (n : ℕ) (t : Trace) (r : Run) (a : List ℕ) (m d : ℕ) → length a ≡ 1024 → m < 32 → d < 32
+    → getD a (m * 32 + d) 0 ≡ markOf n
+    → getD (markRun t r a) (m * 32 + d) 0 ≡ markOf (n + cond (same (at (t .line) (t .column)) (at m d)) (turnBy (t .last) r) 0)
 unfolding markRun
-mark-run {k} {n} {x} kp kq t r a m d e p q h = elim (turn-one (t .last) r) [
+mark-run n t r a m d e p q h = elim (turn-one (t .last) r) [
   | inl z ↦ rw z (none (same (at (t .line) (t .column)) (at m d)))
   | inr z ↦ elim (bool (same (at (t .line) (t .column)) (at m d))) [
     | inl s ↦
         let u = same-exact (at (t .line) (t .column)) (at m d) .0 s in
         let ul : t .line ≡ m = ap (λ (v : Vertex). v .line) u in
         let uc : t .column ≡ d = ap (λ (v : Vertex). v .column) u in
-        let y : x + 1 ≡ suc x = omega arith in
-        rw (s, z, y, ul, uc, changed-same (λ m. marked m k) m d a e p q) (code-turn kp kq h)
+        let y : n + 1 ≡ suc n = omega arith in
+        rw (s, z, y, ul, uc, changed-same marked m d a e p q, h) (mark-more n)
     | inr s ↦
-        let y : x + 0 ≡ x = omega arith in
-        rw (s, z, y, changed-other (λ m. marked m k) (t .line) (t .column) m d a s q) h
+        let y : n + 0 ≡ n = omega arith in
+        rw (s, z, y, changed-other marked (t .line) (t .column) m d a s q) h
   ]
 ]
   where
-    none : (s : Bool) → Coding k n (x + cond s 0 0) (getD a (m * 32 + d) 0)
-    none true = let y : x + 0 ≡ x = omega arith in rw y h
-    none false = let y : x + 0 ≡ x = omega arith in rw y h
+    none : (s : Bool) → getD a (m * 32 + d) 0 ≡ markOf (n + cond s 0 0)
+    none true = let y : n + 0 ≡ n = omega arith in rw y h
+    none false = let y : n + 0 ≡ n = omega arith in rw y h
 
 -- ── a path ──
 -- DEFINITION: its first i runs are traced
-pub record Tracing (u : Vertex) (k : ℕ) (ws : List ℕ) (i : ℕ) (t : Trace) (a₀ a : List ℕ) : Type 0 where
+pub record Tracing (u : Vertex) (ws : List ℕ) (i : ℕ) (t : Trace) (a₀ a : List ℕ) : Type 0 where
   pub edges : t .edges + length (dirsOf (drop i ws)) ≡ length (dirsOf ws)
   pub turned : t .turns + turnsAfter (t .last) (dirsOf (drop i ws)) ≡ turns (dirsOf ws)
   pub long : length a ≡ length a₀
-  pub marks : (n : Vertex → ℕ) → 0 < k → k ≤ 64 → Says k n a₀ → (l c : ℕ) → l < 32 → c < 32
-      → (x : ℕ) × Coding k (n (at l c)) x (getD a (l * 32 + c) 0)
+  pub marks : (n : Vertex → ℕ) → Says n a₀ → (l c : ℕ) → l < 32 → c < 32
+      → (x : ℕ) × (getD a (l * 32 + c) 0 ≡ markOf (n (at l c) + x))
       × (x + turnsFrom (at l c) (t .last) (at (t .line) (t .column)) (dirsOf (drop i ws)) ≡ turnsAt (at l c) u (dirsOf ws))
 
-pub tracing-start : {u : Vertex} {k : ℕ} {ws : List ℕ} {a : List ℕ} → Tracing u k ws 0 (begin u) a a
+pub tracing-start : {u : Vertex} {ws : List ℕ} {a : List ℕ} → Tracing u ws 0 (begin u) a a
 tracing-start = record {
   edges = omega arith;
   turned = omega arith;
   long = refl;
-  marks = λ n p q s l c h j. (0, before refl (s .codes l c h j), omega arith);
+  marks = λ n s l c h j. (0, (let y : n (at l c) + 0 ≡ n (at l c) = omega arith in rw y (s .marks l c h j)), omega arith);
 }
 
 dirs-more : (ws : List ℕ) (i : ℕ) → i < length ws
@@ -92,10 +92,10 @@ dirs-more : (ws : List ℕ) (i : ℕ) → i < length ws
 unfolding dirsOf
 dirs-more ws i h = rw (drop-cons ws i 0 h) refl
 
-pub tracing-on : {u : Vertex} {k : ℕ} {ws : List ℕ} {i : ℕ} {t : Trace} {a₀ a : List ℕ} → Tracing u k ws i t a₀ a → i < length ws
-    → {r : Run} → r ≡ runIn (getD ws i 0) → {t' : Trace} → t' ≡ traceRun t r → {a' : List ℕ} → a' ≡ markRun k t r a → Tracing u k ws (i + 1) t' a₀ a'
+pub tracing-on : {u : Vertex} {ws : List ℕ} {i : ℕ} {t : Trace} {a₀ a : List ℕ} → Tracing u ws i t a₀ a → i < length ws
+    → {r : Run} → r ≡ runIn (getD ws i 0) → {t' : Trace} → t' ≡ traceRun t r → {a' : List ℕ} → a' ≡ markRun t r a → Tracing u ws (i + 1) t' a₀ a'
 unfolding traceRun
-tracing-on {u} {k} {ws} {i} {t} {a₀} {a} h l e f g = rw (add-one i, g, f, e) (record {
+tracing-on {u} {ws} {i} {t} {a₀} {a} h l e f g = rw (add-one i, g, f, e) (record {
   edges = omega (arith, h .edges, ap length (dirs-more ws i l), edges-run (w .length) (w .direction) (dirsOf (drop (suc i) ws)));
   turned = omega (
     arith,
@@ -103,31 +103,33 @@ tracing-on {u} {k} {ws} {i} {t} {a₀} {a} h l e f g = rw (add-one i, g, f, e) (
     ap (turnsAfter (t .last)) (dirs-more ws i l),
     turns-run (t .last) (w .length) (w .direction) (dirsOf (drop (suc i) ws)),
   );
-  long = length-mark-run k t w a ∙ h .long;
-  marks = λ n p q s m d hm hd.
-      let (x, c, y) = h .marks n p q s m d hm hd in
+  long = length-mark-run t w a ∙ h .long;
+  marks = λ n s m d hm hd.
+      let (x, c, y) = h .marks n s m d hm hd in
       let v = at m d in
+      let g = cond (same (at (t .line) (t .column)) v) (turnBy (t .last) w) 0 in
+      let f : n v + (x + g) ≡ n v + x + g = omega arith in
       let z = ap (turnsFrom v (t .last) (at (t .line) (t .column))) (dirs-more ws i l)
       ∙ from-run v (t .last) (w .length) (w .direction) (t .line) (t .column) (dirsOf (drop (suc i) ws)) in
-      (x + cond (same (at (t .line) (t .column)) v) (turnBy (t .last) w) 0, mark-run p q t w a m d (h .long ∙ s .long) hm hd c, omega (arith, y, z));
+      (x + g, rw f (mark-run (n v + x) t w a m d (h .long ∙ s .long) hm hd c), omega (arith, y, z));
 })
   where
     w : Run
     w = runIn (getD ws i 0)
 
-pub tracing-done : {u : Vertex} {k : ℕ} {ws : List ℕ} {i : ℕ} {t : Trace} {a₀ a : List ℕ} → Tracing u k ws i t a₀ a → length ws ≤ i
-    → Measured u k ws t a₀ a
+pub tracing-done : {u : Vertex} {ws : List ℕ} {i : ℕ} {t : Trace} {a₀ a : List ℕ} → Tracing u ws i t a₀ a → length ws ≤ i
+    → Measured u ws t a₀ a
 unfolding dirsOf turns turnsAt
-tracing-done {u} {k} {ws} {i} {t} {a₀} {a} h l = record {
+tracing-done {u} {ws} {i} {t} {a₀} {a} h l = record {
   edges = omega (arith, h .edges, ap length none);
   turned = omega (arith, h .turned, ap (turnsAfter (t .last)) none, after (t .last));
-  marks = λ n p q s. record {
+  marks = λ n s. record {
     long = h .long ∙ s .long;
-    codes = λ m d hm hd.
-        let (x, c, y) = h .marks n p q s m d hm hd in
+    marks = λ m d hm hd.
+        let (x, c, y) = h .marks n s m d hm hd in
         let z = ap (turnsFrom (at m d) (t .last) (at (t .line) (t .column))) none ∙ from (at m d) (t .last) (at (t .line) (t .column)) in
         let e : x ≡ turnsAt (at m d) u (dirsOf ws) = omega (arith, y, z) in
-        rw (← e) (code-done p c);
+        rw (← e) c;
   };
 }
   where

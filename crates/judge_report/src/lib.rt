@@ -1,8 +1,10 @@
 // The report on the paths of a list of routing words: edges used, turns, knock-knees. A path is traced run by run.
-// A mark of each vertex says which nets turned there: none, the one of that number, or two.
+// A mark of each vertex says how many turns occurred there: none, one, or more.
 ghost use mathlib.Core.Path.{_≡_};
 ghost use Prim.Native.Nat.{_+_, _-_, _*_, _≤_};
+ghost use lib.Dec.{ltb};
 ghost use lib.ListN.{length};
+ghost use Rattle.count.specs.Truth.{one};
 ghost use Rattle.call_rules.specs.Judge.{pathsIn};
 ghost use Rattle.call_rules.specs.Report.{reportOf};
 ghost use Rattle.call_rules.specs.Shape.{routingLimit, pathsFrom};
@@ -136,57 +138,59 @@ fn trace_run(t: Trace, run: Run) -> Trace
     }
 }
 
-// A mark after a turn of a net.
-fn mark_after(m: u8, number: u8) -> u8
-    ensures { λ r. ⌜ r ≡ marked m number ⌝ }
+// A mark after one more turn.
+fn mark_after(m: u8) -> u8
+    ensures { λ r. ⌜ r ≡ marked m ⌝ }
 {
-    if m == 0 {
-        return number;
-    }
-    if m == number {
-        return number;
-    }
-    128
+    if m == 0 { 1 } else { 2 }
 }
 
-// Marks a turn of a net at a vertex; one outside lines and columns 0 to 31 has no mark.
-fn mark_at(line: u32, column: u32, number: u8, marks: &mut [u8; 1024])
-    ensures { λ r. ⌜ now (marks .exit) ≡ markAt line column number (now (marks .entry)) ⌝ }
+// Marks a turn at a vertex; one outside lines and columns 0 to 31 has no mark.
+fn mark_at(line: u32, column: u32, marks: &mut [u8; 1024])
+    ensures { λ r. ⌜ now (marks .exit) ≡ markAt line column (now (marks .entry)) ⌝ }
 {
     if line < 32 {
         if column < 32 {
             let at = index(line * 32 + column);
-            marks[at] = mark_after(marks[at], number);
+            marks[at] = mark_after(marks[at]);
         }
     }
 }
 
 // Marks the turn with which a run begins, if it does.
-fn mark_run(t: Trace, run: Run, number: u8, marks: &mut [u8; 1024])
-    ensures { λ r. ⌜ now (marks .exit) ≡ markRun number t run (now (marks .entry)) ⌝ }
+fn mark_run(t: Trace, run: Run, marks: &mut [u8; 1024])
+    ensures { λ r. ⌜ now (marks .exit) ≡ markRun t run (now (marks .entry)) ⌝ }
 {
     let last = t.last;
-    if turn_by(last, run) == 1 {
-        mark_at(t.line, t.column, number, marks);
+    if 0 < turn_by(last, run) {
+        mark_at(t.line, t.column, marks);
     }
 }
 
-// How many vertices are marked for two nets.
+// 1 where a mark says two turns or more.
+fn knot_of(m: u8) -> u32
+    ensures { λ r. ⌜ r ≡ one (ltb 1 m) ⌝ }
+    ensures { λ r. ⌜ r ≤ 1 ⌝ }
+{
+    if 2 <= m { 1 } else { 0 }
+}
+
+// How many marks say that.
 fn count_knots(marks: [u8; 1024]) -> u32
     ensures { λ r. ⌜ r ≡ knots marks ⌝ }
     ensures { λ r. ⌜ r ≤ 1024 ⌝ }
 {
     let mut n: u32 = 0;
     for i in 0..1024 {
-        n += as_word(board::bit(marks[i] == 128));
+        n += knot_of(marks[i]);
     }
     n
 }
 
 // Measures a path, given its runs as a part of the list.
-fn measure_path(first: Vertex, number: u8, runs: &[u32], marks: &mut [u8; 1024]) -> Trace
+fn measure_path(first: Vertex, runs: &[u32], marks: &mut [u8; 1024]) -> Trace
     requires { ⌜ length (now runs) ≤ routingLimit ⌝ }
-    ensures { λ r. ⌜ Measured first number (now (runs .entry)) r (now (marks .entry)) (now (marks .exit)) ⌝ }
+    ensures { λ r. ⌜ Measured first (now (runs .entry)) r (now (marks .entry)) (now (marks .exit)) ⌝ }
     ensures { λ r. ⌜ (r .edges ≤ 600000) × (r .turns ≤ 600000) ⌝ }
 {
     let mut t = Trace {
@@ -198,17 +202,17 @@ fn measure_path(first: Vertex, number: u8, runs: &[u32], marks: &mut [u8; 1024])
     };
     for k in 0..runs.len() {
         let run = words::run_in(runs[k]);
-        mark_run(t, run, number, marks);
+        mark_run(t, run, marks);
         t = trace_run(t, run);
     }
     t
 }
 
 // Measures the path of what a place holds: its path word stands at the sum's index.
-fn measure_place(place: Place, number: u8, words: &[u32], sum: Sum, marks: &mut [u8; 1024]) -> Sum
+fn measure_place(place: Place, words: &[u32], sum: Sum, marks: &mut [u8; 1024]) -> Sum
     requires { ⌜ length (now words) ≤ routingLimit ⌝ }
     requires { ⌜ (sum .edges ≤ 40000000) × (sum .turns ≤ 40000000) ⌝ }
-    ensures { λ r. ⌜ MeasuresPlace number (place .held) (now (words .entry)) sum (now (marks .entry)) r (now (marks .exit)) ⌝ }
+    ensures { λ r. ⌜ MeasuresPlace (place .held) (now (words .entry)) sum (now (marks .entry)) r (now (marks .exit)) ⌝ }
     ensures { λ r. ⌜ (r .edges ≤ sum .edges + 600000) × (r .turns ≤ sum .turns + 600000) ⌝ }
 {
     let held = place.held;
@@ -219,7 +223,7 @@ fn measure_place(place: Place, number: u8, words: &[u32], sum: Sum, marks: &mut 
             match judge_walk::part_at(words, at) {
                 Part::Nothing => sum,
                 Part::Runs(from, to) => {
-                    let t = measure_path(ends.first, number, &words[from..to], marks);
+                    let t = measure_path(ends.first, &words[from..to], marks);
                     Sum {
                         at: to,
                         edges: sum.edges + t.edges,
@@ -243,7 +247,7 @@ pub fn report_of(nets: [Place; 64], words: &[u32]) -> Report
         turns: 0,
     };
     for i in 0..64 {
-        sum = measure_place(nets[i], (i + 1) as u8, words, sum, &mut marks);
+        sum = measure_place(nets[i], words, sum, &mut marks);
     }
     Report {
         edges: sum.edges,

@@ -4,7 +4,7 @@ use mathlib.Core.Bool.{xor}
 use mathlib.Core.List.{flatMap, flatten}
 use Prim.Native.Nat.{ℕ}
 use Rattle.count.specs.Sum.{sum, count}
-use Rattle.count.specs.Lists.{select}
+use Rattle.count.specs.Lists.{select, tally}
 use Rattle.board.specs.Path.{turn, turns}
 use Rattle.board.specs.Degree.{belowRight, belowLeft, aboveRight, aboveLeft, vertex?, edge?, degree, pins}
 use Rattle.board_block.specs.Block.{pinsOf}
@@ -25,7 +25,7 @@ use Rattle.call_rules.specs.Reading.{wordLines, takeWords, addListed, readNets,
 use Rattle.call_rules.specs.Writing.{boardWords, writeBoard}
 use Rattle.call_rules.specs.Shape.{wordsRefused, runsFrom, pathsFrom}
 use Rattle.call_rules.specs.Walk.{walkSteps, walkRuns, walkPath, walkPaths}
-use Rattle.call_rules.specs.Report.{directions, edgesUsed, turnsMade, turnsAt, turning, knockKnee, knockKnees}
+use Rattle.call_rules.specs.Report.{directions, edgesUsed, turnsMade, turnsAt, turnsOfEach, turnsOccurring, knockKnee, knockKnees, knockKneeOfNets}
 use Rattle.call_rules.specs.Alike.{among?, alike?, equallyMany}
 use Rattle.call_rules.specs.Judge.{judged, judgeWords, compareWords, judgeBytes, compareBytes}
 use Rattle.call_rules.specs.Route.{routeRefused}
@@ -38,7 +38,7 @@ unfolding sum count select turn turns belowRight belowLeft aboveRight aboveLeft 
     rising? addable? liftable? lifts? allFine? sound? call
     boardWord asRow asNet asEnd routingWord asPath asRun asRoutingEnd runsOf pathWords pathsWords routingWords wordsIn bytesOf wordLines takeWords
     addListed readNets readTaken readWords readBytes boardWords writeBoard wordsRefused runsFrom pathsFrom walkSteps walkRuns walkPath walkPaths
-    directions edgesUsed turnsMade turnsAt turning knockKnee knockKnees among? alike? equallyMany judged judgeWords compareWords judgeBytes
-    compareBytes routeRefused after answers xor
+    directions edgesUsed turnsMade turnsAt tally turnsOfEach turnsOccurring knockKnee knockKnees knockKneeOfNets among? alike? equallyMany
+    judged judgeWords compareWords judgeBytes compareBytes routeRefused after answers xor
     flatMap flatten
 everything = 0

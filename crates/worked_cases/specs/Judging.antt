@@ -1,24 +1,28 @@
 -- The definitions of judging at work: each refusal with its place, and which of two comes first. The session is the ring where none is told;
--- and when two routings are alike.
+-- and when two routings are alike; and knock-knees, by the rule and by the one before it.
 -- Assumes nothing.
 use mathlib.Core.Path.{_≡_, refl}
 use mathlib.Core.Bool.{Bool, true, false}
 use mathlib.Core.List.{List, [], _∷_, map}
 use Prim.Native.Nat.{ℕ}
-use lib.ListN.{replicate}
+use lib.ListN.{length, replicate}
+use Rattle.count.specs.Lists.{select}
 use Rattle.board.specs.Path.{turns}
 use Rattle.board.specs.declared.Direction.{Direction}
 use Rattle.board.specs.declared.Direction.the-variants.{Up, Right, Down, Left}
+use Rattle.net.specs.declared.Net.{Net}
 use Rattle.net.specs.declared.Change.the-variants.{Withdrawn}
+use Rattle.cut.specs.Odd.{readingOrder}
 use Rattle.words.specs.RoutingWord.{routingWords}
 use Rattle.words.specs.Bytes.{bytesOf}
-use Rattle.session_rules.specs.Session.{Session, withNets}
+use Rattle.session_rules.specs.Session.{Session, withNets, pairs}
 use Rattle.call_rules.specs.Result.{Result, yes, andThen}
-use Rattle.call_rules.specs.Report.{knockKnees}
+use Rattle.call_rules.specs.Report.{Report, knockKneeOfNets}
 use Rattle.call_rules.specs.Alike.{equallyMany}
 use Rattle.call_rules.specs.Judge.{judged, judgeWords, compareWords, judgeBytes, compareBytes}
 use Rattle.worked_cases.specs.Everything.{everything}
 use Rattle.worked_cases.specs.Boards.{row, net, session, ring, ringOutput, why}
+use Rattle.worked_cases.specs.Table.{netsI}
 
 -- the ring's words are the routing words of its paths
 ring-words : routingWords (ring .nets) ((Right ∷ []) ∷ (Down ∷ []) ∷ (Left ∷ []) ∷ (Up ∷ []) ∷ []) ≡ ringOutput
@@ -244,9 +248,39 @@ compared-bytes-second : (why (compareBytes ring (bytesOf ringOutput) []) ≡ 41 
 unfolding everything
 compared-bytes-second = (refl, refl, refl)
 
--- a net that passes the vertex (1,1) twice, turning there twice, alone: no knock-knee
-twice : judgeWords (session (row 0 2 ∷ row 0 2 ∷ []) (net 1 0 1 1 2 ∷ []))
-    (routingWords (net 1 0 1 1 2 ∷ []) ((Down ∷ Left ∷ Down ∷ Right ∷ Up ∷ Right ∷ []) ∷ []))
-    ≡ yes (record { edges = 6; turns = 5; knockKnees = 0 })
+-- ── knock-knees (document 02, §6) ──
+-- DEFINITION: a path for each net, judged on a board of two rows from column 0 to c: the report, and the knock-knees by the rule before
+abbrev reports : (c : ℕ) → List Net → List (List Direction) → Result Report × ℕ
+reports c ns dss = (
+  judgeWords (session (row 0 c ∷ row 0 c ∷ []) ns) (routingWords ns dss),
+  length (select (knockKneeOfNets (pairs ns) dss) readingOrder),
+)
+
+-- a net that passes (1,1) twice, turning there twice, alone: 1, where the rule before gave 0
+turns-twice : reports 2 (net 1 0 1 1 2 ∷ []) ((Down ∷ Left ∷ Down ∷ Right ∷ Up ∷ Right ∷ []) ∷ [])
+    ≡ (yes (record { edges = 6; turns = 5; knockKnees = 1 }), 0)
 unfolding everything
-twice = refl
+turns-twice = refl
+
+-- that passes it twice, straight on
+goes-straight : reports 2 (net 1 0 1 1 2 ∷ []) ((Down ∷ Down ∷ Left ∷ Up ∷ Right ∷ Right ∷ []) ∷ [])
+    ≡ (yes (record { edges = 6; turns = 3; knockKnees = 0 }), 0)
+unfolding everything
+goes-straight = refl
+
+-- that turns there once, and nothing else does
+turns-once : reports 2 (net 1 0 1 1 2 ∷ []) ((Down ∷ Right ∷ []) ∷ []) ≡ (yes (record { edges = 2; turns = 1; knockKnees = 0 }), 0)
+unfolding everything
+turns-once = refl
+
+-- the nets of case i, and the same joined the other way round
+two-nets : (reports 2 netsI ((Down ∷ Left ∷ []) ∷ (Left ∷ Down ∷ []) ∷ []) ≡ (yes (record { edges = 4; turns = 2; knockKnees = 1 }), 1))
+    × (reports 2 netsI ((Left ∷ Down ∷ []) ∷ (Down ∷ Left ∷ []) ∷ []) ≡ (yes (record { edges = 4; turns = 2; knockKnees = 0 }), 0))
+unfolding everything
+two-nets = (refl, refl)
+
+-- net 1 turns twice at (1,1) and once at (1,2), where net 2 turns too: 2, where the rule before gave 1
+both-kinds : reports 3 (net 1 0 1 2 2 ∷ net 2 0 2 1 3 ∷ []) ((Down ∷ Left ∷ Down ∷ Right ∷ Up ∷ Right ∷ Down ∷ []) ∷ (Down ∷ Right ∷ []) ∷ [])
+    ≡ (yes (record { edges = 9; turns = 7; knockKnees = 2 }), 1)
+unfolding everything
+both-kinds = refl

@@ -1,4 +1,4 @@
--- `count_knots` counts the marks of two nets. The invariant: the count and the marks from i on are all the marks.
+-- `count_knots` counts the marks of two turns. The invariant: the count and the marks from i on are all the marks.
 use borrow.Author.Needs.{needs}
 use native.Mathlib.Omega.{arith}
 use mathlib.Core.Path.{_≡_}
@@ -18,14 +18,11 @@ abbrev μ-loop : tie.MeasureT-loop
 loop-holds : tie.Need-loop-holds Inv-loop μ-loop
 loop-holds c = (omega arith, omega arith, omega arith)
 
-array-read-bit : tie.Need-array-read-bit Inv-loop μ-loop
-array-read-bit c = search needs
+array-read-knot-of : tie.Need-array-read-knot-of Inv-loop μ-loop
+array-read-knot-of c = search needs
 
-bit-requires : tie.Need-bit-requires Inv-loop μ-loop
-bit-requires c κs = search needs
-
-as-word-requires : tie.Need-as-word-requires Inv-loop μ-loop
-as-word-requires c κs = search needs
+knot-of-requires : tie.Need-knot-of-requires Inv-loop μ-loop
+knot-of-requires c κs = search needs
 
 add-n : tie.Need-add-n Inv-loop μ-loop
 add-n c = search needs
@@ -38,10 +35,9 @@ loop-less c = search needs
 
 loop-again : tie.Need-loop-again Inv-loop μ-loop
 loop-again c =
-    let at-bit = c .before in let bit = at-bit .bit in
-    let at-loop = at-bit .before .before in let loop = at-loop .loop in
+    let at-loop = c .before .before in let loop = at-loop .loop in
     let at-args = at-loop .before in let args = at-args .args in
-    (omega arith, omega arith, omega (arith, knots-more (args .t1) (loop .i) (omega arith), bit .ensures .0, c .as-word .ensures .0))
+    (omega arith, omega arith, omega (arith, knots-more (args .t1) (loop .i) (omega arith), c .knot-of .ensures .0))
 
 returns : tie.Need-returns Inv-loop μ-loop
 returns c = let e = knots-none (c .before .before .args .t1) (c .before .loop .i) (omega arith) in (omega arith, omega arith)
@@ -53,9 +49,8 @@ count-knots-spec =
     Inv-loop
     μ-loop
     loop-holds
-    array-read-bit
-    bit-requires
-    as-word-requires
+    array-read-knot-of
+    knot-of-requires
     add-n
     add-i
     loop-less

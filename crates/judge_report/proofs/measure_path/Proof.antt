@@ -9,10 +9,10 @@ use Rattle.judge_report.proofs.measure_path.Statement.{statement}
 use Rattle.judge_report.proofs.measure_path.Tie as tie
 
 abbrev Inv-loop : tie.InvT-loop
-Inv-loop number runs marks₀ t₀ k₀ k-end marks t k = (k ≤ k-end) × Short k t × Tracing (at (t₀ .line) (t₀ .column)) number runs k t marks₀ marks
+Inv-loop runs marks₀ t₀ k₀ k-end marks t k = (k ≤ k-end) × Short k t × Tracing (at (t₀ .line) (t₀ .column)) runs k t marks₀ marks
 
 abbrev μ-loop : tie.MeasureT-loop
-μ-loop number runs marks₀ t₀ k₀ k-end marks t k = k-end - k
+μ-loop runs marks₀ t₀ k₀ k-end marks t k = k-end - k
 
 as-word-requires : tie.Need-as-word-requires Inv-loop μ-loop
 as-word-requires c κs = search needs

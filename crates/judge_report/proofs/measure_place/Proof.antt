@@ -38,11 +38,11 @@ measure-path-requires : tie.Need-measure-path-requires
 measure-path-requires c κs =
     let f = part-found (c .before .before .before .before .before .part-at .ensures) (c .before .before .before .from .given .1) in omega arith
 
-add-t21 : tie.Need-add-t21
-add-t21 c = search needs
+add-t20 : tie.Need-add-t20
+add-t20 c = search needs
 
-add-t22 : tie.Need-add-t22
-add-t22 c =
+add-t21 : tie.Need-add-t21
+add-t21 c =
     let at-measure-path = c .before .before .before .before in let measure-path = at-measure-path .measure-path in
     let at-part-at = at-measure-path .before .before .before .before .before .before in
     let at-pre = at-part-at .before .before .before .before .before in let pre = at-pre .pre in
@@ -78,8 +78,8 @@ measure-place-spec =
     part-measure-path-start
     part-measure-path-end
     measure-path-requires
+    add-t20
     add-t21
-    add-t22
     returns
     returns-2
     returns-3)

@@ -2,7 +2,7 @@
 use borrow.Author.Needs.{needs}
 use native.Mathlib.Omega.{arith}
 use Prim.Native.Nat.{_-_, _*_, _≤_}
-use Rattle.judge_report.specs.Codes.{says-none}
+use Rattle.judge_report.specs.Marks.{says-none}
 use Rattle.judge_report.specs.Paths.{Measuring, measuring-start, measuring-on, measuring-done}
 use Rattle.judge_report.proofs.report_of.Statement.{statement}
 use Rattle.judge_report.proofs.report_of.Tie as tie
@@ -23,12 +23,6 @@ mul-measure-place c = search needs
 array-copy-out-measure-place : tie.Need-array-copy-out-measure-place Inv-loop μ-loop
 array-copy-out-measure-place c = search needs
 
-add-measure-place : tie.Need-add-measure-place Inv-loop μ-loop
-add-measure-place c = search needs
-
-cast-measure-place : tie.Need-cast-measure-place Inv-loop μ-loop
-cast-measure-place c = search needs
-
 measure-place-requires : tie.Need-measure-place-requires Inv-loop μ-loop
 measure-place-requires c κs = (omega arith, omega arith)
 
@@ -43,14 +37,14 @@ loop-again c = (
   omega arith,
   omega arith,
   omega arith,
-  measuring-on (c .before .before .before .before .loop .inv .3) (omega arith) (omega arith) (omega arith) (c .measure-place .ensures .0),
+  measuring-on (c .before .before .before .before .loop .inv .3) (omega arith) (c .measure-place .ensures .0),
 )
 
 count-knots-requires : tie.Need-count-knots-requires Inv-loop μ-loop
 count-knots-requires c κs = search needs
 
 returns : tie.Need-returns Inv-loop μ-loop
-returns c = measuring-done (c .before .before .loop .inv .3) (omega arith) (omega arith) says-none (c .count-knots .ensures .0)
+returns c = measuring-done (c .before .before .loop .inv .3) (omega arith) says-none (c .count-knots .ensures .0)
 
 pub report-of-spec : {M : Type 1} → statement M
 report-of-spec =
@@ -61,8 +55,6 @@ report-of-spec =
     loop-holds
     mul-measure-place
     array-copy-out-measure-place
-    add-measure-place
-    cast-measure-place
     measure-place-requires
     add-i
     loop-less
