@@ -81,8 +81,8 @@ uint32_t cidrask_route(const uint8_t *board, size_t board_length, uint8_t *buffe
 
 /* Reads a board and judges a list of routing words against it; the board may be odd or have overfull rows and columns.
  * Accepted: the list is the words of a routing of the board's nets. *first is the count of edges used, *second the count of turns (changes of
- * direction along paths), *third that of knock-knees: vertices where two turns occur, whether of two paths or of one. At no vertex do more than two
- * occur. Each such vertex counts once.
+ * direction along paths), *third that of knock-knees: vertices where two turns occur, whether of two paths or of one, each counted once. At no
+ * vertex do more than two turns occur.
  * Refused: *first is the place, *second and *third are 0.
  * Order: the board's 10 to 25 as above; the list's 10, 41; each word in turn through 42, 43; then path by path, each run's edges in turn through
  * 44, 45, and 46 after the last run. No other number comes. A word after the end gets 43 whatever it holds. */

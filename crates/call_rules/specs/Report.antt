@@ -42,18 +42,21 @@ turnsOfEach v [] dss = []
 turnsOfEach v (p ∷ ps) [] = []
 turnsOfEach v (p ∷ ps) (ds ∷ dss) = turnsAt v (p .first) ds ∷ turnsOfEach v ps dss
 
+abbrev pub total : List ℕ → ℕ
+total ns = tally (λ n. n) ns
+
 -- how many turns occur at v
 unfoldable pub turnsOccurring : Vertex → List Pair → List (List Direction) → ℕ
-turnsOccurring v ps dss = tally (λ n. n) (turnsOfEach v ps dss)
+turnsOccurring v ps dss = total (turnsOfEach v ps dss)
 
--- "A knock-knee is from now on a vertex where two turns occur, whether of two paths or of one. At no vertex can there be more than two."
+-- "A knock-knee is from now on a vertex where two turns occur, whether of two paths or of one."
 unfoldable pub knockKnee : List Pair → List (List Direction) → Vertex → Bool
 knockKnee ps dss v = ltb 1 (turnsOccurring v ps dss)
 
 unfoldable pub knockKnees : List Pair → List (List Direction) → ℕ
 knockKnees ps dss = length (select (knockKnee ps dss) readingOrder)
 
--- that sentence by its two cases, of how often each path turns at a vertex
+-- two turns "of two paths or of one", told by how often each path turns at a vertex
 pub data TwoTurns (ns : List ℕ) : Type 0 where
   ofOne : (i : ℕ) → getD ns i 0 ≡ 2 → TwoTurns ns
   ofTwo : (i j : ℕ) → i < j → getD ns i 0 ≡ 1 → getD ns j 0 ≡ 1 → TwoTurns ns

@@ -1,6 +1,7 @@
--- How many turns occur at a vertex, one path on; and where at most two do, a knock-knee is two turns of one path or one each of two.
--- Assumes nothing of the paths but, for the last, that at most two turns occur.
-use mathlib.Core.Path.{_≡_, refl, ap}
+-- How many turns occur at a vertex, one path on. Where at most two do, a knock-knee is two turns of one path or one each of two. What was a
+-- knock-knee by the rule before is one.
+-- Assumes nothing of the paths.
+use mathlib.Core.Path.{_≡_, refl}
 use mathlib.Core.Bool.{true}
 use mathlib.Core.List.{List, [], _∷_}
 use mathlib.Core.Logic.{inl, inr, _↔_}
@@ -10,13 +11,14 @@ use lib.Dec.{ltb}
 use lib.ListN.{length, getD}
 use borrow.Author.Tests.{lt-ltb, ltb-true}
 use Rattle.count.specs.TruthLaws.{bool}
-use Rattle.count.specs.Lists.{select, select-yes, select-no, tally}
+use Rattle.count.specs.Lists.{select, tally}
 use Rattle.board.specs.declared.Vertex.{Vertex}
 use Rattle.board.specs.declared.Direction.{Direction}
 use Rattle.net.specs.declared.Pair.{Pair}
 use Rattle.call_rules.specs.Report.{
   turnsAt,
   turnsOfEach,
+  total,
   turnsOccurring,
   knockKnee,
   TwoTurns,
@@ -41,10 +43,6 @@ unfolding turnsOccurring turnsOfEach tally
 occurring-more v p ps ds dss = refl
 
 -- ── of one path or of two ──
--- DEFINITION: the sum
-abbrev total : List ℕ → ℕ
-total ns = tally (λ n. n) ns
-
 later : {n : ℕ} {ns : List ℕ} → TwoTurns ns → TwoTurns (n ∷ ns)
 later (ofOne i h) = ofOne (suc i) h
 later (ofTwo i j l h k) = ofTwo (suc i) (suc j) (omega arith) h k

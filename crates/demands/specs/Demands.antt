@@ -9,7 +9,7 @@ use mathlib.Core.Bool.{Bool, true}
 use mathlib.Core.List.{List, [], _∷_, _++_}
 use mathlib.Core.Logic.{_↔_}
 use mathlib.Core.Option.{none, some}
-use Prim.Native.Nat.{ℕ, _+_, _/_, _%_, _≤_}
+use Prim.Native.Nat.{ℕ, _+_, _/_, _%_, _≤_, _<_}
 use lib.ListN.{length, take}
 use Rattle.count.specs.Truth.{Decides}
 use Rattle.board.specs.Board.{Board, Within}
@@ -200,9 +200,11 @@ pub record Demand1 : Type 0 where
       × (Sound (sessionOf s) → ((WholeWords bs → ⊥) → judgementOf r ≡ no (refusal 10 0))
       × (WholeWords bs → Judges (sessionOf s) (wordsIn bs) (judgementOf r)))
   -- 02, §6: "A knock-knee is from now on a vertex where two turns occur, whether of two paths or of one. At no vertex can there be more than two."
+  -- The report counts them in lines and columns 0 to 31: within the limits there are no others
   pub two-turns : (s : machine.Session) (ws : List ℕ) (dss : List (List Direction)) → judged s ws ≡ yes dss → (v : Vertex)
       → (turnsOccurring v (pairs (s .nets)) dss ≤ 2)
       × ((knockKnee (pairs (s .nets)) dss v ≡ true) ↔ TwoTurns (turnsOfEach v (pairs (s .nets)) dss))
+      × (Within (s .block .board) → knockKnee (pairs (s .nets)) dss v ≡ true → (v .line < 32) × (v .column < 32))
   pub compare : (s : Session) (vs ws : List ℕ) (r : Likeness) → likenessOf r ≡ compareWords (sessionOf s) vs ws
       → (Unsound (sessionOf s) → likenessOf r ≡ no (refusal 20 0)) × (Sound (sessionOf s) → Compares (sessionOf s) vs ws (likenessOf r))
   pub compare-bytes : (s : Session) (one two : List ℕ) (r : Likeness) → likenessOf r ≡ compareBytes (sessionOf s) one two

@@ -1,14 +1,16 @@
 -- At no vertex do more than two turns of a routing occur: each turn has two edges that end there, at most four do, and no edge is used twice.
--- Assumes that the paths are a routing; so it holds of every list that passes.
+-- Where two do, all four are used, so that the vertex is one of those that the report counts.
+-- Assumes that the paths are a routing; so it holds of every list that passes. For the last, that the board is within the limits.
 use mathlib.Core.Path.{_≡_, refl, ap, sym, _∙_}
-use mathlib.Core.Bool.{true, false, cond}
+use mathlib.Core.Bool.{true, cond}
 use mathlib.Core.List.{List, [], _∷_, _++_, flatten}
 use mathlib.Core.Logic.{inl, inr, _↔_}
-use Prim.Native.Nat.{ℕ, _+_, _*_, _≤_}
+use Prim.Native.Nat.{ℕ, _+_, _*_, _≤_, _<_}
 use native.Mathlib.Omega.{arith}
+use borrow.Author.Tests.{ltb-true}
 use Rattle.count.specs.Truth.{one}
 use Rattle.count.specs.TruthLaws.{bool}
-use Rattle.board.specs.Board.{Board, Edge, IsEdge}
+use Rattle.board.specs.Board.{Board, Within, Edge, IsEdge}
 use Rattle.board.specs.Path.{next, along, turn, Path}
 use Rattle.board.specs.EdgesAt.{no-edge-in-place}
 use Rattle.board.specs.declared.Vertex.{Vertex}
@@ -26,6 +28,8 @@ use Rattle.call_rules.specs.Report.{turnsAt, turnsOfEach, turnsOccurring, knock
 use Rattle.call_rules.specs.ReportLaws.{occurring-no-pair, occurring-more, knock-knee-exact}
 use Rattle.call_rules.specs.Judge.{judged}
 use Rattle.judge_laws.specs.Walks.{uses-append}
+use Rattle.judge_laws.specs.Straight.{edge-spans}
+use Rattle.judge_laws.specs.Edges.{all-edges, joins-edges}
 use Rattle.judge_laws.specs.Exact.{passes-sound}
 use Rattle.judge_laws.specs.Loops.{back, step-back}
 
@@ -59,7 +63,7 @@ used-at v d = go d (ap one (same-edge-exact (along d v) (along d v) .1 refl))
     go Down e = omega arith
     go Left e = omega arith
 
--- an edge is one of them for each of its ends that v is
+-- an edge that ends at v is one of them
 used-step : (b : Board) (d : Direction) (u v : Vertex) → IsEdge b (along d u) → one (same u v) + one (same (next d u) v) ≤ usesAt v (along d u ∷ [])
 used-step b d u v h = elim (bool (same u v)) [
   | inl s ↦ elim (bool (same (next d u) v)) [
@@ -90,7 +94,7 @@ turn-at u v d e = elim (bool (same u v)) [
   | inr s ↦ rw s (omega arith)
 ]
 
--- and its first edge ends where it starts
+-- two for each turn at v, and one more where the path starts there
 path-turns : (b : Board) (v u : Vertex) (d : Direction) (ds : List Direction) (w : Vertex) → Path b u (d ∷ ds) w
     → 2 * turnsAt v u (d ∷ ds) + one (same u v) ≤ usesAt v (edgesFrom u (d ∷ ds))
 unfolding turnsAt edgesFrom
@@ -129,10 +133,32 @@ pub two-at-most : (b : Board) (ps : List Pair) (dss : List (List Direction)) →
 two-at-most b ps dss r v =
     omega (arith, all-few b v ps dss (r .joins), r .once (along Up v), r .once (along Right v), r .once (along Down v), r .once (along Left v))
 
+-- THE LAW: a knock-knee of a board within the limits is in lines and columns 0 to 31, the vertices that `knockKnees` counts
+pub knock-knee-counted : (b : Board) → Within b → (ps : List Pair) (dss : List (List Direction)) → Routing b ps dss → (v : Vertex)
+    → knockKnee ps dss v ≡ true → (v .line < 32) × (v .column < 32)
+unfolding knockKnee
+knock-knee-counted b w ps dss r v t =
+    let es = flatten (trails ps dss) in
+    let used : 0 < uses (along Down v) es =
+    omega (
+      arith,
+      all-few b v ps dss (r .joins),
+      ltb-true 1 (turnsOccurring v ps dss) t,
+      r .once (along Up v),
+      r .once (along Right v),
+      r .once (along Left v),
+    ) in
+    elim (edge-spans b w (along Down v) (all-edges b es (joins-edges b ps dss (r .joins)) (along Down v) used)) [
+      | inl a ↦ (omega (arith, a .line), omega (arith, a .column))
+      | inr a ↦ (omega (arith, a .line), omega (arith, a .column))
+    ]
+
 -- THE LAW: so it is in a list that passes, and its knock-knees are the vertices "where two turns occur, whether of two paths or of one"
 pub judged-two-turns : (s : Session) (ws : List ℕ) (dss : List (List Direction)) → judged s ws ≡ yes dss → (v : Vertex)
     → (turnsOccurring v (pairs (s .nets)) dss ≤ 2)
     × ((knockKnee (pairs (s .nets)) dss v ≡ true) ↔ TwoTurns (turnsOfEach v (pairs (s .nets)) dss))
+    × (Within (s .block .board) → knockKnee (pairs (s .nets)) dss v ≡ true → (v .line < 32) × (v .column < 32))
 judged-two-turns s ws dss e v =
-    let h = two-at-most (s .block .board) (pairs (s .nets)) dss (passes-sound s ws dss e .routing) v in
-    (h, knock-knee-exact (pairs (s .nets)) dss v h)
+    let ps = pairs (s .nets) in let r = passes-sound s ws dss e .routing in
+    let h = two-at-most (s .block .board) ps dss r v in
+    (h, knock-knee-exact ps dss v h, λ w. knock-knee-counted (s .block .board) w ps dss r v)

@@ -4,5 +4,5 @@ pub mod Reports
 pub mod Directions
 pub mod Marks
 pub mod Tracing
-pub mod Knots
+pub mod Knocks
 pub mod Paths

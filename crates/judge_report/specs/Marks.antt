@@ -15,11 +15,11 @@ mark-more zero = refl
 mark-more (suc zero) = refl
 mark-more (suc (suc n)) = refl
 
--- it tells whether two turns or more did
-pub mark-knot : (n : ℕ) → ltb 1 (markOf n) ≡ ltb 1 n
-mark-knot zero = refl
-mark-knot (suc zero) = refl
-mark-knot (suc (suc n)) = rw (lt-ltb 1 (suc (suc n)) (omega arith)) refl
+-- whether two turns or more occurred
+pub mark-knock : (n : ℕ) → ltb 1 (markOf n) ≡ ltb 1 n
+mark-knock zero = refl
+mark-knock (suc zero) = refl
+mark-knock (suc (suc n)) = rw (lt-ltb 1 (suc (suc n)) (omega arith)) refl
 
 pub says-none : Says (λ v. 0) (replicate 1024 0)
 says-none = record {

@@ -23,11 +23,11 @@ use Rattle.call_rules.specs.ReportLaws.{occurring-no-path, occurring-no-pair, o
 use Rattle.call_rules.specs.Judge.{pathsIn}
 use Rattle.judge_shape.specs.Moves.{nets-more, nets-none}
 use Rattle.judge_walk.specs.PartLaws.{Found, paths-out, paths-part}
-use Rattle.judge_report.specs.Traces.{knots}
-use Rattle.judge_report.specs.Knots.{vertexAt, knots-are}
+use Rattle.judge_report.specs.Traces.{knocksIn}
+use Rattle.judge_report.specs.Knocks.{vertexAt, knocks-are}
 use Rattle.judge_report.specs.Measures.{dirsOf, Says, Measured, left, turnsLeft, MeasuresPlace}
 use Rattle.judge_report.specs.Directions.{dirs-are}
-use Rattle.judge_report.specs.Marks.{mark-knot}
+use Rattle.judge_report.specs.Marks.{mark-knock}
 use Rattle.judge_report.specs.declared.Trace.{Trace}
 use Rattle.judge_report.specs.declared.Sum.{Sum}
 
@@ -117,7 +117,7 @@ measuring-on {nets} {ws} {a₀} {i} {s} {a} h l {r} {a'} p = rw (add-one i) (rec
 -- ── the report ──
 pub measuring-done : {nets : List Place} {ws a₀ : List ℕ} {i : ℕ} {s : Sum} {a : List ℕ} → Measuring nets ws a₀ i s a → length nets ≤ i
     → Says (λ v. 0) a₀
-    → {n : ℕ} → n ≡ knots a
+    → {n : ℕ} → n ≡ knocksIn a
     → record { edges = s .edges; turns = s .turns; knockKnees = n } ≡ reportOf (pairs (netsOf nets)) (pathsIn (pathsFrom 0 (netsOf nets) ws))
 unfolding edgesUsed turnsMade knockKnees knockKnee pathsFrom
 measuring-done {nets} {ws} {a₀} {i} {s} {a} h l y {n} k = λ j. record { edges = pe j; turns = pt j; knockKnees = pk j }
@@ -144,7 +144,7 @@ measuring-done {nets} {ws} {a₀} {i} {s} {a} h l y {n} k = λ j. record { edges
     at-index j q =
         let x : j / 32 * 32 + j % 32 ≡ j = omega arith in
         let c = m .1 .marks (j / 32) (j % 32) (omega arith) (omega arith) in
-        rw (x, all (vertexAt j)) at (ap (ltb 1) c ∙ mark-knot (m .0 (vertexAt j)))
+        rw (x, all (vertexAt j)) at (ap (ltb 1) c ∙ mark-knock (m .0 (vertexAt j)))
 
     pk : n ≡ knockKnees (pairs (netsOf nets)) dss
-    pk = k ∙ knots-are (knockKnee (pairs (netsOf nets)) dss) a (m .1 .long) at-index
+    pk = k ∙ knocks-are (knockKnee (pairs (netsOf nets)) dss) a (m .1 .long) at-index

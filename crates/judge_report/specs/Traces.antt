@@ -74,6 +74,6 @@ unfoldable pub markRun : Trace → Run → List ℕ → List ℕ
 markRun t r a = cond (ltb 0 (turnBy (t .last) r)) (markAt (t .line) (t .column) a) a
 
 -- how many marks say that two turns or more occurred
-unfoldable pub knots : List ℕ → ℕ
-knots [] = 0
-knots (m ∷ ms) = one (ltb 1 m) + knots ms
+unfoldable pub knocksIn : List ℕ → ℕ
+knocksIn [] = 0
+knocksIn (m ∷ ms) = one (ltb 1 m) + knocksIn ms

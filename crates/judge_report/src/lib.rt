@@ -22,7 +22,7 @@ ghost use Rattle.judge_report.specs.Traces.{
   marked,
   markAt,
   markRun,
-  knots,
+  knocksIn,
 };
 use board::Direction;
 use board::Vertex;
@@ -168,21 +168,21 @@ fn mark_run(t: Trace, run: Run, marks: &mut [u8; 1024])
 }
 
 // 1 where a mark says two turns or more.
-fn knot_of(m: u8) -> u32
+fn knock_of(m: u8) -> u32
     ensures { λ r. ⌜ r ≡ one (ltb 1 m) ⌝ }
     ensures { λ r. ⌜ r ≤ 1 ⌝ }
 {
     if 2 <= m { 1 } else { 0 }
 }
 
-// How many marks say that.
-fn count_knots(marks: [u8; 1024]) -> u32
-    ensures { λ r. ⌜ r ≡ knots marks ⌝ }
+// How many marks say two turns or more.
+fn count_knocks(marks: [u8; 1024]) -> u32
+    ensures { λ r. ⌜ r ≡ knocksIn marks ⌝ }
     ensures { λ r. ⌜ r ≤ 1024 ⌝ }
 {
     let mut n: u32 = 0;
     for i in 0..1024 {
-        n += knot_of(marks[i]);
+        n += knock_of(marks[i]);
     }
     n
 }
@@ -252,6 +252,6 @@ pub fn report_of(nets: [Place; 64], words: &[u32]) -> Report
     Report {
         edges: sum.edges,
         turns: sum.turns,
-        knocks: count_knots(marks),
+        knocks: count_knocks(marks),
     }
 }

@@ -262,18 +262,18 @@ turns-twice : reports 2 (net 1 0 1 1 2 ∷ []) ((Down ∷ Left ∷ Down ∷ Righ
 unfolding everything
 turns-twice = refl
 
--- that passes it twice, straight on
+-- a net that passes (1,1) twice, straight on
 goes-straight : reports 2 (net 1 0 1 1 2 ∷ []) ((Down ∷ Down ∷ Left ∷ Up ∷ Right ∷ Right ∷ []) ∷ [])
     ≡ (yes (record { edges = 6; turns = 3; knockKnees = 0 }), 0)
 unfolding everything
 goes-straight = refl
 
--- that turns there once, and nothing else does
+-- a net that turns there once, and no other does
 turns-once : reports 2 (net 1 0 1 1 2 ∷ []) ((Down ∷ Right ∷ []) ∷ []) ≡ (yes (record { edges = 2; turns = 1; knockKnees = 0 }), 0)
 unfolding everything
 turns-once = refl
 
--- the nets of case i, and the same joined the other way round
+-- the nets of case i by way of (1,1), and by way of two corners
 two-nets : (reports 2 netsI ((Down ∷ Left ∷ []) ∷ (Left ∷ Down ∷ []) ∷ []) ≡ (yes (record { edges = 4; turns = 2; knockKnees = 1 }), 1))
     × (reports 2 netsI ((Left ∷ Down ∷ []) ∷ (Down ∷ Left ∷ []) ∷ []) ≡ (yes (record { edges = 4; turns = 2; knockKnees = 0 }), 0))
 unfolding everything

@@ -40,11 +40,11 @@ loop-again c = (
   measuring-on (c .before .before .before .before .loop .inv .3) (omega arith) (c .measure-place .ensures .0),
 )
 
-count-knots-requires : tie.Need-count-knots-requires Inv-loop μ-loop
-count-knots-requires c κs = search needs
+count-knocks-requires : tie.Need-count-knocks-requires Inv-loop μ-loop
+count-knocks-requires c κs = search needs
 
 returns : tie.Need-returns Inv-loop μ-loop
-returns c = measuring-done (c .before .before .loop .inv .3) (omega arith) says-none (c .count-knots .ensures .0)
+returns c = measuring-done (c .before .before .loop .inv .3) (omega arith) says-none (c .count-knocks .ensures .0)
 
 pub report-of-spec : {M : Type 1} → statement M
 report-of-spec =
@@ -59,5 +59,5 @@ report-of-spec =
     add-i
     loop-less
     loop-again
-    count-knots-requires
+    count-knocks-requires
     returns)

@@ -14,15 +14,15 @@ use Rattle.count.specs.Lists.{rising, upTo, select}
 use Rattle.board.specs.Board.{at}
 use Rattle.board.specs.declared.Vertex.{Vertex}
 use Rattle.cut.specs.Odd.{readingOrder}
-use Rattle.judge_report.specs.Traces.{knots}
+use Rattle.judge_report.specs.Traces.{knocksIn}
 
-pub knots-more : (a : List ℕ) (i : ℕ) → i < length a → knots (drop i a) ≡ one (ltb 1 (getD a i 0)) + knots (drop (i + 1) a)
-unfolding knots
-knots-more a i h = rw (add-one i, drop-cons a i 0 h) refl
+pub knocks-more : (a : List ℕ) (i : ℕ) → i < length a → knocksIn (drop i a) ≡ one (ltb 1 (getD a i 0)) + knocksIn (drop (i + 1) a)
+unfolding knocksIn
+knocks-more a i h = rw (add-one i, drop-cons a i 0 h) refl
 
-pub knots-none : (a : List ℕ) (i : ℕ) → length a ≤ i → knots (drop i a) ≡ 0
-unfolding knots
-knots-none a i h = rw (drop-of-length-le a h) refl
+pub knocks-none : (a : List ℕ) (i : ℕ) → length a ≤ i → knocksIn (drop i a) ≡ 0
+unfolding knocksIn
+knocks-none a i h = rw (drop-of-length-le a h) refl
 
 -- ── the vertices by their index ──
 abbrev pub vertexAt : ℕ → Vertex
@@ -40,21 +40,21 @@ length-select {A} p x xs = go (p x) (select p xs)
     go true ys = omega arith
     go false ys = omega arith
 
-knots-from : (p : Vertex → Bool) (i : ℕ) (a : List ℕ) → ((j : ℕ) → j < length a → ltb 1 (getD a j 0) ≡ p (vertexAt (i + j)))
-    → knots a ≡ length (select p (map vertexAt (rising i (length a))))
-unfolding knots select
-knots-from p i [] h = refl
-knots-from p i (m ∷ ms) h =
+knocks-from : (p : Vertex → Bool) (i : ℕ) (a : List ℕ) → ((j : ℕ) → j < length a → ltb 1 (getD a j 0) ≡ p (vertexAt (i + j)))
+    → knocksIn a ≡ length (select p (map vertexAt (rising i (length a))))
+unfolding knocksIn select
+knocks-from p i [] h = refl
+knocks-from p i (m ∷ ms) h =
     let e : i + 0 ≡ i = omega arith in
     let f : ltb 1 m ≡ p (vertexAt i) = rw e at (h 0 (omega arith)) in
-    let r : knots ms ≡ length (select p (map vertexAt (rising (suc i) (length ms)))) =
-    knots-from p (suc i) ms (λ j k. let g : i + suc j ≡ suc i + j = omega arith in rw g at (h (suc j) (omega arith))) in
+    let r : knocksIn ms ≡ length (select p (map vertexAt (rising (suc i) (length ms)))) =
+    knocks-from p (suc i) ms (λ j k. let g : i + suc j ≡ suc i + j = omega arith in rw g at (h (suc j) (omega arith))) in
     let q = length-select p (vertexAt i) (map vertexAt (rising (suc i) (length ms))) in
     omega (arith, ap one f)
 
 -- the marks that say two turns, where they say it just of the vertices that pass a test
-pub knots-are : (p : Vertex → Bool) (a : List ℕ) → length a ≡ 1024 → ((j : ℕ) → j < 1024 → ltb 1 (getD a j 0) ≡ p (vertexAt j))
-    → knots a ≡ length (select p readingOrder)
-knots-are p a l h =
-    let r = knots-from p 0 a (λ j k. let g : 0 + j ≡ j = omega arith in rw g (h j (omega arith))) in
+pub knocks-are : (p : Vertex → Bool) (a : List ℕ) → length a ≡ 1024 → ((j : ℕ) → j < 1024 → ltb 1 (getD a j 0) ≡ p (vertexAt j))
+    → knocksIn a ≡ length (select p readingOrder)
+knocks-are p a l h =
+    let r = knocks-from p 0 a (λ j k. let g : 0 + j ≡ j = omega arith in rw g (h j (omega arith))) in
     r ∙ rw (l, reading-by-index) refl

@@ -1,9 +1,9 @@
--- `knot_of` is 1 where the mark says two turns.
+-- `knock_of` is 1 where the mark says two turns.
 use mathlib.Core.Path.{refl}
 use native.Mathlib.Omega.{arith}
 use borrow.Author.Tests.{lt-ltb, le-ltb}
-use Rattle.judge_report.proofs.knot_of.Statement.{statement}
-use Rattle.judge_report.proofs.knot_of.Tie as tie
+use Rattle.judge_report.proofs.knock_of.Statement.{statement}
+use Rattle.judge_report.proofs.knock_of.Tie as tie
 
 returns : tie.Need-returns
 returns c = (rw (lt-ltb 1 (c .before .args .m) (omega arith)) refl, omega arith)
@@ -11,5 +11,5 @@ returns c = (rw (lt-ltb 1 (c .before .args .m) (omega arith)) refl, omega arith)
 returns-2 : tie.Need-returns-2
 returns-2 c = (rw (le-ltb 1 (c .before .args .m) (omega arith)) refl, omega arith)
 
-pub knot-of-spec : {M : Type 1} → statement M
-knot-of-spec = tie.close (tie.spec returns returns-2)
+pub knock-of-spec : {M : Type 1} → statement M
+knock-of-spec = tie.close (tie.spec returns returns-2)
