@@ -384,13 +384,13 @@ demand-1 = record {
             let g = f ∙ sound-then m (ifEven bs x) S in
             (λ n. g ∙ uneven-first bs x n, λ h. judges m (wordsIn bs) (judgementOf r) (g ∙ even-then bs x h)),
       );
+  two-turns = judged-two-turns;
   compare = λ s vs ws r e.
       let m = sessionOf s in let f = e ∙ compare-is m vs ws in
       (λ n. f ∙ unsound-first m _ n, λ S. compares m vs ws (likenessOf r) (f ∙ sound-then m _ S));
   compare-bytes = λ s one two r e.
       let m = sessionOf s in let f = e ∙ compare-bytes-is m one two in
       (λ n. f ∙ unsound-first m _ n, λ S. compares-bytes m one two (likenessOf r) (f ∙ sound-then m _ S));
-  two-turns = judged-two-turns;
   were-alike = λ s vs ws dss ess e f h. judged-equally-many s vs ws dss ess e f h;
   route-rightly = λ s before r after R S long. history.words-both (sessionOf s) S long R;
   route-bytes-rightly = λ s before r after R S long. history.bytes-both (sessionOf s) S long R;

@@ -1,6 +1,6 @@
 -- At no vertex do more than two turns of a routing occur: each turn has two edges that end there, at most four do, and no edge is used twice.
 -- Where two do, all four are used, so that the vertex is one of those that the report counts.
--- Assumes that the paths are a routing; so it holds of every list that passes. For the last, that the board is within the limits.
+-- Assumes that the paths are a routing; so it holds of every list that passes. What is counted assumes that the board is within the limits.
 use mathlib.Core.Path.{_≡_, refl, ap, sym, _∙_}
 use mathlib.Core.Bool.{true, cond}
 use mathlib.Core.List.{List, [], _∷_, _++_, flatten}
@@ -37,10 +37,6 @@ use Rattle.judge_laws.specs.Loops.{back, step-back}
 -- DEFINITION: how often the four edges at v are used in a list
 abbrev usesAt : Vertex → List Edge → ℕ
 usesAt v es = (uses (along Up v) es + uses (along Right v) es) + (uses (along Down v) es + uses (along Left v) es)
-
-uses-more : (v : Vertex) (e : Edge) (es : List Edge) → usesAt v (e ∷ es) ≡ usesAt v (e ∷ []) + usesAt v es
-unfolding uses
-uses-more v e es = omega arith
 
 uses-join : (v : Vertex) (es fs : List Edge) → usesAt v (es ++ fs) ≡ usesAt v es + usesAt v fs
 uses-join v es fs =
@@ -102,7 +98,7 @@ path-turns b v u d [] w p = omega (arith, used-step b d u v (p .0))
 path-turns b v u d (e ∷ ds) w p =
     omega (
       arith,
-      uses-more v (along d u) (edgesFrom (next d u) (e ∷ ds)),
+      uses-join v (along d u ∷ []) (edgesFrom (next d u) (e ∷ ds)),
       used-step b d u v (p .0),
       turn-at (next d u) v d e,
       path-turns b v (next d u) e ds w (p .1),
@@ -153,7 +149,7 @@ knock-knee-counted b w ps dss r v t =
       | inr a ↦ (omega (arith, a .line), omega (arith, a .column))
     ]
 
--- THE LAW: so it is in a list that passes, and its knock-knees are the vertices "where two turns occur, whether of two paths or of one"
+-- THE LAW: all this of a list that passes; its knock-knees are the vertices "where two turns occur, whether of two paths or of one"
 pub judged-two-turns : (s : Session) (ws : List ℕ) (dss : List (List Direction)) → judged s ws ≡ yes dss → (v : Vertex)
     → (turnsOccurring v (pairs (s .nets)) dss ≤ 2)
     × ((knockKnee (pairs (s .nets)) dss v ≡ true) ↔ TwoTurns (turnsOfEach v (pairs (s .nets)) dss))

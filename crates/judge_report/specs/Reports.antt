@@ -1,4 +1,4 @@
--- Definitions only: the report of document 01 that a value of the code stands for. Nothing is proved here.
+-- Definitions only: the report that a value of the code stands for. Nothing is proved here.
 use Rattle.call_rules.specs.Report as calls
 use Rattle.judge_report.specs.declared.Report.{Report}
 

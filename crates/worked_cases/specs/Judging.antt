@@ -17,7 +17,7 @@ use Rattle.words.specs.RoutingWord.{routingWords}
 use Rattle.words.specs.Bytes.{bytesOf}
 use Rattle.session_rules.specs.Session.{Session, withNets, pairs}
 use Rattle.call_rules.specs.Result.{Result, yes, andThen}
-use Rattle.call_rules.specs.Report.{Report, knockKneeOfNets}
+use Rattle.call_rules.specs.Report.{Report, knockKnees, knockKneeOfNets}
 use Rattle.call_rules.specs.Alike.{equallyMany}
 use Rattle.call_rules.specs.Judge.{judged, judgeWords, compareWords, judgeBytes, compareBytes}
 use Rattle.worked_cases.specs.Everything.{everything}
@@ -284,3 +284,8 @@ both-kinds : reports 3 (net 1 0 1 2 2 ∷ net 2 0 2 1 3 ∷ []) ((Down ∷ Left 
     ≡ (yes (record { edges = 9; turns = 7; knockKnees = 2 }), 1)
 unfolding everything
 both-kinds = refl
+
+-- the last vertex of the largest board at which paths can turn twice is counted
+last-vertex : knockKnees (pairs (net 1 31 30 30 31 ∷ [])) ((Up ∷ Left ∷ Up ∷ Right ∷ Down ∷ Right ∷ []) ∷ []) ≡ 1
+unfolding everything
+last-vertex = refl

@@ -1,4 +1,4 @@
--- `report_of` gives the report of document 01. The invariant: the first i places are measured.
+-- `report_of` gives the report on a list's paths. The invariant: the first i places are measured.
 use borrow.Author.Needs.{needs}
 use native.Mathlib.Omega.{arith}
 use Prim.Native.Nat.{_-_, _*_, _≤_}
