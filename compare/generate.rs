@@ -488,7 +488,7 @@ pub fn trails(random: &mut Random, board: &Board) -> Option<Vec<Vec<usize>>> {
 
 /// The paths with a loop laid on one of them along free edges, so that it turns twice at the vertex where the loop begins and ends.
 /// None where there is no room for one.
-pub fn touching(random: &mut Random, board: &Board, paths: &[Vec<usize>]) -> Option<Vec<Vec<usize>>> {
+pub fn loop_laid_on(random: &mut Random, board: &Board, paths: &[Vec<usize>]) -> Option<Vec<Vec<usize>>> {
     let (mut used, mut inner) = (HashSet::new(), Vec::new());
     for (index, (net, path)) in board.nets.iter().zip(paths).enumerate() {
         let mut at = net.first;
@@ -506,9 +506,9 @@ pub fn touching(random: &mut Random, board: &Board, paths: &[Vec<usize>]) -> Opt
         touching_loop(random, board, &used, at, around).map(|more| (index, steps, more))
     };
     let (index, steps, more) = inner.into_iter().find_map(&mut loop_there)?;
-    let mut touching = paths.to_vec();
-    touching[index].splice(steps..steps, more);
-    Some(touching)
+    let mut longer = paths.to_vec();
+    longer[index].splice(steps..steps, more);
+    Some(longer)
 }
 
 /// A loop from a vertex to itself along free edges, for a path that comes and leaves in these two directions: it turns into the loop and out of it.

@@ -621,12 +621,12 @@ fn walk(board: &Board, words: &[u32], parts: &[Part], each: &mut dyn FnMut(&Net,
             return refuse(46, part.path);
         }
     }
-    knock_knees(&mut report, turning);
+    count_turns(&mut report, turning);
     Ok(report)
 }
 
 /// What occurs at the vertices where paths turn; each turn is given by its vertex and its net.
-fn knock_knees(report: &mut Report, mut turning: Vec<(Vertex, u32)>) {
+fn count_turns(report: &mut Report, mut turning: Vec<(Vertex, u32)>) {
     turning.sort();
     for turns in turning.chunk_by(|a, b| a.0 == b.0) {
         report.knock_knees += (turns.len() > 1) as u32;

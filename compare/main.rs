@@ -298,8 +298,8 @@ impl Run {
     fn with_loops(&mut self, random: &mut Random, board: &Board, words: Vec<u32>) -> Vec<u32> {
         let (mut paths, mut loops) = (steps_of(&words), 0);
         for _ in 0..1 + random.below(3) {
-            let Some(touching) = touching(random, board, &paths) else { break };
-            (paths, loops) = (touching, loops + 1);
+            let Some(longer) = loop_laid_on(random, board, &paths) else { break };
+            (paths, loops) = (longer, loops + 1);
         }
         if loops == 0 {
             return words;
@@ -625,12 +625,13 @@ fn print_run(run: &Run) {
     println!("refusal 22: {} (13 comes before it)", run.refused(22));
 }
 
-/// How many lists have a vertex where one net turns twice. A list with a vertex of more turns has ended the run.
+/// How many lists that passed have a vertex where one net turns twice; a list that was judged twice counts twice. A list with a vertex of more turns
+/// has ended the run.
 fn print_turned_twice(parts: &str, runs: &[&Run]) {
     let sum = |count: &dyn Fn(&Run) -> u64| runs.iter().map(|run| count(run)).sum::<u64>();
     let (passed, lists, vertices) = (sum(&|run| run.passed), sum(&|run| run.lists_turned_twice), sum(&|run| run.turned_twice));
-    println!("{parts}: {lists} of the {passed} lists that passed have a vertex where one net turns twice, {vertices} such vertices in all;");
-    println!("no list that passed has a vertex with more than two turns");
+    println!("{parts}: {passed} lists passed, {lists} of them with a vertex where one net turns twice, {vertices} such vertices in all;");
+    println!("none of them has a vertex with more than two turns (a list that was judged twice counts twice)");
 }
 
 /// Parts c, d and f: small boards through the exhaustive router.
@@ -663,7 +664,7 @@ fn whole(run: &mut Run) {
         std::process::exit(1);
     };
     odd::print_34([run, &other]);
-    print_turned_twice("all parts", &[run, &compared, &other]);
+    print_turned_twice("parts a to f", &[run, &compared, &other]);
     println!("no difference");
 }
 

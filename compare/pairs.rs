@@ -226,7 +226,7 @@ impl Run {
         for (kind, made_for) in TRUE_PAIRS {
             let Some(other) = other_paths(&mut random, kind, &board, &paths) else { continue };
             let mut lists = [bytes_of(&words), bytes_of(&routing_words(&board, &other))];
-            // The first pair's is the first list itself.
+            // In the first pair the second list is the first once more, so that it is judged too.
             self.judge(&bytes, &lists[1]);
             if random.one_in(2) {
                 lists.swap(0, 1);

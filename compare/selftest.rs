@@ -8,7 +8,7 @@ mod generate;
 mod independent;
 
 use exhaustive::{route, Answer};
-use generate::{convex_rows, mirrored, odd_nets, stepped_rows, touching, trails, true_board, turned, Care, Random};
+use generate::{convex_rows, loop_laid_on, mirrored, odd_nets, stepped_rows, trails, true_board, turned, Care, Random};
 use independent::*;
 use std::collections::BTreeMap;
 
@@ -181,7 +181,7 @@ fn reports_on_trails() -> (usize, usize) {
         let board = true_board(&mut random, (size, size));
         let Some(mut paths) = trails(&mut random, &board) else { continue };
         if random.one_in(2) {
-            paths = touching(&mut random, &board, &paths).unwrap_or(paths);
+            paths = loop_laid_on(&mut random, &board, &paths).unwrap_or(paths);
         }
         let due = report_by_steps(&board, &paths);
         assert!(due.most_turns <= 2);

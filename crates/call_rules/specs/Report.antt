@@ -42,6 +42,7 @@ turnsOfEach v [] dss = []
 turnsOfEach v (p ∷ ps) [] = []
 turnsOfEach v (p ∷ ps) (ds ∷ dss) = turnsAt v (p .first) ds ∷ turnsOfEach v ps dss
 
+-- the sum of these
 abbrev pub total : List ℕ → ℕ
 total ns = tally (λ n. n) ns
 

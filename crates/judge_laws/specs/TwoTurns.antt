@@ -48,7 +48,7 @@ uses-join v es fs =
       uses-append (along Left v) es fs,
     )
 
--- each of the four is one of them
+-- the edge at v in any direction, used once: at least one use of the four
 used-at : (v : Vertex) (d : Direction) → 1 ≤ usesAt v (along d v ∷ [])
 unfolding uses
 used-at v d = go d (ap one (same-edge-exact (along d v) (along d v) .1 refl))
@@ -59,7 +59,7 @@ used-at v d = go d (ap one (same-edge-exact (along d v) (along d v) .1 refl))
     go Down e = omega arith
     go Left e = omega arith
 
--- an edge that ends at v is one of them
+-- an edge of the board, used once: at least one use of the four for its end that is v
 used-step : (b : Board) (d : Direction) (u v : Vertex) → IsEdge b (along d u) → one (same u v) + one (same (next d u) v) ≤ usesAt v (along d u ∷ [])
 used-step b d u v h = elim (bool (same u v)) [
   | inl s ↦ elim (bool (same (next d u) v)) [
@@ -90,7 +90,7 @@ turn-at u v d e = elim (bool (same u v)) [
   | inr s ↦ rw s (omega arith)
 ]
 
--- two for each turn at v, and one more where the path starts there
+-- a path: at least two uses of the four for each of its turns at v, and one more where it starts there
 path-turns : (b : Board) (v u : Vertex) (d : Direction) (ds : List Direction) (w : Vertex) → Path b u (d ∷ ds) w
     → 2 * turnsAt v u (d ∷ ds) + one (same u v) ≤ usesAt v (edgesFrom u (d ∷ ds))
 unfolding turnsAt edgesFrom

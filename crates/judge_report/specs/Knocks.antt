@@ -1,4 +1,4 @@
--- The marks of two turns, counted over an array and over the vertices in reading order.
+-- The marks of two turns or more, counted over an array and over the vertices in reading order.
 -- Assumes nothing.
 use mathlib.Core.Path.{_≡_, refl, ap, _∙_}
 use mathlib.Core.Bool.{Bool, true, false, cond}
@@ -52,7 +52,7 @@ knocks-from p i (m ∷ ms) h =
     let q = length-select p (vertexAt i) (map vertexAt (rising (suc i) (length ms))) in
     omega (arith, ap one f)
 
--- the marks that say two turns, where they say it just of the vertices that pass a test
+-- the marks that say two turns or more, where they say it just of the vertices that pass a test
 pub knocks-are : (p : Vertex → Bool) (a : List ℕ) → length a ≡ 1024 → ((j : ℕ) → j < 1024 → ltb 1 (getD a j 0) ≡ p (vertexAt j))
     → knocksIn a ≡ length (select p readingOrder)
 knocks-are p a l h =

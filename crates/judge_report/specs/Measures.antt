@@ -51,7 +51,7 @@ left ns ws i = pathsIn (pathsFrom i ns (drop i ws))
 abbrev pub turnsLeft : Vertex → List Net → List ℕ → ℕ → ℕ
 turnsLeft v ns ws i = turnsOccurring v (pairs ns) (left ns ws i)
 
--- the sum s and the marks a before the place of a net k, and the sum r and the marks a' after it
+-- the sum s and the marks a before a place, whatever the number k of its net, and the sum r and the marks a' after it
 pub record MeasuresPlace (held : Held) (ws : List ℕ) (s : Sum) (a : List ℕ) (r : Sum) (a' : List ℕ) : Type 0 where
   pub edges : (k : ℕ) (ns : List Net) → s .edges + edgesUsed (left (heldNet k held ns) ws (s .at)) ≡ r .edges + edgesUsed (left ns ws (r .at))
   pub turned : (k : ℕ) (ns : List Net) → s .turns + turnsMade (left (heldNet k held ns) ws (s .at)) ≡ r .turns + turnsMade (left ns ws (r .at))

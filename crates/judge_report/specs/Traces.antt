@@ -71,7 +71,7 @@ abbrev pub markAt : (line column : ℕ) → List ℕ → List ℕ
 markAt l c a = changedAt marked l c a
 
 unfoldable pub markRun : Trace → Run → List ℕ → List ℕ
-markRun t r a = cond (ltb 0 (turnBy (t .last) r)) (markAt (t .line) (t .column) a) a
+markRun t r a = cond (eqb (turnBy (t .last) r) 1) (markAt (t .line) (t .column) a) a
 
 -- how many marks say that two turns or more occurred
 unfoldable pub knocksIn : List ℕ → ℕ

@@ -39,7 +39,7 @@ turn-one (Was e) r = go (ltb 0 (r .length) && not (eqb (number e) (number (r .di
 
 length-mark-run : (t : Trace) (r : Run) (a : List ℕ) → length (markRun t r a) ≡ length a
 unfolding markRun
-length-mark-run t r a = go (ltb 0 (turnBy (t .last) r))
+length-mark-run t r a = go (eqb (turnBy (t .last) r) 1)
   where
     go : (s : Bool) → length (cond s (markAt (t .line) (t .column) a) a) ≡ length a
     go true = length-changed marked (t .line) (t .column) a

@@ -162,7 +162,7 @@ fn mark_run(t: Trace, run: Run, marks: &mut [u8; 1024])
     ensures { λ r. ⌜ now (marks .exit) ≡ markRun t run (now (marks .entry)) ⌝ }
 {
     let last = t.last;
-    if 0 < turn_by(last, run) {
+    if turn_by(last, run) == 1 {
         mark_at(t.line, t.column, marks);
     }
 }

@@ -285,7 +285,7 @@ both-kinds : reports 3 (net 1 0 1 2 2 ∷ net 2 0 2 1 3 ∷ []) ((Down ∷ Left 
 unfolding everything
 both-kinds = refl
 
--- the last vertex of the largest board at which paths can turn twice is counted
+-- of the definition alone: the last vertex of the largest board at which a path can turn twice is counted
 last-vertex : knockKnees (pairs (net 1 31 30 30 31 ∷ [])) ((Up ∷ Left ∷ Up ∷ Right ∷ Down ∷ Right ∷ []) ∷ []) ≡ 1
 unfolding everything
 last-vertex = refl

@@ -1,4 +1,4 @@
--- `count_knocks` counts the marks of two turns. The invariant: the count and the marks from i on are all the marks.
+-- `count_knocks` counts the marks of two turns or more. The invariant: the count and the marks from i on are all the marks.
 use borrow.Author.Needs.{needs}
 use native.Mathlib.Omega.{arith}
 use mathlib.Core.Path.{_≡_}

@@ -1,4 +1,4 @@
--- `knock_of` is 1 where the mark says two turns.
+-- `knock_of` is 1 where the mark says two turns or more.
 use mathlib.Core.Path.{refl}
 use native.Mathlib.Omega.{arith}
 use borrow.Author.Tests.{lt-ltb, le-ltb}

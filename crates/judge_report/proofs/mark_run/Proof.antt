@@ -1,8 +1,7 @@
 -- `mark_run` marks the turn with which a run begins.
-use mathlib.Core.Path.{refl}
-use native.Mathlib.Omega.{arith}
-use borrow.Author.Tests.{lt-ltb, le-ltb}
-use Rattle.judge_report.specs.Traces.{turnBy, markRun}
+use mathlib.Core.Path.{refl, sym, _∙_}
+use borrow.Author.Tests.{eq-eqb, ne-eqb}
+use Rattle.judge_report.specs.Traces.{markRun}
 use borrow.Author.Needs.{needs}
 use Rattle.judge_report.proofs.mark_run.Statement.{statement}
 use Rattle.judge_report.proofs.mark_run.Tie as tie
@@ -15,16 +14,11 @@ mark-at-requires c κs = search needs
 
 returns : tie.Need-returns
 unfolding markRun
-returns c =
-    let at-turn-by = c .before .before .before in let turn-by = at-turn-by .turn-by in
-    let args = at-turn-by .before .args in
-    rw (lt-ltb 0 (turnBy (args .t .last) (args .run)) (omega (arith, turn-by .ensures .0))) (c .mark-at .ensures)
+returns c = rw (eq-eqb _ _ (sym (c .before .before .before .turn-by .ensures .0) ∙ c .before .before .if1 .taken)) (c .mark-at .ensures)
 
 returns-2 : tie.Need-returns-2
 unfolding markRun
-returns-2 c =
-    let args = c .before .before .args in
-    rw (le-ltb 0 (turnBy (args .t .last) (args .run)) (omega (arith, c .before .turn-by .ensures .0))) refl
+returns-2 c = rw (ne-eqb _ _ (λ e. c .if1 .left (c .before .turn-by .ensures .0 ∙ e))) refl
 
 pub mark-run-spec : {M : Type 1} → statement M
 mark-run-spec = tie.close (tie.spec turn-by-requires mark-at-requires returns returns-2)
