@@ -6,3 +6,4 @@ pub mod Adding
 pub mod AddingLaws
 pub mod Promise
 pub mod PromiseLaws
+pub mod ReadAs

@@ -19,7 +19,7 @@ use Rattle.call_rules.specs.Result.{no, yes}
 use Rattle.call_rules.specs.Reading.{boardLimit}
 use Rattle.call_rules.specs.Writing.{boardWords, writtenInto, writeBoard}
 use Rattle.board_writing.specs.Buffer.{Continues}
-use Rattle.board_writing.specs.BufferLaws.{store-next, stored-length}
+use Rattle.call_rules.specs.WritingLaws.{store-next, stored-length}
 use Rattle.board_writing.specs.Words.{rowWords, netWords}
 use Rattle.board_writing.specs.WordsLaws.{row-words-length, row-words-all, net-words-all, net-words-le}
 use Rattle.board_writing.specs.Promise.{WritePromise, WrittenWords}

@@ -6,7 +6,7 @@ use lib.ListN.{length}
 use Rattle.session_rules.specs.Refusal.{refusal}
 use Rattle.session_rules.specs.Session.{Session}
 use Rattle.call_rules.specs.Result.{Result, no, yes}
-use Rattle.call_rules.specs.Writing.{writtenInto, writeBoard, countOf, bufferAfter}
+use Rattle.call_rules.specs.Writing.{writtenInto, writeBoard, Writes}
 use Rattle.board_writing.specs.declared.WriteAnswer.{WriteAnswer}
 use Rattle.board_writing.specs.declared.WriteAnswer.the-variants as answer
 
@@ -17,9 +17,8 @@ writeAnswer answer.Unsound = no (refusal 20 0)
 writeAnswer answer.ShortBuffer = no (refusal 18 0)
 
 -- the answer and the buffer afterwards are the definition's
-pub record WritePromise (s : Session) (before : List ℕ) (r : WriteAnswer) (after : List ℕ) : Type 0 where
-  pub answers : writeAnswer r ≡ countOf (writeBoard s (length before))
-  pub buffer : after ≡ bufferAfter before (writeBoard s (length before))
+abbrev pub WritePromise : (s : Session) (before : List ℕ) (r : WriteAnswer) (after : List ℕ) → Type 0
+WritePromise s before r after = Writes (writeBoard s (length before)) before (writeAnswer r) after
 
 -- these words stand at the start of the buffer, and the answer is their count
 pub record WrittenWords (ws before after : List ℕ) (r : ℕ) : Type 0 where

@@ -2,6 +2,7 @@ pub mod Result
 pub mod Results
 pub mod Reading
 pub mod Writing
+pub mod WritingLaws
 pub mod Shape
 pub mod Walk
 pub mod Report

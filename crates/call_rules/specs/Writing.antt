@@ -1,4 +1,5 @@
 -- Definitions only: writing a session's board and nets as words (document 01, "Board words", refusal 18). Nothing is proved here.
+use mathlib.Core.Path.{_≡_}
 use mathlib.Core.Bool.{not}
 use mathlib.Core.List.{List, [], _∷_, _++_, map}
 use Prim.Native.Nat.{ℕ}
@@ -32,3 +33,8 @@ countOf (yes ws) = yes (length ws)
 abbrev pub bufferAfter : List ℕ → Result (List ℕ) → List ℕ
 bufferAfter buffer (no r) = buffer
 bufferAfter buffer (yes ws) = writtenInto buffer ws
+
+-- what a call that writes into a lent buffer promises, where x is what is written or the refusal: the count, or the refusal, and the buffer afterwards
+pub record Writes (x : Result (List ℕ)) (before : List ℕ) (answer : Result ℕ) (after : List ℕ) : Type 0 where
+  pub answers : answer ≡ countOf x
+  pub buffer : after ≡ bufferAfter before x

@@ -1,54 +1,37 @@
--- What reading hands back, as a result of the definition; and the calls in their parts.
+-- The calls in their parts: the board is read, then the call is made on the session.
 -- Assumes what reading, routing, judging and comparing promise.
 use mathlib.Core.Path.{_≡_, refl, ap, sym, _∙_}
 use mathlib.Core.Bool.{Bool}
 use mathlib.Core.List.{List}
-use mathlib.Core.Option.{none, some}
 use Prim.Native.Nat.{ℕ}
-use native.Mathlib.Omega.{arith}
-use Rattle.session_rules.specs.Refusal.{Refusal, refusal}
-use Rattle.session_rules.specs.Session.{Session}
+use Rattle.session_rules.specs.Refusal.{refusal}
 use Rattle.session.specs.View.{sessionOf}
 use Rattle.call_rules.specs.Result.{Result, no, yes}
-use Rattle.call_rules.specs.Reading.{readBytes, handedBack}
+use Rattle.call_rules.specs.Reading.{readBytes}
 use Rattle.call_rules.specs.Route.{RoutesBytes}
 use Rattle.call_rules.specs.Judge.{judgeBytes, compareBytes}
 use Rattle.call_rules.specs.Editor.{unread, read, editorJudge, editorAlike}
-use Rattle.board_reading.specs.Promise.{readAnswer, refusalIn, ReadPromise}
+use Rattle.board_reading.specs.Promise.{ReadPromise}
+use Rattle.board_reading.specs.ReadAs.{read-refused, read-accepted}
 use Rattle.board_reading.specs.declared.AfterRead.{AfterRead}
 use Rattle.board_reading.specs.declared.ReadAnswer.the-variants as answer
-use Rattle.cidrask.specs.Told.{tell, routeTold, judgeTold, alikeTold, RoutedAs}
-use Rattle.cidrask.specs.declared.Told.{Told}
+use Rattle.cidrask_told.specs.Told.{tell, countTold, judgeTold, alikeTold}
+use Rattle.cidrask_told.specs.declared.Told.{Told}
+use Rattle.cidrask.specs.Promise.{RoutedAs}
 
--- ── reading ──
-is-no : (x : Result Session) (r : Refusal) → some r ≡ refusalIn x → x ≡ no r
-is-no (no q) r e = cc
-is-no (yes s) r e = absurd (let z : _≡_ {A = ℕ} 0 1 = cc in omega arith)
-
-is-yes : (x : Result Session) → none ≡ refusalIn x → x ≡ yes (handedBack x)
-is-yes (no q) e = absurd (let z : _≡_ {A = ℕ} 0 1 = cc in omega arith)
-is-yes (yes s) e = refl
-
-pub read-refused : {x : Result Session} {r : AfterRead} → ReadPromise x r → (n p : ℕ) → r .answer ≡ answer.Refused n p → x ≡ no (refusal n p)
-read-refused {x} P n p e = is-no x (refusal n p) (sym (ap readAnswer e) ∙ P .answers)
-
-pub read-accepted : {x : Result Session} {r : AfterRead} → ReadPromise x r → r .answer ≡ answer.Accepted → x ≡ yes (sessionOf (r .session))
-read-accepted {x} P e = is-yes x (sym (ap readAnswer e) ∙ P .answers) ∙ ap yes (sym (P .session))
-
--- ── the calls ──
 pub routed-unread : {board before : List ℕ} {r : AfterRead} (n p : ℕ) → ReadPromise (readBytes board) r → r .answer ≡ answer.Refused n p
     → RoutedAs board before (tell n p 0 0) before
 routed-unread n p P e = record { result = no (refusal n p); routes = unread (read-refused P n p e); told = refl }
 
 pub routed-read : {board before after : List ℕ} {r : AfterRead} {a : Result ℕ} {t : Told} → ReadPromise (readBytes board) r
     → r .answer ≡ answer.Accepted
-    → RoutesBytes (sessionOf (r .session)) before a after → t ≡ routeTold a → RoutedAs board before t after
+    → RoutesBytes (sessionOf (r .session)) before a after → t ≡ countTold a → RoutedAs board before t after
 routed-read {a = a} P e R f = record { result = a; routes = read (read-accepted P e) R; told = f }
 
--- routing and comparing leave the third number 0
-pub route-third : (a : Result ℕ) → routeTold a .third ≡ 0
-route-third (yes n) = refl
-route-third (no r) = refl
+-- a count and comparing leave the third number 0
+pub count-third : (a : Result ℕ) → countTold a .third ≡ 0
+count-third (yes n) = refl
+count-third (no r) = refl
 
 pub alike-third : (x : Result Bool) → alikeTold x .third ≡ 0
 alike-third (yes t) = refl

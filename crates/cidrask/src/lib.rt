@@ -1,124 +1,10 @@
 // The layout editor's calls, for programs in C. editor/cidrask.h tells a caller how to use them.
 ghost use mathlib.Core.Path.{_≡_};
-ghost use Rattle.session_rules.specs.Refusal.{refusal};
-ghost use Rattle.call_rules.specs.Route.{overfullRefusal};
 ghost use Rattle.call_rules.specs.Editor.{editorJudge, editorAlike};
-ghost use Rattle.route_call.specs.Answers.{routeAnswer};
-ghost use Rattle.judge_call.specs.Answers.{judgementOf, likenessOf};
-ghost use Rattle.cidrask.specs.Told.{
-  refusedTold,
-  routeTold,
-  judgeTold,
-  alikeTold,
-  RoutedAs,
-  RoutePromise,
-  JudgePromise,
-  AlikePromise,
-};
+ghost use Rattle.cidrask_told.specs.Told.{judgeTold, alikeTold};
+ghost use Rattle.cidrask.specs.Promise.{RoutedAs, RoutePromise, JudgePromise, AlikePromise};
 use board_reading::ReadAnswer;
-use cut::Cut;
-use judge_call::Judgement;
-use judge_call::Likeness;
-use route_call::RouteAnswer;
-
-// The numbers by which a caller is told what came out.
-pub struct Told {
-    pub number: u32,
-    pub first: u64,
-    pub second: u64,
-    pub third: u64,
-}
-
-// A refusal with a place of one number.
-fn refused(number: u8, place: usize) -> Told
-    ensures { λ r. ⌜ r ≡ refusedTold (refusal number place) ⌝ }
-{
-    Told {
-        number: number as u32,
-        first: place as u64,
-        second: 0,
-        third: 0,
-    }
-}
-
-fn cut_told(x: Cut) -> Told
-    ensures { λ r. ⌜ r ≡ refusedTold (overfullRefusal x) ⌝ }
-{
-    match x {
-        Cut::Row(i) => Told {
-            number: 33,
-            first: 0,
-            second: i as u64,
-            third: 0,
-        },
-        Cut::Column(j) => Told {
-            number: 33,
-            first: 1,
-            second: j as u64,
-            third: 0,
-        },
-    }
-}
-
-fn route_told(answer: RouteAnswer) -> Told
-    ensures { λ r. ⌜ r ≡ routeTold (routeAnswer answer) ⌝ }
-{
-    match answer {
-        RouteAnswer::Routed(count) => Told {
-            number: 0,
-            first: count as u64,
-            second: 0,
-            third: 0,
-        },
-        RouteAnswer::Unsound => refused(20, 0),
-        RouteAnswer::ShortBuffer => refused(31, 0),
-        RouteAnswer::Odd(v) => Told {
-            number: 32,
-            first: v.line as u64,
-            second: v.column as u64,
-            third: 0,
-        },
-        RouteAnswer::Overfull(x) => cut_told(x),
-        RouteAnswer::NoRouting => refused(34, 0),
-    }
-}
-
-fn judge_told(judgement: Judgement) -> Told
-    ensures { λ r. ⌜ r ≡ judgeTold (judgementOf judgement) ⌝ }
-{
-    match judgement {
-        Judgement::Passed(report) => Told {
-            number: 0,
-            first: report.edges as u64,
-            second: report.turns as u64,
-            third: report.knocks as u64,
-        },
-        Judgement::Unsound => refused(20, 0),
-        Judgement::UnevenBytes => refused(10, 0),
-        Judgement::Refused(r) => refused(r.number, r.place as usize),
-    }
-}
-
-fn alike_told(likeness: Likeness) -> Told
-    ensures { λ r. ⌜ r ≡ alikeTold (likenessOf likeness) ⌝ }
-{
-    match likeness {
-        Likeness::Alike(alike) => Told {
-            number: 0,
-            first: board::bit(alike) as u64,
-            second: 0,
-            third: 0,
-        },
-        Likeness::Unsound => refused(20, 0),
-        Likeness::UnevenBytes => refused(10, 0),
-        Likeness::Refused(list, r) => Told {
-            number: r.number as u32,
-            first: list as u64,
-            second: r.place as u64,
-            third: 0,
-        },
-    }
-}
+use cidrask_told::Told;
 
 // The board is read first; a board that is refused leaves the buffer untouched.
 fn routed(board: &[u8], buffer: &mut [u8]) -> Told
@@ -127,8 +13,8 @@ fn routed(board: &[u8], buffer: &mut [u8]) -> Told
     let after = board_reading::read_bytes(board);
     let answer = after.answer;
     match answer {
-        ReadAnswer::Refused(number, place) => refused(number, place),
-        ReadAnswer::Accepted => route_told(route_call::route_bytes(after.session, buffer)),
+        ReadAnswer::Refused(number, place) => cidrask_told::refused(number, place),
+        ReadAnswer::Accepted => cidrask_told::route_told(route_call::route_bytes(after.session, buffer)),
     }
 }
 
@@ -138,8 +24,8 @@ fn judged(board: &[u8], list: &[u8]) -> Told
     let after = board_reading::read_bytes(board);
     let answer = after.answer;
     match answer {
-        ReadAnswer::Refused(number, place) => refused(number, place),
-        ReadAnswer::Accepted => judge_told(judge_call::judge_bytes(after.session, list)),
+        ReadAnswer::Refused(number, place) => cidrask_told::refused(number, place),
+        ReadAnswer::Accepted => cidrask_told::judge_told(judge_call::judge_bytes(after.session, list)),
     }
 }
 
@@ -149,8 +35,8 @@ fn compared(board: &[u8], one: &[u8], two: &[u8]) -> Told
     let after = board_reading::read_bytes(board);
     let answer = after.answer;
     match answer {
-        ReadAnswer::Refused(number, place) => refused(number, place),
-        ReadAnswer::Accepted => alike_told(judge_call::compare_bytes(after.session, one, two)),
+        ReadAnswer::Refused(number, place) => cidrask_told::refused(number, place),
+        ReadAnswer::Accepted => cidrask_told::alike_told(judge_call::compare_bytes(after.session, one, two)),
     }
 }
 

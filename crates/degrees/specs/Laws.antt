@@ -1,8 +1,7 @@
 -- A line of the drawing byte by byte, lines one below the other, and what reading answers as a drawing; what is drawn is of the four named kinds.
 -- Assumes what reading promises.
-use mathlib.Core.Path.{_≡_, refl, ap, sym, subst⁻¹, _∙_}
+use mathlib.Core.Path.{_≡_, ap, subst⁻¹, _∙_}
 use mathlib.Core.List.{List, [], _∷_, _++_, flatMap, append-assoc, append-nil}
-use mathlib.Core.Option.{none, some}
 use Prim.Native.Nat.{ℕ, zero, suc, _+_, _<_}
 use native.Mathlib.Numerals.{add-one}
 use native.Mathlib.Omega.{arith}
@@ -17,13 +16,12 @@ use Rattle.board.specs.View.{boardOf}
 use Rattle.board.specs.declared.Vertex.{Vertex}
 use Rattle.board_degree.specs.Kind.{kindOf, FallsUnderOne}
 use Rattle.board_degree.specs.Convex.{falls-under-one}
-use Rattle.session_rules.specs.Refusal.{refusal}
 use Rattle.session_rules.specs.Session.{Session}
-use Rattle.session.specs.View.{sessionOf}
-use Rattle.call_rules.specs.Result.{Result, no, yes}
-use Rattle.call_rules.specs.Reading.{readBytes, handedBack}
+use Rattle.call_rules.specs.Result.{yes}
+use Rattle.call_rules.specs.Reading.{readBytes}
 use Rattle.board_roundtrip.specs.RoundTrip.{read-bytes-sound}
-use Rattle.board_reading.specs.Promise.{readAnswer, refusalIn, ReadPromise}
+use Rattle.board_reading.specs.Promise.{ReadPromise}
+use Rattle.board_reading.specs.ReadAs.{read-refused, read-accepted}
 use Rattle.board_reading.specs.declared.AfterRead.{AfterRead}
 use Rattle.board_reading.specs.declared.ReadAnswer.the-variants as answer
 use Rattle.degrees.specs.Drawing.{signOf, signsOn, lineDrawn, boardDrawn, drawn, bytesDrawn}
@@ -64,22 +62,13 @@ put-line-more f n {j = j} {b = b} {d = d} P Q =
     subst⁻¹ (λ (t : List ℕ). Put t 0 b j d) more (put-then P Q)
 
 -- ── what reading answers ──
-drawn-no : (x : Result Session) (n p : ℕ) → some (refusal n p) ≡ refusalIn x → drawn x ≡ refusedLine n (p ∷ [])
-drawn-no (no q) n p e = let f : q ≡ refusal n p = cc in rw f refl
-drawn-no (yes s) n p e = absurd (let z : _≡_ {A = ℕ} 0 1 = cc in omega arith)
-
-drawn-yes : (x : Result Session) → none ≡ refusalIn x → drawn x ≡ boardDrawn (handedBack x .block .board)
-drawn-yes (no q) e = absurd (let z : _≡_ {A = ℕ} 0 1 = cc in omega arith)
-drawn-yes (yes s) e = refl
-
 pub refusal-drawn : (bytes : List ℕ) {r : AfterRead} (n p : ℕ) → ReadPromise (readBytes bytes) r → r .answer ≡ answer.Refused n p
     → bytesDrawn bytes ≡ refusedLine n (p ∷ [])
-refusal-drawn bytes n p P e = drawn-no (readBytes bytes) n p (sym (ap readAnswer e) ∙ P .answers)
+refusal-drawn bytes n p P e = ap drawn (read-refused P n p e)
 
 pub board-drawn : (bytes : List ℕ) {r : AfterRead} → ReadPromise (readBytes bytes) r → r .answer ≡ answer.Accepted
     → bytesDrawn bytes ≡ boardDrawn (boardOf (r .session .block .board))
-board-drawn bytes P e =
-    drawn-yes (readBytes bytes) (sym (ap readAnswer e) ∙ P .answers) ∙ ap (λ (s : Session). boardDrawn (s .block .board)) (sym (P .session))
+board-drawn bytes P e = ap drawn (read-accepted P e)
 
 -- every vertex that is drawn is of one of the four named kinds: no "t" comes
 pub named-kinds : (bytes : List ℕ) (s : Session) → readBytes bytes ≡ yes s → (v : Vertex) → IsVertex (s .block .board) v

@@ -60,8 +60,9 @@ use Rattle.judge_call.specs.declared.Likeness.{Likeness}
 use Rattle.judge_call.specs.Answers.{judgementOf, likenessOf}
 use Rattle.route_call.specs.declared.RouteAnswer.{RouteAnswer}
 use Rattle.route_call.specs.Answers.{routeAnswer}
-use Rattle.cidrask.specs.declared.Told.{Told}
-use Rattle.cidrask.specs.Told.{tell, firstOf, refusedTold, routeTold, RoutePromise, JudgePromise, AlikePromise}
+use Rattle.cidrask_told.specs.declared.Told.{Told}
+use Rattle.cidrask_told.specs.Told.{tell, firstOf, refusedTold, countTold}
+use Rattle.cidrask.specs.Promise.{RoutePromise, JudgePromise, AlikePromise}
 use Rattle.session_history.specs.Made.{Made, changed, routed, routedBytes, Meets, Chain, last, callsOf, answersOf}
 use Rattle.session_history.specs.Demand as history
 
@@ -244,7 +245,7 @@ pub record Demand1 : Type 0 where
   -- and that, of the answer a that C is told by its numbers
   pub c-route-rightly : (board before : List ℕ) (number first second : ℕ) (after : List ℕ) → RoutePromise board before number first second after
       → (s : machine.Session) → readBytes board ≡ yes s → routeRoom s ≤ length before / 4
-      → (a : Result ℕ) × (tell number first second 0 ≡ routeTold a) × history.RightlyBoth s a (HandsBackBytes s before after)
+      → (a : Result ℕ) × (tell number first second 0 ≡ countTold a) × history.RightlyBoth s a (HandsBackBytes s before after)
   pub c-judge : (board list : List ℕ) (number first second third : ℕ) → JudgePromise board list number first second third
       → ((q : Refusal) → readBytes board ≡ no q → tell number first second third ≡ refusedTold q)
       × ((s : machine.Session) → readBytes board ≡ yes s → TellsJudged s list (tell number first second third))

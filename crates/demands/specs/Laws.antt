@@ -1,7 +1,6 @@
 -- The demands are met.
 -- Assumes nothing but what Demands quantifies over: the promises of the calls.
-use mathlib.Core.Path.{_≡_, refl, ap, sym, _∙_, subst}
-use mathlib.Core.Bool.{Bool}
+use mathlib.Core.Path.{_≡_, refl, ap, sym, _∙_}
 use mathlib.Core.List.{List, [], _∷_}
 use mathlib.Core.Logic.{_↔_, inl, inr}
 use mathlib.Core.Option.{none, some}
@@ -9,13 +8,11 @@ use Prim.Native.Nat.{ℕ, _/_, _%_, _≤_}
 use native.Mathlib.Omega.{arith}
 use lib.Dec.{eqb}
 use lib.ListN.{length, take}
-use borrow.Author.Tests.{le-ltb, eq-eqb, ne-eqb, eqb-true}
+use borrow.Author.Tests.{le-ltb, eqb-true}
 use Rattle.count.specs.TruthLaws.{bool, not-true}
 use Rattle.board_block.specs.Block.{Block}
 use Rattle.board.specs.declared.Direction.{Direction}
 use Rattle.net.specs.declared.Net.{Net}
-use Rattle.routing_rules.specs.Routing.{Routable}
-use Rattle.corner.specs.Paths.{routing-routable, tidied}
 use Rattle.session_rules.specs.Refusal.{Refusal, refusal}
 use Rattle.session_rules.specs.Session as machine
 use Rattle.session_rules.specs.Session.{nothingKept, pairs}
@@ -33,29 +30,13 @@ use Rattle.session.specs.View.{sessionOf}
 use Rattle.session.specs.Value.{withEach, noneAdded, addAllOf}
 use Rattle.session.specs.declared.Session.{Session}
 use Rattle.words.specs.Bytes.{wordsIn}
-use Rattle.call_rules.specs.Result.{Result, no, yes, andThen}
+use Rattle.call_rules.specs.Result.{Result, no, yes}
 use Rattle.call_rules.specs.Reading.{boardLimit, readWords, readBytes, handedBack}
 use Rattle.call_rules.specs.Writing.{boardWords, writeBoard, countOf, bufferAfter}
 use Rattle.call_rules.specs.Report.{Report, reportOf}
-use Rattle.call_rules.specs.AlikeLaws.{alike-exact}
-use Rattle.call_rules.specs.Judge.{judged, ifSound, ifEven, judgeWords, ofList, alikeOn, compareWords, judgeBytes, compareBytes}
-use Rattle.call_rules.specs.Route.{
-  routeRoom,
-  routeRefused,
-  WhyRefused,
-  by-line,
-  none-exists,
-  HandsBack,
-  HandsBackBytes,
-  Routes,
-  RoutesBytes,
-  refused,
-  given,
-}
-use Rattle.call_rules.specs.Editor.{EditorRoutes, unread, read, editorJudge, editorAlike}
+use Rattle.call_rules.specs.Judge.{judged, ifEven}
 use Rattle.route_call.specs.Answers.{routeAnswer}
-use Rattle.cidrask.specs.Told.{tell, refusedTold, routeTold, judgeTold, alikeTold}
-use Rattle.cidrask.specs.declared.Told.{Told}
+use Rattle.cidrask_told.specs.Told.{tell, judgeTold}
 use Rattle.board_convex.specs.Exact.{is-convex}
 use Rattle.board_reading.specs.Promise.{readAnswer, refusalIn, ReadPromise}
 use Rattle.board_reading.specs.declared.AfterRead.{AfterRead}
@@ -65,26 +46,29 @@ use Rattle.judge_laws.specs.Exact.{passes-exactly}
 use Rattle.judge_laws.specs.Alike.{judged-equally-many}
 use Rattle.judge_laws.specs.TwoTurns.{judged-two-turns}
 use Rattle.board_roundtrip.specs.Parts.{asRead}
-use Rattle.board_roundtrip.specs.RoundTrip.{buffer-reads, read-written, read-bytes-sound, read-none-kept, read-bytes-none-kept}
+use Rattle.board_roundtrip.specs.RoundTrip.{buffer-reads, read-written, read-none-kept, read-bytes-none-kept}
 use Rattle.session_answers.specs.Answers.{addAnswer}
-use Rattle.session_history.specs.Demand.{RightlyBoth}
 use Rattle.session_history.specs.Routing as history
 use Rattle.session_history.specs.Listed as history-listed
 use Rattle.session_history.specs.Names as history-names
-use Rattle.demands.specs.Demands.{
-  Reads,
-  WholeWords,
-  Judges,
-  TellsJudged,
-  Compares,
-  ComparesBytes,
-  TellsCompared,
-  Decided,
-  Passes,
-  OfRouting,
-  Demand1,
-  Demand2,
-  Demand3,
+use Rattle.demands.specs.Demands.{Reads, WholeWords, Passes, OfRouting, Demand1, Demand2, Demand3}
+use Rattle.demands.specs.Routing.{words-shown, bytes-shown, itself, differ-itself, c-routed, c-routed-rightly}
+use Rattle.demands.specs.Judging.{
+  unsound-first,
+  sound-then,
+  reported,
+  judge-is,
+  bytes-is,
+  judges,
+  uneven-first,
+  even-then,
+  tells-judged,
+  c-refused,
+  compare-is,
+  compare-bytes-is,
+  compares,
+  compares-bytes,
+  c-compared,
 }
 
 -- ── 1 ──
@@ -112,204 +96,6 @@ reads (yes m) r P = record {
 buffer-kept : (before : List ℕ) (x : Result (List ℕ)) (r : Refusal) → countOf x ≡ no r → bufferAfter before x ≡ before
 buffer-kept before (no q) r e = refl
 buffer-kept before (yes ws) r e = absurd (let z : _≡_ {A = ℕ} 0 1 = cc in omega arith)
-
--- ── a routing call, by what the definition refuses ──
--- `told` gives the numbers by which an answer is told, or the answer itself; those of a routing are not those of 34
-module _ {T : Type 0} (told : Result ℕ → T) (differ : (n : ℕ) → told (yes n) ≡ told (no (refusal 34 0)) → ⊥) (s : machine.Session) (room : ℕ) where
-  -- DEFINITION: what is shown of an answer, where HandedBack n says that a routing of n words was handed back
-  abbrev Shown : Result ℕ → (Same : Type 0) (HandedBack : ℕ → Type 0) → Type 0
-  Shown a Same HandedBack =
-      ((q : Refusal) → routeRefused s room ≡ some q → (told a ≡ told (no q)) × Same)
-      × (routeRefused s room ≡ none
-      → Decided s (λ n. (told a ≡ told (yes n)) × HandedBack n) ((told a ≡ told (no (refusal 34 0))) × Same))
-
-  module _ (Same : Type 0) (HandedBack : ℕ → Type 0) (joined : (n : ℕ) → HandedBack n → Routable (s .block .board) (pairs (s .nets))) where
-    shown-refused : {r : Refusal} → WhyRefused s room r → Same → Shown (no r) Same HandedBack
-    shown-refused (by-line {r} e) same = (
-      λ q f. (ap (λ (p : Refusal). told (no p)) (let g : some r ≡ some q = sym e ∙ f in cc), same),
-      λ f. absurd (let g : some r ≡ none = sym e ∙ f in let z : _≡_ {A = ℕ} 0 1 = cc in omega arith),
-    )
-    shown-refused (none-exists e none-is) same =
-        let n : Routable (s .block .board) (pairs (s .nets)) → ⊥ = λ k.
-        let t = tidied (s .block .board) (pairs (s .nets)) k in none-is (t .0) (t .1) in (
-          λ q f. absurd (let g : none ≡ some q = sym e ∙ f in let z : _≡_ {A = ℕ} 0 1 = cc in omega arith),
-          λ f. record {
-            given = (λ k. absurd (n (joined (k .0) (k .1 .1))), λ k. absurd (n k));
-            refused = (λ k. n, λ k. (refl, same));
-          },
-        )
-
-    shown-given : (n : ℕ) → routeRefused s room ≡ none → HandedBack n → Shown (yes n) Same HandedBack
-    shown-given n e H = (
-      λ q f. absurd (let g : none ≡ some q = sym e ∙ f in let z : _≡_ {A = ℕ} 0 1 = cc in omega arith),
-      λ f. record {
-        given = (λ k. joined n H, λ k. (n, (refl, H)));
-        refused = (λ k. absurd (differ n (k .0)), λ k. absurd (k (joined n H)));
-      },
-    )
-
-  words-shown : (before after : List ℕ) (a : Result ℕ) → length before ≡ room → Routes s before a after
-      → Shown a (after ≡ before) (HandsBack s before after)
-  words-shown before after a l (refused {r} w) = shown-refused (before ≡ before) (HandsBack s before before)
-      (λ n H. routing-routable (s .block .board) (pairs (s .nets)) (H .paths) (H .routing)) (subst (λ (k : ℕ). WhyRefused s k r) l w) refl
-  words-shown before after a l (given {count = n} e H) = shown-given (after ≡ before) (HandsBack s before after)
-      (λ k G. routing-routable (s .block .board) (pairs (s .nets)) (G .paths) (G .routing)) n (ap (routeRefused s) (sym l) ∙ e) H
-
-  bytes-shown : (before after : List ℕ) (a : Result ℕ) → length before / 4 ≡ room → RoutesBytes s before a after
-      → Shown a (after ≡ before) (HandsBackBytes s before after)
-  bytes-shown before after a l (refused {r} w) = shown-refused (before ≡ before) (HandsBackBytes s before before)
-      (λ n H. routing-routable (s .block .board) (pairs (s .nets)) (H .paths) (H .routing)) (subst (λ (k : ℕ). WhyRefused s k r) l w) refl
-  bytes-shown before after a l (given {count = n} e H) = shown-given (after ≡ before) (HandsBackBytes s before after)
-      (λ k G. routing-routable (s .block .board) (pairs (s .nets)) (G .paths) (G .routing)) n (ap (routeRefused s) (sym l) ∙ e) H
-
--- the answer itself
-abbrev itself : Result ℕ → Result ℕ
-itself a = a
-
-differ-itself : (n : ℕ) → yes n ≡ no (refusal 34 0) → ⊥
-differ-itself n e = let z : _≡_ {A = ℕ} 0 1 = cc in omega arith
-
--- and as C is told it
-differ-told : (n : ℕ) → tell 0 n 0 0 ≡ tell 34 0 0 0 → ⊥
-differ-told n e = let z : _≡_ {A = ℕ} 0 34 = ap (λ (t : Told). t .number) e in omega arith
-
--- C is told what reading refuses, or what the routing call on the session read answers
-c-routed : (board before after : List ℕ) (a : Result ℕ) (t : Told) → t ≡ routeTold a → EditorRoutes board before a after
-    → ((q : Refusal) → readBytes board ≡ no q → (t ≡ refusedTold q) × (after ≡ before))
-    × ((s : machine.Session) → readBytes board ≡ yes s
-    → ((q : Refusal) → routeRefused s (length before / 4) ≡ some q → (t ≡ refusedTold q) × (after ≡ before))
-    × (routeRefused s (length before / 4) ≡ none
-    → Decided s (λ n. (t ≡ tell 0 n 0 0) × HandsBackBytes s before after n) ((t ≡ tell 34 0 0 0) × (after ≡ before))))
-c-routed board before after a t f (unread {r} e) = (
-  λ q g. let same : r ≡ q = (let h : _≡_ {A = Result machine.Session} (no r) (no q) = sym e ∙ g in cc) in (f ∙ ap refusedTold same, refl),
-  λ s g. absurd (let h : _≡_ {A = Result machine.Session} (no r) (yes s) = sym e ∙ g in let z : _≡_ {A = ℕ} 0 1 = cc in omega arith),
-)
-c-routed board before after a t f (read {s = m} e R) = (
-  λ q g. absurd (let h : yes m ≡ no q = sym e ∙ g in let z : _≡_ {A = ℕ} 0 1 = cc in omega arith),
-  λ s g.
-      let same : m ≡ s = (let h : yes m ≡ yes s = sym e ∙ g in cc) in
-      rw f (bytes-shown routeTold differ-told s (length before / 4) before after a refl
-      (subst (λ (x : machine.Session). RoutesBytes x before a after) same R)),
-)
-
--- a session that was read is sound, so the answer told of it is right too
-c-routed-rightly : (board before after : List ℕ) (a : Result ℕ) (t : Told) → t ≡ routeTold a → EditorRoutes board before a after
-    → (s : machine.Session) → readBytes board ≡ yes s → routeRoom s ≤ length before / 4
-    → (x : Result ℕ) × (t ≡ routeTold x) × RightlyBoth s x (HandsBackBytes s before after)
-c-routed-rightly board before after a t f (unread {r} e) s g long =
-    absurd (let h : _≡_ {A = Result machine.Session} (no r) (yes s) = sym e ∙ g in let z : _≡_ {A = ℕ} 0 1 = cc in omega arith)
-c-routed-rightly board before after a t f (read {s = m} {answer = x} e R) s g long =
-    let same : m ≡ s = (let h : yes m ≡ yes s = sym e ∙ g in cc) in
-    (x, f, history.bytes-both s (read-bytes-sound board s g) long (subst (λ (y : machine.Session). RoutesBytes y before x after) same R))
-
--- ── judging ──
-unsound-first : {A : Type 0} (s : machine.Session) (x : Result A) → (Sound s → ⊥) → ifSound s x ≡ no (refusal 20 0)
-unsound-first s x n = rw (not-true (sound? s) (λ e. n (sound-exact s .0 e))) refl
-
-sound-then : {A : Type 0} (s : machine.Session) (x : Result A) → Sound s → ifSound s x ≡ x
-sound-then s x S = rw (sound-exact s .1 S) refl
-
--- the report on the paths, or the refusal
-abbrev reported : machine.Session → Result (List (List Direction)) → Result Report
-reported s y = andThen y (λ dss. yes (reportOf (pairs (s .nets)) dss))
-
-judge-is : (s : machine.Session) (ws : List ℕ) → judgeWords s ws ≡ ifSound s (reported s (judged s ws))
-unfolding judgeWords
-judge-is s ws = refl
-
-bytes-is : (s : machine.Session) (bs : List ℕ) → judgeBytes s bs ≡ ifSound s (ifEven bs (reported s (judged s (wordsIn bs))))
-unfolding judgeBytes
-bytes-is s bs = refl
-
-judges : (s : machine.Session) (ws : List ℕ) (x : Result Report) → x ≡ reported s (judged s ws) → Judges s ws x
-judges s ws x e = record { refuses = λ q h. e ∙ ap (reported s) h; reports = λ dss h. e ∙ ap (reported s) h }
-
-uneven-first : {A : Type 0} (bs : List ℕ) (x : Result A) → (WholeWords bs → ⊥) → ifEven bs x ≡ no (refusal 10 0)
-uneven-first bs x n = rw (ne-eqb (length bs % 4) 0 n) refl
-
-even-then : {A : Type 0} (bs : List ℕ) (x : Result A) → WholeWords bs → ifEven bs x ≡ x
-even-then bs x e = rw (eq-eqb (length bs % 4) 0 e) refl
-
--- C: a session that was read is sound, so that 20 is never told
-tells-judged : (board list : List ℕ) (s : machine.Session) (t : Told) → t ≡ judgeTold (editorJudge board list) → readBytes board ≡ yes s
-    → TellsJudged s list t
-unfolding editorJudge
-tells-judged board list s t P e =
-    let f : editorJudge board list ≡ judgeBytes s list = rw e refl in
-    let x = reported s (judged s (wordsIn list)) in
-    let g : editorJudge board list ≡ ifEven list x = f ∙ (bytes-is s list ∙ sound-then s (ifEven list x) (read-bytes-sound board s e)) in
-    let w : WholeWords list → editorJudge board list ≡ x = λ h. g ∙ even-then list x h in record {
-      uneven = λ n. P ∙ ap judgeTold (g ∙ uneven-first list x n);
-      refuses = λ h q k. P ∙ ap judgeTold (w h ∙ ap (reported s) k);
-      reports = λ h dss k. P ∙ ap judgeTold (w h ∙ ap (reported s) k);
-    }
-
-c-refused : (board list : List ℕ) (q : Refusal) → readBytes board ≡ no q → editorJudge board list ≡ no q
-unfolding editorJudge
-c-refused board list q e = rw e refl
-
--- ── comparing ──
--- two results of judging compared, with what is asked between the one and the other
-abbrev comparedBy : machine.Session → (Result Bool → Result Bool) → (x y : Result (List (List Direction))) → Result Bool
-comparedBy s asked x y = andThen (ofList 0 x) (λ dss. asked (andThen (ofList 1 y) (λ ess. yes (alikeOn s dss ess))))
-
-abbrev nothing : Result Bool → Result Bool
-nothing x = x
-
-compare-is : (s : machine.Session) (vs ws : List ℕ) → compareWords s vs ws ≡ ifSound s (comparedBy s nothing (judged s vs) (judged s ws))
-unfolding compareWords
-compare-is s vs ws = refl
-
-compare-bytes-is : (s : machine.Session) (one two : List ℕ)
-    → compareBytes s one two ≡ ifSound s (ifEven one (comparedBy s (ifEven two) (judged s (wordsIn one)) (judged s (wordsIn two))))
-unfolding compareBytes
-compare-bytes-is s one two = refl
-
-compares : (s : machine.Session) (vs ws : List ℕ) (x : Result Bool) → x ≡ comparedBy s nothing (judged s vs) (judged s ws) → Compares s vs ws x
-compares s vs ws x e = record {
-  first = λ q h. e ∙ (rw h refl);
-  second = λ dss q h k. e ∙ (rw (h, k) refl);
-  answers = λ dss ess h k. (alikeOn s dss ess, e ∙ (rw (h, k) refl), alike-exact _ _);
-}
-
--- bytes that are whole words are asked for nothing
-whole-second : (s : machine.Session) (two : List ℕ) → WholeWords two → (x y : Result (List (List Direction)))
-    → comparedBy s (ifEven two) x y ≡ comparedBy s nothing x y
-whole-second s two w (no r) y = refl
-whole-second s two w (yes dss) y = even-then two _ w
-
-compares-bytes : (s : machine.Session) (one two : List ℕ) (x : Result Bool)
-    → x ≡ ifEven one (comparedBy s (ifEven two) (judged s (wordsIn one)) (judged s (wordsIn two))) → ComparesBytes s one two x
-compares-bytes s one two x e =
-    let y = comparedBy s (ifEven two) (judged s (wordsIn one)) (judged s (wordsIn two)) in
-    let whole : WholeWords one → x ≡ y = λ w. e ∙ even-then one y w in record {
-      first-uneven = λ n. e ∙ uneven-first one y n;
-      first = λ w q h. whole w ∙ (rw h refl);
-      second-uneven = λ w dss h n. whole w ∙ (rw h (uneven-first two _ n));
-      words = λ w u. compares s (wordsIn one) (wordsIn two) x (whole w ∙ whole-second s two u (judged s (wordsIn one)) (judged s (wordsIn two)));
-    }
-
--- C: a session that was read is sound, so that 20 is never told
-tells-compared : (s : machine.Session) (one two : List ℕ) (x : Result Bool) (t : Told) → t ≡ alikeTold x → ComparesBytes s one two x
-    → TellsCompared s one two t
-tells-compared s one two x t P C = record {
-  first-uneven = λ n. P ∙ ap alikeTold (C .first-uneven n);
-  first = λ w q h. P ∙ ap alikeTold (C .first w q h);
-  second-uneven = λ w dss h n. P ∙ ap alikeTold (C .second-uneven w dss h n);
-  second = λ w u dss q h k. P ∙ ap alikeTold (C .words w u .second dss q h k);
-  answers = λ w u dss ess h k.
-      let (y, e, exact) = C .words w u .answers dss ess h k in
-      (λ a. P ∙ ap alikeTold (e ∙ ap yes (exact .1 a)), λ n. P ∙ ap alikeTold (e ∙ ap yes (not-true y (λ z. n (exact .0 z)))));
-}
-
-c-compared : (board one two : List ℕ) (t : Told) → t ≡ alikeTold (editorAlike board one two)
-    → ((q : Refusal) → readBytes board ≡ no q → t ≡ refusedTold q) × ((s : machine.Session) → readBytes board ≡ yes s → TellsCompared s one two t)
-unfolding editorAlike
-c-compared board one two t P = (
-  λ q e. P ∙ (rw e refl),
-  λ s e. tells-compared s one two (compareBytes s one two) t (P ∙ (rw e refl))
-      (compares-bytes s one two (compareBytes s one two) (compare-bytes-is s one two ∙ sound-then s _ (read-bytes-sound board s e))),
-)
 
 -- a list of nets: 20 first, else as the single adds
 unsound-list : (m : machine.Session) (ns : List Net) → (Sound m → ⊥) → call m (addAll ns) .answer ≡ wentOn 0 (some (refusal 20 0))

@@ -1,2 +1,4 @@
 pub mod Demands
+pub mod Routing
+pub mod Judging
 pub mod Laws

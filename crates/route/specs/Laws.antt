@@ -1,40 +1,30 @@
 -- What reading answers, as the text of the board.
 -- Assumes what reading and routing promise.
-use mathlib.Core.Path.{_≡_, refl, ap, sym, _∙_}
+use mathlib.Core.Path.{_≡_, sym, _∙_}
 use mathlib.Core.List.{List, [], _∷_}
-use mathlib.Core.Option.{none, some}
 use Prim.Native.Nat.{ℕ, _%_, _≤_}
 use native.Mathlib.Omega.{arith}
 use lib.ListN.{length}
 use Rattle.text.specs.Line.{refusedLine}
 use Rattle.words_bytes.specs.WordsLaws.{words-length, uneven-bytes, even-bytes}
-use Rattle.session_rules.specs.Refusal.{Refusal, refusal}
-use Rattle.session_rules.specs.Session.{Session}
+use Rattle.session_rules.specs.Refusal.{refusal}
 use Rattle.session.specs.View.{sessionOf}
-use Rattle.call_rules.specs.Result.{Result, no, yes}
-use Rattle.call_rules.specs.Reading.{readBytes, handedBack}
-use Rattle.board_reading.specs.Promise.{readAnswer, refusalIn, ReadPromise}
+use Rattle.call_rules.specs.Reading.{readBytes}
+use Rattle.board_reading.specs.Promise.{ReadPromise}
+use Rattle.board_reading.specs.ReadAs.{read-refused, read-accepted}
 use Rattle.board_reading.specs.PromiseLaws.{bytes-uneven, bytes-long}
 use Rattle.board_reading.specs.declared.AfterRead.{AfterRead}
 use Rattle.board_reading.specs.declared.ReadAnswer.the-variants as answer
 use Rattle.route_text.specs.Text.{RouteText}
 use Rattle.route.specs.Text.{BoardText, unread, read}
 
-is-no : (x : Result Session) (r : Refusal) → some r ≡ refusalIn x → x ≡ no r
-is-no (no q) r e = cc
-is-no (yes s) r e = absurd (let z : _≡_ {A = ℕ} 0 1 = cc in omega arith)
-
-is-yes : (x : Result Session) → none ≡ refusalIn x → x ≡ yes (handedBack x)
-is-yes (no q) e = absurd (let z : _≡_ {A = ℕ} 0 1 = cc in omega arith)
-is-yes (yes s) e = refl
-
 pub refused-text : {board : List ℕ} {r : AfterRead} (n p : ℕ) → ReadPromise (readBytes board) r → r .answer ≡ answer.Refused n p
     → BoardText board (refusedLine n (p ∷ []))
-refused-text {board} n p P e = unread {r = refusal n p} (is-no (readBytes board) (refusal n p) (sym (ap readAnswer e) ∙ P .answers))
+refused-text n p P e = unread {r = refusal n p} (read-refused P n p e)
 
 pub read-text : {board text : List ℕ} {r : AfterRead} → ReadPromise (readBytes board) r → r .answer ≡ answer.Accepted
     → RouteText (sessionOf (r .session)) text → BoardText board text
-read-text {board} P e T = read (is-yes (readBytes board) (sym (ap readAnswer e) ∙ P .answers) ∙ ap yes (sym (P .session))) T
+read-text P e T = read (read-accepted P e) T
 
 -- ── a list longer than a buffer of 65,536 bytes ──
 pub uneven-text : (n : ℕ) → (n % 4 ≡ 0 → ⊥) → (board : List ℕ) → length board % 4 ≡ n % 4 → BoardText board (refusedLine 10 (0 ∷ []))

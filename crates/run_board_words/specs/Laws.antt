@@ -28,12 +28,12 @@ refused-line n p e (no q) P =
 refused-line n p e (yes s) P =
     let f : some (refusal n p) ≡ none = sym (ap readAnswer e) ∙ P .answers in absurd (let z : _≡_ {A = ℕ} 0 1 = cc in omega arith)
 
-pub written-back : {r : AfterRead} {before after : List ℕ} {a : WriteAnswer} → r .answer ≡ answer.Accepted → length before ≡ 96
+pub written-back : (a : WriteAnswer) {r : AfterRead} {before after : List ℕ} → r .answer ≡ answer.Accepted → length before ≡ 96
     → WritePromise (sessionOf (r .session)) before a after → (x : Result Session) → ReadPromise x r
     → writtenLine readName (writeAnswer a) ≡ readLine x
-written-back e l W (no q) P =
+written-back a e l W (no q) P =
     let f : none ≡ some q = sym (ap readAnswer e) ∙ P .answers in absurd (let z : _≡_ {A = ℕ} 0 1 = cc in omega arith)
-written-back {r} {before} {a = a} e l W (yes s) P =
+written-back a {r} {before} e l W (yes s) P =
     let f : sessionOf (r .session) ≡ s = P .session in
     let g : writeAnswer a ≡ countOf (writeBoard s 96) = rw (f, l) at (W .answers) in
     ap (writtenLine readName) g

@@ -4,7 +4,7 @@ use borrow.Author.Needs.{needs}
 use Rattle.board_writing.specs.Words.{rowWords}
 use Rattle.board_writing.specs.WordsLaws.{row-words-length, row-words-more}
 use Rattle.call_rules.specs.Writing.{writtenInto}
-use Rattle.board_writing.specs.BufferLaws.{store-next, stored-length}
+use Rattle.call_rules.specs.WritingLaws.{store-next, stored-length}
 use lib.ListN.{length}
 use mathlib.Core.Path.{_≡_, refl}
 use Prim.Native.Nat.{_-_, _≤_}

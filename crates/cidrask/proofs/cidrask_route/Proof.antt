@@ -1,5 +1,5 @@
 -- `cidrask_route` hands the numbers on.
-use Rattle.cidrask.specs.Laws.{two-numbers, route-third}
+use Rattle.cidrask.specs.Laws.{two-numbers, count-third}
 use borrow.Author.Needs.{needs}
 use Rattle.cidrask.proofs.cidrask_route.Statement.{statement}
 use Rattle.cidrask.proofs.cidrask_route.Tie as tie
@@ -17,7 +17,7 @@ returns : tie.Need-returns
 returns c =
     let at-routed = c .before .before in let routed = at-routed .routed in
     let R = routed .ensures in
-    record { result = R .result; routes = R .routes; told = two-numbers (routed .result) _ (R .told) (route-third (R .result)) }
+    record { result = R .result; routes = R .routes; told = two-numbers (routed .result) _ (R .told) (count-third (R .result)) }
 
 pub cidrask-route-spec : {M : Type 1} → statement M
 cidrask-route-spec = tie.close (tie.spec routed-requires same-length returns)

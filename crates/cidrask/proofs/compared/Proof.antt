@@ -6,8 +6,8 @@ use Rattle.cidrask.proofs.compared.Tie as tie
 use Rattle.cidrask.proofs.compared.Reads as reads
 use Rattle.cidrask.proofs.compared.Lts as lts
 use Rattle.board_reading.proofs.read_bytes.Reads as read-bytes-reads
-use Rattle.cidrask.proofs.alike_told.Reads as alike-told-reads
-use Rattle.cidrask.proofs.refused.Reads as refused-reads
+use Rattle.cidrask_told.proofs.alike_told.Reads as alike-told-reads
+use Rattle.cidrask_told.proofs.refused.Reads as refused-reads
 use Rattle.judge_call.proofs.compare_bytes.Reads as compare-bytes-reads
 
 read-bytes-requires : tie.Need-read-bytes-requires

@@ -5,8 +5,8 @@ use Rattle.cidrask.proofs.judged.Statement.{statement}
 use Rattle.cidrask.proofs.judged.Tie as tie
 use Rattle.cidrask.proofs.judged.Reads as reads
 use Rattle.cidrask.proofs.judged.Lts as lts
-use Rattle.cidrask.proofs.judge_told.Reads as judge-told-reads
-use Rattle.cidrask.proofs.refused.Reads as refused-reads
+use Rattle.cidrask_told.proofs.judge_told.Reads as judge-told-reads
+use Rattle.cidrask_told.proofs.refused.Reads as refused-reads
 use Rattle.judge_call.proofs.judge_bytes.Reads as judge-bytes-reads
 use Rattle.board_reading.proofs.read_bytes.Reads as read-bytes-reads
 

@@ -5,8 +5,8 @@ use Rattle.cidrask.proofs.routed.Statement.{statement}
 use Rattle.cidrask.proofs.routed.Tie as tie
 use Rattle.cidrask.proofs.routed.Reads as reads
 use Rattle.cidrask.proofs.routed.Lts as lts
-use Rattle.cidrask.proofs.refused.Reads as refused-reads
-use Rattle.cidrask.proofs.route_told.Reads as route-told-reads
+use Rattle.cidrask_told.proofs.refused.Reads as refused-reads
+use Rattle.cidrask_told.proofs.route_told.Reads as route-told-reads
 use Rattle.board_reading.proofs.read_bytes.Reads as read-bytes-reads
 use Rattle.route_call.proofs.route_bytes.Reads as route-bytes-reads
 

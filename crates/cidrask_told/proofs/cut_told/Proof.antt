@@ -1,9 +1,9 @@
 -- `cut_told` tells an overfull cut as the definition does.
 use borrow.Author.Needs.{needs}
-use Rattle.cidrask.proofs.cut_told.Statement.{statement}
-use Rattle.cidrask.proofs.cut_told.Tie as tie
-use Rattle.cidrask.proofs.cut_told.Reads as reads
-use Rattle.cidrask.proofs.cut_told.Lts as lts
+use Rattle.cidrask_told.proofs.cut_told.Statement.{statement}
+use Rattle.cidrask_told.proofs.cut_told.Tie as tie
+use Rattle.cidrask_told.proofs.cut_told.Reads as reads
+use Rattle.cidrask_told.proofs.cut_told.Lts as lts
 
 enum-known-x : tie.Need-enum-known-x
 enum-known-x c = search needs

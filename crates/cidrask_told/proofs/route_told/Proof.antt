@@ -1,11 +1,11 @@
 -- `route_told` tells an answer of routing as the definition does.
 use borrow.Author.Needs.{needs}
-use Rattle.cidrask.proofs.route_told.Statement.{statement}
-use Rattle.cidrask.proofs.route_told.Tie as tie
-use Rattle.cidrask.proofs.route_told.Reads as reads
-use Rattle.cidrask.proofs.route_told.Lts as lts
-use Rattle.cidrask.proofs.cut_told.Reads as cut-told-reads
-use Rattle.cidrask.proofs.refused.Reads as refused-reads
+use Rattle.cidrask_told.proofs.route_told.Statement.{statement}
+use Rattle.cidrask_told.proofs.route_told.Tie as tie
+use Rattle.cidrask_told.proofs.route_told.Reads as reads
+use Rattle.cidrask_told.proofs.route_told.Lts as lts
+use Rattle.cidrask_told.proofs.cut_told.Reads as cut-told-reads
+use Rattle.cidrask_told.proofs.refused.Reads as refused-reads
 
 enum-known-answer : tie.Need-enum-known-answer
 enum-known-answer c = search needs

@@ -1,10 +1,10 @@
 -- `judge_told` tells a judgement as the definition does.
 use borrow.Author.Needs.{needs}
-use Rattle.cidrask.proofs.judge_told.Statement.{statement}
-use Rattle.cidrask.proofs.judge_told.Tie as tie
-use Rattle.cidrask.proofs.judge_told.Reads as reads
-use Rattle.cidrask.proofs.judge_told.Lts as lts
-use Rattle.cidrask.proofs.refused.Reads as refused-reads
+use Rattle.cidrask_told.proofs.judge_told.Statement.{statement}
+use Rattle.cidrask_told.proofs.judge_told.Tie as tie
+use Rattle.cidrask_told.proofs.judge_told.Reads as reads
+use Rattle.cidrask_told.proofs.judge_told.Lts as lts
+use Rattle.cidrask_told.proofs.refused.Reads as refused-reads
 
 enum-known-judgement : tie.Need-enum-known-judgement
 enum-known-judgement c = search needs

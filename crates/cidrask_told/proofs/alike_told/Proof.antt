@@ -1,12 +1,12 @@
 -- `alike_told` tells a likeness as the definition does.
 use mathlib.Core.Path.{refl}
 use borrow.Author.Needs.{needs}
-use Rattle.cidrask.proofs.alike_told.Statement.{statement}
-use Rattle.cidrask.proofs.alike_told.Tie as tie
-use Rattle.cidrask.proofs.alike_told.Reads as reads
-use Rattle.cidrask.proofs.alike_told.Lts as lts
+use Rattle.cidrask_told.proofs.alike_told.Statement.{statement}
+use Rattle.cidrask_told.proofs.alike_told.Tie as tie
+use Rattle.cidrask_told.proofs.alike_told.Reads as reads
+use Rattle.cidrask_told.proofs.alike_told.Lts as lts
 use Rattle.board.proofs.bit.Reads as bit-reads
-use Rattle.cidrask.proofs.refused.Reads as refused-reads
+use Rattle.cidrask_told.proofs.refused.Reads as refused-reads
 
 enum-known-likeness : tie.Need-enum-known-likeness
 enum-known-likeness c = search needs

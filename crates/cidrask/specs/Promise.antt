@@ -1,0 +1,25 @@
+-- Definitions only: what the calls for C promise. Nothing is proved here.
+use mathlib.Core.Path.{_≡_}
+use mathlib.Core.List.{List}
+use Prim.Native.Nat.{ℕ}
+use Rattle.call_rules.specs.Result.{Result}
+use Rattle.call_rules.specs.Editor.{EditorRoutes, editorJudge, editorAlike}
+use Rattle.cidrask_told.specs.Told.{tell, countTold, judgeTold, alikeTold}
+use Rattle.cidrask_told.specs.declared.Told.{Told}
+
+-- reading with routing: what came out, told by t, and the buffer afterwards
+pub record RoutedAs (board before : List ℕ) (t : Told) (after : List ℕ) : Type 0 where
+  pub result : Result ℕ
+  pub routes : EditorRoutes board before result after
+  pub told : t ≡ countTold result
+
+abbrev pub RoutePromise : (board before : List ℕ) (number first second : ℕ) (after : List ℕ) → Type 0
+RoutePromise board before number first second after = RoutedAs board before (tell number first second 0) after
+
+-- judging
+abbrev pub JudgePromise : (board list : List ℕ) (number first second third : ℕ) → Type 0
+JudgePromise board list number first second third = tell number first second third ≡ judgeTold (editorJudge board list)
+
+-- comparing
+abbrev pub AlikePromise : (board one two : List ℕ) (number first second : ℕ) → Type 0
+AlikePromise board one two number first second = tell number first second 0 ≡ alikeTold (editorAlike board one two)
