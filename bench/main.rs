@@ -16,7 +16,7 @@ mod odd;
 mod plain;
 
 use boards::{every_edge, longest, routable, Board, Random};
-use cidrask::{cidrask_alike, cidrask_judge, cidrask_route};
+use cidrask::{cidrask_alike, cidrask_draw, cidrask_judge, cidrask_route};
 use std::hint::black_box;
 use std::io::Write;
 use std::process::{Command, Stdio};
@@ -50,6 +50,14 @@ fn alike(board: &[u8], one: &[u8], two: &[u8]) -> bool {
         unsafe { cidrask_alike(board.as_ptr(), board.len(), one.as_ptr(), one.len(), two.as_ptr(), two.len(), &mut first, &mut second) };
     assert_eq!(number, 0, "both lists pass");
     first == 1
+}
+
+/// The page of a list; how many bytes it has.
+fn drawn(board: &[u8], list: &[u8], page: &mut [u8]) -> u64 {
+    let mut first = 0;
+    let number = unsafe { cidrask_draw(board.as_ptr(), board.len(), list.as_ptr(), list.len(), page.as_mut_ptr(), page.len(), &mut first) };
+    assert_eq!(number, 0, "the list passes");
+    first
 }
 
 /// Boards of a kind, each with the bytes of its routing.
@@ -281,6 +289,10 @@ fn times(seed: u64) {
         let both = median((0..ROUNDS).map(|_| seconds(20, || _ = black_box(alike(black_box(&board), black_box(&list), black_box(&two))))).collect());
         println!("comparing two lists that each use all 1,984 edges, {what}: {:.3} ms", 1e3 * both);
     }
+    let mut page = [0; 4032];
+    assert_eq!(drawn(&board, &list, &mut page), 4032);
+    let draw = median((0..ROUNDS).map(|_| seconds(20, || _ = black_box(drawn(black_box(&board), black_box(&list), &mut page)))).collect());
+    println!("drawing such a list as a page: {:.3} ms", 1e3 * draw);
     let lap = |word| (laps(word, 22_000) - laps(word, 2_000)) / 20_000.0;
     let (bare, named): (Vec<f64>, Vec<f64>) = (0..11).map(|_| (lap(""), lap("names "))).unzip();
     println!("a call of a session with 64 nets and a pile of 64 changes: {:.1} microseconds", 1e6 * median(bare));

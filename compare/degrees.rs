@@ -10,12 +10,11 @@
 #[allow(dead_code)]
 mod generate;
 mod independent;
+mod program;
 
-use generate::{any_nets, board_bytes, even_nets, Random, BOARD_KINDS};
+use generate::{any_nets, board_bytes, even_nets, wrong_net, Random, BOARD_KINDS};
 use independent::{bytes_of, read, Board, Net, Vertex};
 use std::collections::{BTreeMap, BTreeSet, VecDeque};
-use std::io::Write;
-use std::process::{Command, ExitStatus, Stdio};
 use std::time::Instant;
 
 const PROGRAM: &str = "target/bin/degrees";
@@ -300,26 +299,6 @@ fn not_convex(random: &mut Random) -> Vec<u8> {
     bytes_of(&Board { rows, nets }.words())
 }
 
-/// A convex board whose last net is one that an add refuses.
-fn wrong_net(random: &mut Random) -> Vec<u8> {
-    let mut board = any_convex_board(random);
-    board.nets.truncate(random.below(40));
-    let vertices = board.vertices();
-    let (mut number, mut first, mut second) = (board.nets.last().map_or(1, |net| net.number + 1), random.pick(&vertices), random.pick(&vertices));
-    match random.below(4) {
-        0 => number = random.pick(&[0, 65, 66, 128, 255]),
-        1 => first = (random.below(32), random.below(32)),
-        2 => second = first,
-        // Without a pin: inside, or a concave corner.
-        _ => second = vertices.iter().copied().find(|&v| board.pins(v) == 0).unwrap_or(second),
-    }
-    if random.one_in(2) {
-        (first, second) = (second, first);
-    }
-    board.nets.push(Net { number, first, second });
-    bytes_of(&board.words())
-}
-
 /// A convex board's bytes and more bytes after them.
 fn many_bytes(random: &mut Random) -> Vec<u8> {
     let length = random.pick(&[385, 386, 388, 392, 4_095, 4_096, 4_097, LONGEST - 4, LONGEST - 2, LONGEST - 1, LONGEST]);
@@ -347,7 +326,10 @@ fn case_bytes(seed: u64, case: u64) -> Vec<u8> {
             board_bytes(&mut random, kind)
         }
         5..=7 => not_convex(&mut random),
-        8 => wrong_net(&mut random),
+        8 => {
+            let board = any_convex_board(&mut random);
+            wrong_net(&mut random, board)
+        }
         _ => many_bytes(&mut random),
     }
 }
@@ -437,24 +419,6 @@ fn self_test() {
 
 // ---------------------------------------------------------------- the program held against the drawing
 
-fn no_program(error: std::io::Error) -> ! {
-    eprintln!("compare: {PROGRAM} does not run ({error}); rt check degrees makes it");
-    std::process::exit(2)
-}
-
-/// Runs the program on a board's bytes. Answers with its output and how it ended.
-fn printed(bytes: &[u8]) -> (String, ExitStatus) {
-    let run = Command::new(PROGRAM).stdin(Stdio::piped()).stdout(Stdio::piped()).spawn();
-    let mut child = run.unwrap_or_else(|error| no_program(error));
-    let mut input = child.stdin.take().unwrap();
-    let bytes = bytes.to_vec();
-    // A program that stops reading shows in what it prints.
-    let writing = std::thread::spawn(move || input.write_all(&bytes).is_ok());
-    let output = child.wait_with_output().unwrap_or_else(|error| no_program(error));
-    let _ = writing.join();
-    (String::from_utf8_lossy(&output.stdout).into_owned(), output.status)
-}
-
 /// A text line by line, so that spaces and line feeds can be seen.
 fn shown(text: &str) -> String {
     text.split_inclusive('\n').map(|line| format!("    {line:?}\n")).collect()
@@ -471,7 +435,8 @@ fn difference(what: &str, bytes: &[u8], expected: &str, found: &str) -> ! {
 
 /// The program may end with any status of its own after a refusal; after a drawing it ends well.
 fn compare(what: &str, bytes: &[u8], expected: &Expected) {
-    let (output, status) = printed(bytes);
+    let (output, status) = program::printed(PROGRAM, bytes);
+    let output = String::from_utf8_lossy(&output).into_owned();
     if output != expected.text {
         difference(what, bytes, &expected.text, &output);
     }

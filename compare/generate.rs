@@ -443,6 +443,25 @@ fn not_convex(random: &mut Random) -> Vec<u8> {
     bytes_of(&board.words())
 }
 
+/// A convex board's bytes, its last net one that an add refuses.
+pub fn wrong_net(random: &mut Random, mut board: Board) -> Vec<u8> {
+    board.nets.truncate(random.below(40));
+    let vertices = board.vertices();
+    let (mut number, mut first, mut second) = (board.nets.last().map_or(1, |net| net.number + 1), random.pick(&vertices), random.pick(&vertices));
+    match random.below(4) {
+        0 => number = random.pick(&[0, 65, 66, 128, 255]),
+        1 => first = (random.below(32), random.below(32)),
+        2 => second = first,
+        // Without a pin: inside, or a concave corner.
+        _ => second = vertices.iter().copied().find(|&v| board.pins(v) == 0).unwrap_or(second),
+    }
+    if random.one_in(2) {
+        (first, second) = (second, first);
+    }
+    board.nets.push(Net { number, first, second });
+    bytes_of(&board.words())
+}
+
 // ---------------------------------------------------------------- routings and lists of routing words
 
 /// The edge that leaves `v` in that direction, by its upper or left end.

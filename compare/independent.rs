@@ -13,7 +13,7 @@ pub struct Refusal {
     pub place: [u32; 2],
 }
 
-fn refuse<T>(number: u32, place: usize) -> Result<T, Refusal> {
+pub fn refuse<T>(number: u32, place: usize) -> Result<T, Refusal> {
     Err(Refusal { number, place: [place as u32, 0] })
 }
 
@@ -539,7 +539,7 @@ pub fn judge(board: &Board, bytes: &[u8]) -> Result<Report, Refusal> {
 }
 
 /// The same; `each` is told every edge as it is walked, with the net that uses it.
-fn judge_edges(board: &Board, bytes: &[u8], each: &mut dyn FnMut(&Net, Edge)) -> Result<Report, Refusal> {
+pub fn judge_edges(board: &Board, bytes: &[u8], each: &mut dyn FnMut(&Net, Edge)) -> Result<Report, Refusal> {
     let words = words_of(bytes)?;
     if words.is_empty() || words.len() > 2049 {
         return refuse(41, 0);

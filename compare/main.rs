@@ -1,11 +1,13 @@
 //! Holds the proved library, over its C interface, against the independent side.
 //!
 //!     main [SEED]              all parts
+//!     main SEED PART           part e, g or h alone
 //!     main SEED PART CASE      one case again
 //!
 //! Parts: a, boards true and damaged through routing; b, lists true and damaged through judging; c, random small boards without odd vertices
 //! against the exhaustive router; d, every assignment of nets on small boards against it; e, pairs of lists true and damaged through the
-//! comparison of two routings; f, small boards with odd vertices, by hand and at random, against the exhaustive router.
+//! comparison of two routings; f, small boards with odd vertices, by hand and at random, against the exhaustive router; g, lists true and damaged
+//! through drawing; h, boards and lists true and damaged through the program draw.
 //! Whether a board with odd vertices has a routing is decided by trying every way to pair them off. On small boards this way is itself held
 //! against the exhaustive router.
 //! The first difference ends the run with status 1 and prints seed, part, case and the input's bytes. So does a run whose inputs reach too little.
@@ -16,9 +18,13 @@ mod exhaustive;
 mod generate;
 mod independent;
 mod odd;
+mod page;
+mod pages;
 mod pairs;
+mod prints;
+mod program;
 
-use cidrask::{cidrask_alike, cidrask_judge, cidrask_route};
+use cidrask::{cidrask_alike, cidrask_draw, cidrask_judge, cidrask_route};
 use exhaustive::Answer;
 use generate::*;
 use independent::*;
@@ -30,6 +36,8 @@ const CASES_B: u64 = 120_000;
 const CASES_C: u64 = 6_000;
 const CASES_E: u64 = 30_000;
 const CASES_F: u64 = 6_000;
+const CASES_G: u64 = 24_000;
+const CASES_H: u64 = 1_500;
 /// Routing words for a board of their own.
 const OTHER_LIST: [u32; 5] = [0x40100001, 0x54000001, 0x40200001, 0x58000001, 0xE0000002];
 /// Bytes before and after a buffer that must stay as they are.
@@ -52,6 +60,7 @@ struct Run {
     routed: u64,
     judged: u64,
     pairs: u64,
+    drawn: u64,
     most_words: usize,
     most_nets: usize,
     large: u64,
@@ -66,6 +75,11 @@ struct Run {
 impl Run {
     fn count(&mut self, kind: &str) {
         *self.kinds.entry(kind.to_string()).or_insert(0) += 1;
+    }
+
+    /// Counts those that hold.
+    fn count_all(&mut self, seen: &[(&str, bool)]) {
+        seen.iter().filter(|(_, holds)| *holds).for_each(|(what, _)| self.count(what));
     }
 
     fn counted(&self, kind: &str) -> u64 {
@@ -114,7 +128,7 @@ impl Run {
         std::process::exit(1)
     }
 
-    // ------------------------------------------------------------ the three calls
+    // ------------------------------------------------------------ the four calls
 
     /// Calls routing and compares result, place and every byte. Hands back the routing words, where there are any.
     fn route(&mut self, random: &mut Random, board: &[u8], buffer_length: usize) -> Option<Vec<u8>> {
@@ -222,6 +236,42 @@ impl Run {
             Err(_) => self.count("refused: the board of a pair"),
         }
         expected.ok()
+    }
+
+    /// Calls drawing and compares result, count or place, and every byte in and around the buffer: the page alone is written, and nothing where
+    /// there is none. Hands back the library's page.
+    fn draw(&mut self, random: &mut Random, board: &[u8], list: &[u8], length: usize) -> Option<Vec<u8>> {
+        let board_read = read(board);
+        let expected = board_read.as_ref().map_err(|refusal| *refusal).and_then(|b| page::draw(b, list, length));
+        let start = GUARD + random.below(8);
+        let mut due = pattern(random.next(), start + length + GUARD);
+        let mut memory = due.clone();
+        let lent = [board, list].map(|bytes| Lent::new(bytes, random.below(8)));
+        let mut numbers = Numbers::new();
+        let buffer = memory[start..start + length].as_mut_ptr();
+        let [first, ..] = numbers.lend();
+        let result = unsafe { cidrask_draw(lent[0].start(), board.len(), lent[1].start(), list.len(), buffer, length, first) };
+        self.drawn += 1;
+        let [first, second, third] = numbers.taken();
+        if !lent.iter().all(Lent::unchanged) || !numbers.guarded() || [second, third] != [UNTOUCHED; 2] {
+            self.difference("drawing wrote to what it is not lent for writing", board, list);
+        }
+        let (number, place) = match &expected {
+            Ok(page) => (0, page.len()),
+            Err(refusal) => (refusal.number, refusal.place[0] as usize),
+        };
+        if (result, first) != (number, place as u64) {
+            let what = format!("drawing into {length} bytes: library {result} at {first}, independent {number} at {place}");
+            self.difference(&what, board, list);
+        }
+        let count = expected.as_ref().map_or(0, Vec::len);
+        due[start..start + count].copy_from_slice(expected.as_deref().unwrap_or(&[]));
+        if let Some(at) = (0..due.len()).find(|&at| memory[at] != due[at]) {
+            let (found, place) = (memory[at], at as isize - start as isize);
+            self.difference(&format!("drawing into {length} bytes: byte {place} is {found}, independent {}", due[at]), board, list);
+        }
+        self.count_drawn(&board_read, list, length, &expected);
+        expected.is_ok().then(|| memory[start..start + count].to_vec())
     }
 
     /// Routes, and has the routing judged by both.
@@ -659,6 +709,8 @@ fn whole(run: &mut Run) {
     print_run(run);
     end_if_short("parts a and b reach", reached(run));
     let compared = pairs::whole(run.seed);
+    pages::whole(run.seed);
+    prints::whole(run.seed);
     let Ok(other) = small.join() else {
         println!("FAILED: the small boards were broken off");
         std::process::exit(1);
@@ -669,8 +721,19 @@ fn whole(run: &mut Run) {
 }
 
 fn usage() -> ! {
-    eprintln!("usage: compare/run [SEED [PART CASE]], with part a, b, c, d, e or f");
+    eprintln!("usage: compare/run [SEED [PART CASE]], with part a, b, c, d, e, f, g or h; part e, g or h also without a case");
     std::process::exit(2)
+}
+
+/// All cases of a part that stands alone.
+fn whole_part(seed: u64, part: &str) {
+    match part {
+        "e" => drop(pairs::whole(seed)),
+        "g" => pages::whole(seed),
+        "h" => prints::whole(seed),
+        _ => usage(),
+    }
+    println!("no difference in this part");
 }
 
 fn again(run: &mut Run, part: &str, case: u64) {
@@ -681,6 +744,8 @@ fn again(run: &mut Run, part: &str, case: u64) {
         "d" if case < part_d(run, Some(case)) => {}
         "e" => run.part_e(case),
         "f" => run.part_f(case, &mut Found::default()),
+        "g" => run.part_g(case),
+        "h" => run.part_h(case),
         _ => usage(),
     }
     println!("no difference in this case");
@@ -695,6 +760,7 @@ fn main() {
             println!("seed {}", run.seed);
             whole(&mut run);
         }
+        [_, part] => whole_part(run.seed, part),
         [_, part, case] => again(&mut run, part, number(case)),
         _ => usage(),
     }

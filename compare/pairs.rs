@@ -6,7 +6,7 @@ use crate::{end_if_short, Run, CASES_E, OTHER_LIST, TURNED_TWICE};
 use std::collections::{HashMap, HashSet};
 use std::time::Instant;
 
-type Paths = Vec<Vec<usize>>;
+pub type Paths = Vec<Vec<usize>>;
 
 // ---------------------------------------------------------------- boards
 
@@ -64,19 +64,19 @@ fn thinned(random: &mut Random, mut board: Board) -> (Board, Paths) {
 
 // ---------------------------------------------------------------- other paths for the same nets
 
-/// Pairs of true lists, with the answer that each is made for.
-const TRUE_PAIRS: [(&str, Option<bool>); 7] = [
-    ("pair: a list with itself", Some(true)),
-    ("pair: with random trails", None),
-    ("pair: loops walked the other way", Some(true)),
-    ("pair: a loop left out", Some(false)),
-    ("pair: paths of two nets exchanged", Some(false)),
-    ("pair: parts of two paths exchanged", Some(false)),
-    ("pair: round a cell the other way", Some(false)),
+/// Pairs of true lists, with the answer that each is made for, and whether all nets together use the same edges in both.
+pub const TRUE_PAIRS: [(&str, Option<bool>, Option<bool>); 7] = [
+    ("pair: a list with itself", Some(true), Some(true)),
+    ("pair: with random trails", None, None),
+    ("pair: loops walked the other way", Some(true), Some(true)),
+    ("pair: a loop left out", Some(false), Some(false)),
+    ("pair: paths of two nets exchanged", Some(false), Some(true)),
+    ("pair: parts of two paths exchanged", Some(false), Some(true)),
+    ("pair: round a cell the other way", Some(false), Some(false)),
 ];
 
 /// Other paths for the same nets, as that kind of pair has them. None where these paths have no such thing.
-fn other_paths(random: &mut Random, kind: &str, board: &Board, paths: &Paths) -> Option<Paths> {
+pub fn other_paths(random: &mut Random, kind: &str, board: &Board, paths: &Paths) -> Option<Paths> {
     match kind {
         "pair: a list with itself" => Some(paths.clone()),
         "pair: with random trails" => (0..4).find_map(|_| trails(random, board)),
@@ -92,7 +92,7 @@ fn other_paths(random: &mut Random, kind: &str, board: &Board, paths: &Paths) ->
 }
 
 /// Steps walked from their end to their start.
-fn backwards(steps: &[usize]) -> Vec<usize> {
+pub fn backwards(steps: &[usize]) -> Vec<usize> {
     steps.iter().rev().map(|direction| (direction + 2) % 4).collect()
 }
 
@@ -122,7 +122,7 @@ fn passed_twice(board: &Board, paths: &Paths) -> Vec<[Visit; 2]> {
 }
 
 /// One of a list, if there are any.
-fn any_of<T: Copy>(random: &mut Random, list: &[T]) -> Option<T> {
+pub fn any_of<T: Copy>(random: &mut Random, list: &[T]) -> Option<T> {
     (!list.is_empty()).then(|| random.pick(list))
 }
 
@@ -193,7 +193,7 @@ fn refused_by(list: &str, number: u32) -> String {
 const STATES: [&str; 6] = ["true", "damaged", "uneven", "too long", "too long and uneven", "without words"];
 
 /// A true list's words as bytes of that state; damaged ones may still be true.
-fn in_state(random: &mut Random, state: &str, words: &[u32]) -> Vec<u8> {
+pub fn in_state(random: &mut Random, state: &str, words: &[u32]) -> Vec<u8> {
     let mut words = words.to_vec();
     if state == "too long" || state == "too long and uneven" {
         words.resize(random.pick(&[2050, 2050, 2051, 2300]), words[words.len() - 1]);
@@ -210,7 +210,7 @@ fn in_state(random: &mut Random, state: &str, words: &[u32]) -> Vec<u8> {
 }
 
 /// A state, most often true or damaged.
-fn any_state(random: &mut Random) -> &'static str {
+pub fn any_state(random: &mut Random) -> &'static str {
     let count = if random.one_in(2) { STATES.len() } else { 2 };
     STATES[random.below(count)]
 }
@@ -223,7 +223,7 @@ impl Run {
         let mut random = Random::of_case(self.seed, 'e', case);
         let (board, paths, routed) = self.first_paths(&mut random);
         let (bytes, words) = (bytes_of(&board.words()), routing_words(&board, &paths));
-        for (kind, made_for) in TRUE_PAIRS {
+        for (kind, made_for, _) in TRUE_PAIRS {
             let Some(other) = other_paths(&mut random, kind, &board, &paths) else { continue };
             let mut lists = [bytes_of(&words), bytes_of(&routing_words(&board, &other))];
             // In the first pair the second list is the first once more, so that it is judged too.
@@ -253,7 +253,7 @@ impl Run {
     }
 
     /// A board with paths for its nets, and whether they were routed by the library.
-    fn first_paths(&mut self, random: &mut Random) -> (Board, Paths, bool) {
+    pub fn first_paths(&mut self, random: &mut Random) -> (Board, Paths, bool) {
         let board = pair_board(random);
         if random.one_in(6) {
             if let Some(list) = self.route_and_judge(random, &bytes_of(&board.words()), 8196) {
@@ -314,7 +314,7 @@ impl Run {
             ("not alike: every net's edges of the first list within the second's", within(&in_one, &in_two)),
             ("not alike: every net's edges of the second list within the first's", within(&in_two, &in_one)),
         ];
-        seen.iter().filter(|(_, holds)| *holds).for_each(|(what, _)| self.count(what));
+        self.count_all(&seen);
     }
 }
 
@@ -338,7 +338,7 @@ const DUE: [(&str, u64); 12] = [
 
 /// What part e reached, and how often is due: two thirds or less of what each of the seeds 1985, 1 and 2 reaches.
 fn reached(run: &Run) -> Vec<(String, u64, u64)> {
-    let mut due: Vec<(String, u64)> = TRUE_PAIRS.map(|(kind, _)| (kind.to_string(), 1_400)).into();
+    let mut due: Vec<(String, u64)> = TRUE_PAIRS.map(|(kind, ..)| (kind.to_string(), 1_400)).into();
     LISTS.iter().for_each(|list| due.extend(STATES.map(|state| (state_of(list, state), 5_000))));
     due.extend(DUE.map(|(what, least)| (what.to_string(), least)));
     LISTS.iter().for_each(|list| due.extend([10, 41, 42, 43, 44, 45, 46].map(|number| (refused_by(list, number), 500))));

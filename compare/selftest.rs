@@ -1,15 +1,18 @@
 //! The independent side tried on its own: the ring and the boards a to i of the requirements, reports by hand and against another way to work
-//! them out, pairs of routings whose answer is known, the three readings of convexity against each other, the exhaustive router on boards whose
-//! answer is known, odd vertices and their pairings, and the revised cut test on boards worked out by hand and against other ways to work it out.
+//! them out, pairs of routings whose answer is known, pages drawn by hand and against another way to draw them, the three readings of convexity
+//! against each other, the exhaustive router on boards whose answer is known, odd vertices and their pairings, and the revised cut test on boards
+//! worked out by hand and against other ways to work it out.
 
 mod exhaustive;
 #[allow(dead_code)]
 mod generate;
 mod independent;
+mod page;
 
 use exhaustive::{route, Answer};
 use generate::{convex_rows, loop_laid_on, mirrored, odd_nets, stepped_rows, trails, true_board, turned, Care, Random};
 use independent::*;
+use page::{draw, page_length, printed, read_off, used_edges, LONGEST, ROOM};
 use std::collections::BTreeMap;
 
 const RING: [u32; 6] = [0x10000001, 0x20100001, 0x20200421, 0x20308420, 0x20408000, 0xF0000104];
@@ -288,26 +291,30 @@ fn pairs() {
     assert_eq!(steps_of(&routing_words(&row, &other_way)), other_way);
 }
 
-/// The first list is judged whole, then the second; 41 to 46 put the list before the place, 10 does not.
-fn refusals_of_pairs() {
-    let ring = read(&bytes_of(&RING)).unwrap();
-    let passes = bytes_of(&RING_ROUTED);
+/// Lists that are refused on the ring's board, each with its number and place.
+fn refused_lists() -> [(u32, u32, Vec<u8>); 8] {
     let changed = |index: usize, word: u32| {
         let mut words = RING_ROUTED.to_vec();
         words[index] = word;
         bytes_of(&words)
     };
     let astray = [0x40100003, 0x58000001, 0x54000001, 0x50000001, 0x40200001, 0x5C000001];
-    let lists: [(u32, u32, Vec<u8>); 8] = [
+    [
         (41, 0, Vec::new()),
         (41, 0, vec![0; 4 * 2050]),
         (42, 3, changed(3, 0x58000000)),
         (43, 6, changed(6, 0x40500001)),
-        (43, 8, passes[..32].to_vec()),
+        (43, 8, bytes_of(&RING_ROUTED[..8])),
         (44, 5, changed(5, 0x5C000002)),
         (45, 3, changed(3, 0x5C000001)),
         (46, 4, bytes_of(&[&astray, &RING_ROUTED[4..]].concat())),
-    ];
+    ]
+}
+
+/// The first list is judged whole, then the second; 41 to 46 put the list before the place, 10 does not.
+fn refusals_of_pairs() {
+    let ring = read(&bytes_of(&RING)).unwrap();
+    let (passes, lists) = (bytes_of(&RING_ROUTED), refused_lists());
     let uneven = &passes[..35];
     let ten = Err(refused(10, 0));
     for (number, place, list) in &lists {
@@ -319,6 +326,167 @@ fn refusals_of_pairs() {
         lists.iter().for_each(|(_, _, other)| assert_eq!(alike(&ring, list, other), of_list(0)));
     }
     assert_eq!([alike(&ring, uneven, &passes), alike(&ring, &passes, uneven), alike(&ring, uneven, uneven)], [ten; 3]);
+}
+
+// ---------------------------------------------------------------- pages
+
+/// A page by its text lines, each filled up with spaces.
+fn text(lines: &[&str]) -> String {
+    lines.iter().map(|line| format!("{line:63}\n")).collect()
+}
+
+/// The page of these paths for these nets. The edges read off it are those in use.
+fn drawn(rows: &[(usize, usize)], nets: &[Ends], paths: &[&[usize]]) -> String {
+    let board = with_nets(rows, nets);
+    let paths: Vec<Vec<usize>> = paths.iter().map(|path| path.to_vec()).collect();
+    let list = bytes_of(&routing_words(&board, &paths));
+    let page = draw(&board, &list, ROOM).unwrap();
+    assert_eq!(page.len(), page_length(&board));
+    assert_eq!(read_off(&page), used_edges(&board, &list).ok());
+    String::from_utf8(page).unwrap()
+}
+
+fn pages_by_hand() {
+    // The ring, and the same edges by two nets, one on either side.
+    let ring = text(&["+-+", "| |", "+-+"]);
+    let around = [(1, (0, 0), (0, 1)), (2, (0, 1), (1, 1)), (3, (1, 1), (1, 0)), (4, (1, 0), (0, 0))];
+    assert_eq!(drawn(&[(0, 1)], &around, &[&[RIGHT], &[DOWN], &[LEFT], &[UP]]), ring);
+    let twins = [(1, (0, 0), (1, 1)), (2, (0, 0), (1, 1))];
+    assert_eq!(drawn(&[(0, 1)], &twins, &[&[RIGHT, DOWN], &[DOWN, RIGHT]]), ring);
+    assert_eq!(drawn(&[(0, 1)], &twins, &[&[DOWN, RIGHT], &[RIGHT, DOWN]]), ring);
+    // One edge unused: the net takes the other three, or that one alone.
+    let one = [(1, (0, 0), (0, 1))];
+    assert_eq!(drawn(&[(0, 1)], &one, &[&[DOWN, RIGHT, UP]]), text(&["+ +", "| |", "+-+"]));
+    assert_eq!(drawn(&[(0, 1)], &one, &[&[RIGHT]]), text(&["+-+", "", "+ +"]));
+    // A straight net, walked either way, and a vertical edge.
+    assert_eq!(drawn(&[(0, 2)], &[(1, (0, 0), (0, 2))], &[&[RIGHT, RIGHT]]), text(&["+-+-+", "", "+ + +"]));
+    assert_eq!(drawn(&[(0, 2)], &[(9, (0, 2), (0, 0))], &[&[LEFT, LEFT]]), text(&["+-+-+", "", "+ + +"]));
+    assert_eq!(drawn(&[(0, 2)], &[(1, (0, 1), (1, 1))], &[&[DOWN]]), text(&["+ + +", "  |", "+ + +"]));
+    // A loop walked either way.
+    let (row, loops) = ([(0, 2)], text(&["+-+-+", "  | |", "+ +-+"]));
+    assert_eq!(drawn(&row, &one, &[&[RIGHT, DOWN, RIGHT, UP, LEFT]]), loops);
+    assert_eq!(drawn(&row, &one, &[&[RIGHT, RIGHT, DOWN, LEFT, UP]]), loops);
+    // Board i: the two nets touch at (1, 1).
+    let i = [(1, (0, 1), (1, 0)), (2, (1, 2), (2, 1))];
+    assert_eq!(drawn(&[(0, 2), (0, 2)], &i, &[&[DOWN, LEFT], &[LEFT, DOWN]]), text(&["+ + +", "  |", "+-+-+", "  |", "+ + +"]));
+    // Boards that start right of column 0; the last reaches column 31.
+    let steps = text(&["      +-+-+", "          |", "      + + +", "          |", "        + +"]);
+    assert_eq!(drawn(&[(3, 5), (4, 5)], &[(1, (0, 3), (2, 5))], &[&[RIGHT, RIGHT, DOWN, DOWN]]), steps);
+    let h = text(&["    + +", "    |", "  +-+ + +", "", "  + + + +", "", "    + +"]);
+    assert_eq!(drawn(&[(2, 3), (1, 4), (2, 3)], &[(1, (0, 2), (1, 1))], &[&[DOWN, LEFT]]), h);
+    let left = " ".repeat(60);
+    let corner = [format!("{left}+-+"), format!("{left}  |"), format!("{left}+ +")];
+    assert_eq!(drawn(&[(30, 31)], &[(1, (0, 30), (1, 31))], &[&[RIGHT, DOWN]]), text(&corner.each_ref().map(String::as_str)));
+    // No nets: vertices alone, on the smallest page and on the largest.
+    assert_eq!(drawn(&[(0, 1)], &[], &[]), text(&["+ +", "", "+ +"]));
+    let all = ["+ ".repeat(31) + "+", String::new()];
+    let lines: Vec<&str> = (0..63).map(|line| &all[line % 2][..]).collect();
+    let largest = drawn(&[(0, 31); 31], &[], &[]);
+    assert!(largest == text(&lines) && largest.len() == ROOM);
+}
+
+/// Pages on which signs do not lie between two vertices, or lines are too short or too long.
+fn pages_not_read() {
+    let page = |lines: &[&str]| read_off(text(lines).as_bytes()).map(|edges| edges.len());
+    assert_eq!(page(&["+-+", "| |", "+-+"]), Some(4));
+    assert_eq!(page(&["+-+", "  |", "+ +"]), Some(2));
+    assert_eq!([page(&["+--", "", "+ +"]), page(&["+ +", "-", "+ +"]), page(&["+ +", " |", "+ +"]), page(&["+|+", "", "+ +"])], [None; 4]);
+    assert_eq!(read_off(text(&["+ +", &" ".repeat(64), "+ +"]).as_bytes()), None);
+    assert_eq!([read_off(b""), read_off(b"+ +\n"), read_off(text(&["+ +"]).trim_end().as_bytes())], [const { None }; 3]);
+}
+
+/// The page by walking: the corners of each cell, then each step of each path, two characters long.
+fn page_by_steps(board: &Board, paths: &[Vec<usize>]) -> String {
+    let mut text = vec![[' '; 63]; 2 * board.rows.len() + 1];
+    for (row, &(left, right)) in board.rows.iter().enumerate() {
+        for column in left..=right {
+            (text[2 * row][2 * column], text[2 * row + 2][2 * column]) = ('+', '+');
+        }
+    }
+    for (net, path) in board.nets.iter().zip(paths) {
+        let mut at = (2 * net.first.0, 2 * net.first.1);
+        for &direction in path {
+            at = step(at, direction);
+            text[at.0][at.1] = if direction % 2 == 0 { '|' } else { '-' };
+            at = step(at, direction);
+        }
+    }
+    text.iter().map(|line| line.iter().collect::<String>() + "\n").collect()
+}
+
+/// Pages of random trails, two of them for each board: they are the same exactly when the edges are. Answers with how many were drawn.
+fn pages_of_trails() -> usize {
+    let (mut pages, mut same, mut other) = (0, 0, 0);
+    for case in 0..6_000 {
+        let mut random = Random::of_case(7, 'p', case);
+        let size = random.pick(&[1, 2, 4, 31]);
+        let board = true_board(&mut random, (size, size));
+        let two: Vec<_> = (0..2).filter_map(|_| trails(&mut random, &board)).collect();
+        let lists: Vec<_> = two.iter().map(|paths| bytes_of(&routing_words(&board, paths))).collect();
+        let drawn: Vec<_> = lists.iter().map(|list| draw(&board, list, ROOM).unwrap()).collect();
+        for ((paths, list), page) in two.iter().zip(&lists).zip(&drawn) {
+            assert_eq!(String::from_utf8_lossy(page), page_by_steps(&board, paths));
+            assert_eq!(read_off(page), used_edges(&board, list).ok());
+        }
+        pages += drawn.len();
+        if let [one, two] = &drawn[..] {
+            assert_eq!(one == two, used_edges(&board, &lists[0]) == used_edges(&board, &lists[1]));
+            same += (one == two && lists[0] != lists[1]) as usize;
+            other += (one != two) as usize;
+        }
+    }
+    assert!(pages > 2_000 && same > 30 && other > 200, "{pages} {same} {other}");
+    pages
+}
+
+/// The board comes first, then the buffer, then the list. The ring's page has 192 bytes.
+fn refusals_of_drawing() {
+    let (ring, routed) = (bytes_of(&RING), bytes_of(&RING_ROUTED));
+    let answer = |board: &[u8], list: &[u8], room: usize| read(board).and_then(|board| draw(&board, list, room)).map(|page| page.len());
+    assert_eq!([ROOM, ROOM + 1, 9_001].map(|room| answer(&ring, &routed, room)), [Ok(192); 3]);
+    let mut lists: Vec<Vec<u8>> = vec![routed.clone(), routed[..35].to_vec(), vec![0; 4 * 2050 + 1]];
+    lists.extend(refused_lists().map(|(.., list)| list));
+    let boards = [
+        (refused(10, 0), ring[..23].to_vec()),
+        (refused(11, 0), Vec::new()),
+        (refused(13, 5), ring[..20].to_vec()),
+        (refused(16, 0), bytes_of(&[0x10000001, 0x10000022, 0xF0000200])),
+        (refused(25, 4), bytes_of(&[&RING[..4], &[0x20408001, 0xF0000104]].concat())),
+    ];
+    for room in [0, 1, 191, 192, 193, ROOM - 1, ROOM, ROOM + 1] {
+        for list in &lists {
+            boards.iter().for_each(|(refusal, board)| assert_eq!(answer(board, list, room), Err(*refusal)));
+            assert!(room >= ROOM || answer(&ring, list, room) == Err(refused(37, 0)));
+        }
+    }
+    for list in &lists[1..3] {
+        assert_eq!(answer(&ring, list, ROOM), Err(refused(10, 0)));
+    }
+    for (number, place, list) in refused_lists() {
+        assert_eq!(answer(&ring, &list, ROOM), Err(refused(number, place)));
+    }
+}
+
+/// What the program is to print: the board's words end with the first of kind 15.
+fn printed_by_hand() {
+    let (ring, routed) = (bytes_of(&RING), bytes_of(&RING_ROUTED));
+    let print = |parts: &[&[u8]]| String::from_utf8(printed(&parts.concat())).unwrap();
+    assert_eq!(print(&[&ring, &routed]), text(&["+-+", "| |", "+-+"]));
+    assert_eq!(print(&[]), "refused 11 0\n");
+    assert_eq!(print(&[&[0xF0]]), "refused 10 0\n");
+    assert_eq!(print(&[&[0, 0, 0, 0xF0]]), "refused 13 0\n");
+    // The board alone; without its end word, so that the list's words are taken for the board's; twice.
+    assert_eq!(print(&[&ring]), "refused 41 0\n");
+    assert_eq!(print(&[&ring[..20], &routed]), "refused 12 5\n");
+    assert_eq!(print(&[&ring[..20]]), "refused 13 5\n");
+    assert_eq!(print(&[&ring, &ring, &routed]), "refused 42 0\n");
+    // An end word too soon; bytes missing from the list and from the board.
+    assert_eq!(print(&[&ring[..20], &[0, 0, 0, 0xF0], &routed]), "refused 15 5\n");
+    assert_eq!(print(&[&ring, &routed[..35]]), "refused 10 0\n");
+    assert_eq!(print(&[&ring[..22]]), "refused 10 0\n");
+    // No more bytes are read than the most; with all of them the list would be uneven.
+    assert_eq!(print(&[&ring, &vec![0; LONGEST - ring.len() + 1]]), "refused 41 0\n");
+    assert_eq!(print(&[&ring, &vec![0; LONGEST - ring.len() - 1]]), "refused 10 0\n");
 }
 
 /// Counts of odd vertices, and what they lead to.
@@ -497,6 +665,11 @@ fn main() {
     refusals();
     pairs();
     refusals_of_pairs();
+    pages_by_hand();
+    pages_not_read();
+    let pages = pages_of_trails();
+    refusals_of_drawing();
+    printed_by_hand();
     odd_vertices();
     ways_to_pair_off();
     boards_without_paths();
@@ -504,6 +677,6 @@ fn main() {
     let odd = odd_boards();
     let boards = convexity();
     println!("self test: the ring, boards a to i, the refusals, pairs of routings; reports by hand and on {lists} lists, {twice} of them");
-    println!("with a vertex where one net turns twice; odd vertices, pairings and the revised cut test by hand and on {odd} boards;");
-    println!("convexity on {boards} boards three ways: passed");
+    println!("with a vertex where one net turns twice; pages by hand and {pages} drawn two ways; odd vertices, pairings and the revised cut test");
+    println!("by hand and on {odd} boards; convexity on {boards} boards three ways: passed");
 }

@@ -11,12 +11,11 @@
 #[allow(dead_code)]
 mod generate;
 mod independent;
+mod program;
 
 use generate::{convex_rows, Random};
 use independent::{bytes_of, judge, route_refused, Board, Net, Vertex};
 use std::collections::{BTreeMap, VecDeque};
-use std::io::Write;
-use std::process::{Command, Stdio};
 use std::time::Instant;
 
 const PROGRAM: &str = "target/bin/replay";
@@ -1719,24 +1718,6 @@ fn by_hand() {
 
 // ---------------------------------------------------------------- the program held against the machine
 
-fn no_program(error: std::io::Error) -> ! {
-    eprintln!("compare: {PROGRAM} does not run ({error}); rt check replay makes it");
-    std::process::exit(2)
-}
-
-/// Runs the program on a text. Answers with its output and whether it ended well.
-fn replayed(text: &str) -> (String, bool) {
-    let run = Command::new(PROGRAM).stdin(Stdio::piped()).stdout(Stdio::piped()).spawn();
-    let mut child = run.unwrap_or_else(|error| no_program(error));
-    let mut input = child.stdin.take().unwrap();
-    let bytes = text.as_bytes().to_vec();
-    // A program that stops reading shows in its answers.
-    let writing = std::thread::spawn(move || input.write_all(&bytes).is_ok());
-    let output = child.wait_with_output().unwrap_or_else(|error| no_program(error));
-    let _ = writing.join();
-    (String::from_utf8_lossy(&output.stdout).into_owned(), output.status.success())
-}
-
 fn difference(what: &str, text: &str, output: &str, machine: &Machine) -> ! {
     let (judged, answers) = (with_routings_judged(output, &machine.routed), &machine.output);
     let same = judged.lines().zip(answers.lines()).take_while(|(a, b)| a == b).count();
@@ -1747,11 +1728,12 @@ fn difference(what: &str, text: &str, output: &str, machine: &Machine) -> ! {
 
 fn compare(what: &str, text: &str, machine: &Machine) {
     assert!(text.len() <= MOST_BYTES);
-    let (output, well) = replayed(text);
+    let (output, status) = program::printed(PROGRAM, text.as_bytes());
+    let output = String::from_utf8_lossy(&output).into_owned();
     if with_routings_judged(&output, &machine.routed) != machine.output {
         difference(what, text, &output, machine);
     }
-    if !well {
+    if !status.success() {
         difference(&format!("{what}: the program ended badly"), text, &output, machine);
     }
 }

@@ -1,4 +1,4 @@
-/* Cidrask for C: routing boards, judging routings and comparing two, on bytes.
+/* Cidrask for C: routing boards, judging routings, comparing two and drawing one, on bytes.
  *
  * Boards. A board is 1 to 31 rows of unit cells, row 0 at the top; a row runs from column left to column right, 0 <= left < right <= 31. The corners
  * of its cells are the vertices and their sides the edges. A vertex is written (line, column); line i is the top of row i. A board is convex when of
@@ -48,6 +48,7 @@
  *   33  a row or column is crossed by more nets than it has edges: the first, rows
  *       from the top, then columns from the left                                      0 row or 1 column; its index
  *   34  no row or column is crossed by too many nets, and yet there is no routing     0
+ *   37  the buffer for a page has fewer than 4,032 bytes                              0
  *   41  the list has no words or more than 2,049                                      0
  *   42  a routing word not of the kind due, with an unnamed bit set, of length 0, or
  *       in the direction of the run before                                            its index
@@ -66,6 +67,7 @@
 
 #define CIDRASK_BOARD_WORDS 96     /* the most words of a board */
 #define CIDRASK_ROUTING_WORDS 2049 /* the most words of a routing, and the least room for one: 4 * 2049 bytes */
+#define CIDRASK_PAGE_BYTES 4032    /* the most bytes of a page, and the least room for one */
 
 #ifdef __cplusplus
 extern "C" {
@@ -98,6 +100,21 @@ uint32_t cidrask_judge(const uint8_t *board, size_t board_length, const uint8_t 
  * path, 44 to 46; then the list two whole, in the same order. No other number comes. */
 uint32_t cidrask_alike(const uint8_t *board, size_t board_length, const uint8_t *one, size_t one_length, const uint8_t *two, size_t two_length,
                        uint64_t *first, uint64_t *second);
+
+/* Reads a board, judges a list of routing words against it, and draws the routing as a page of text into a buffer of bytes.
+ * A board of n rows has a page of 2 n + 1 text lines, each of 63 characters and a line feed. Text lines and characters are counted from 0:
+ *   - the vertex (i, j) stands at character 2 j of text line 2 i, as "+";
+ *   - where a path uses the edge between the vertices (i, j) and (i, j + 1), "-" stands at character 2 j + 1 of text line 2 i;
+ *   - where a path uses the edge between the vertices (i, j) and (i + 1, j), "|" stands at character 2 j of text line 2 i + 1;
+ *   - all other characters are spaces.
+ * So every used edge can be read off the page, and two routings of one board that use the same edges, by whatever nets, give the same page.
+ * Accepted: the list is the words of a routing of the board's nets, and its page stands at the start of the buffer. *first is the count of bytes
+ * written, 64 (2 n + 1), which is at most 4,032. The bytes after them are untouched.
+ * Refused: *first is the place; the whole buffer is untouched.
+ * Order: the board's 10 to 25 as above; 37, also where this page would be shorter than 4,032 bytes; then the list in the order of cidrask_judge: 10,
+ * 41; each word in turn through 42, 43; path by path, 44 to 46. No other number comes. */
+uint32_t cidrask_draw(const uint8_t *board, size_t board_length, const uint8_t *list, size_t list_length, uint8_t *page, size_t page_length,
+                      uint64_t *first);
 
 #ifdef __cplusplus
 }

@@ -10,4 +10,7 @@ extern "C" {
         board: *const u8, board_length: usize, one: *const u8, one_length: usize, two: *const u8, two_length: usize, first: *mut u64,
         second: *mut u64,
     ) -> u32;
+    pub fn cidrask_draw(
+        board: *const u8, board_length: usize, list: *const u8, list_length: usize, page: *mut u8, page_length: usize, first: *mut u64,
+    ) -> u32;
 }

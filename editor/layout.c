@@ -3,6 +3,8 @@
  *     layout FILE
  *     layout FILE LIST         judges the routing words in the file LIST, instead of having the board routed
  *     layout FILE LIST LIST    prints instead whether two lists are "alike" or "not alike"
+ *     layout --page FILE       prints instead the page of the routing, for the wall: 63 characters and a line feed for each line of text
+ *     layout --page FILE LIST  the same of the routing words in the file LIST
  *
  * Ends with status 0, or with
  *   1  the board, or a list, is refused: prints "refused", the number and the place; of two lists 0 or 1 for the list stands before the place, but
@@ -158,30 +160,48 @@ static int route(const uint8_t *board, size_t length, uint8_t *routing, size_t r
     return 0;
 }
 
-int main(int argc, char **argv) {
-    static uint8_t board[4 * CIDRASK_BOARD_WORDS + 7], routing[4 * CIDRASK_ROUTING_WORDS + 7];
+/* A list from a file is refused; the board's own routing must pass. */
+static int not_passed(uint32_t number, uint64_t place, int from_file) {
+    if (from_file) return refused(number, place, 0, 1);
+    fprintf(stderr, "layout: the routing does not pass the judge: %u %llu\n", (unsigned)number, (unsigned long long)place);
+    return 3;
+}
+
+static int print_page(const uint8_t *board, size_t length, const uint8_t *routing, size_t listed, int from_file) {
+    static uint8_t page[CIDRASK_PAGE_BYTES];
+    uint64_t first;
+    uint32_t r = cidrask_draw(board, length, routing, listed, page, sizeof page, &first);
+    if (r != 0) return not_passed(r, first, from_file);
+    fwrite(page, 1, first, stdout);
+    return 0;
+}
+
+static int print_layout(const uint8_t *board, size_t length, const uint8_t *routing, size_t listed, int from_file) {
     static struct picture p;
     uint64_t first, second, third;
-    if (argc < 2 || argc > 4) {
-        fprintf(stderr, "usage: layout FILE [LIST [LIST]]\n");
-        return 2;
-    }
-    size_t length = read_file(argv[1], board, CIDRASK_BOARD_WORDS), listed;
-    if (argc == 4) return compare(board, length, argv[2], argv[3]);
-    if (argc == 3) {
-        listed = read_file(argv[2], routing, CIDRASK_ROUTING_WORDS);
-    } else if (route(board, length, routing, sizeof routing, &listed) != 0) {
-        return 1;
-    }
     uint32_t r = cidrask_judge(board, length, routing, listed, &first, &second, &third);
-    if (r != 0 && argc == 3) return refused(r, first, 0, 1);
-    if (r != 0) {
-        fprintf(stderr, "layout: the routing does not pass the judge: %u %llu\n", (unsigned)r, (unsigned long long)first);
-        return 3;
-    }
+    if (r != 0) return not_passed(r, first, from_file);
     draw_board(&p, board, length / 4);
     draw_paths(&p, board, length / 4, routing, listed / 4);
     print_picture(&p);
     printf("%llu edges, %llu turns, %llu knock-knees\n", (unsigned long long)first, (unsigned long long)second, (unsigned long long)third);
     return 0;
+}
+
+int main(int argc, char **argv) {
+    static uint8_t board[4 * CIDRASK_BOARD_WORDS + 7], routing[4 * CIDRASK_ROUTING_WORDS + 7];
+    int as_page = argc > 1 && strcmp(argv[1], "--page") == 0, files = argc - 1 - as_page;
+    char **names = argv + 1 + as_page;
+    if (files < 1 || files > 3 - as_page) {
+        fprintf(stderr, "usage: layout FILE [LIST [LIST]]\n       layout --page FILE [LIST]\n");
+        return 2;
+    }
+    size_t length = read_file(names[0], board, CIDRASK_BOARD_WORDS), listed;
+    if (files == 3) return compare(board, length, names[1], names[2]);
+    if (files == 2) {
+        listed = read_file(names[1], routing, CIDRASK_ROUTING_WORDS);
+    } else if (route(board, length, routing, sizeof routing, &listed) != 0) {
+        return 1;
+    }
+    return (as_page ? print_page : print_layout)(board, length, routing, listed, files == 2);
 }

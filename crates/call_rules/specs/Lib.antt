@@ -10,6 +10,9 @@ pub mod ReportLaws
 pub mod Alike
 pub mod AlikeLaws
 pub mod Judge
+pub mod Page
+pub mod ReadOff
+pub mod PageLaws
 pub mod Route
 pub mod RouteLaws
 pub mod Editor

@@ -34,7 +34,8 @@ abbrev pub bufferAfter : List ℕ → Result (List ℕ) → List ℕ
 bufferAfter buffer (no r) = buffer
 bufferAfter buffer (yes ws) = writtenInto buffer ws
 
--- what a call that writes into a lent buffer promises, where x is what is written or the refusal: the count, or the refusal, and the buffer afterwards
+-- what a call that writes into a lent buffer promises, where x is what is written, or the refusal: the count, or the refusal, and the buffer
+-- afterwards
 pub record Writes (x : Result (List ℕ)) (before : List ℕ) (answer : Result ℕ) (after : List ℕ) : Type 0 where
   pub answers : answer ≡ countOf x
   pub buffer : after ≡ bufferAfter before x

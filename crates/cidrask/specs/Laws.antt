@@ -1,23 +1,29 @@
 -- The calls in their parts: the board is read, then the call is made on the session.
--- Assumes what reading, routing, judging and comparing promise.
+-- Assumes what reading, routing, judging, comparing and drawing promise.
 use mathlib.Core.Path.{_≡_, refl, ap, sym, _∙_}
 use mathlib.Core.Bool.{Bool}
 use mathlib.Core.List.{List}
 use Prim.Native.Nat.{ℕ}
+use lib.ListN.{length}
 use Rattle.session_rules.specs.Refusal.{refusal}
 use Rattle.session.specs.View.{sessionOf}
 use Rattle.call_rules.specs.Result.{Result, no, yes}
 use Rattle.call_rules.specs.Reading.{readBytes}
 use Rattle.call_rules.specs.Route.{RoutesBytes}
 use Rattle.call_rules.specs.Judge.{judgeBytes, compareBytes}
-use Rattle.call_rules.specs.Editor.{unread, read, editorJudge, editorAlike}
+use Rattle.call_rules.specs.Writing.{Writes, countOf}
+use Rattle.call_rules.specs.Page.{drawBytes}
+use Rattle.call_rules.specs.Editor.{unread, read, editorJudge, editorAlike, editorDraw}
 use Rattle.board_reading.specs.Promise.{ReadPromise}
 use Rattle.board_reading.specs.ReadAs.{read-refused, read-accepted}
 use Rattle.board_reading.specs.declared.AfterRead.{AfterRead}
 use Rattle.board_reading.specs.declared.ReadAnswer.the-variants as answer
+use Rattle.draw_call.specs.Answers.{drawAnswer}
+use Rattle.draw_call.specs.declared.DrawAnswer.{DrawAnswer}
+use Rattle.draw_call.specs.declared.DrawAnswer.the-variants as draw
 use Rattle.cidrask_told.specs.Told.{tell, countTold, judgeTold, alikeTold}
 use Rattle.cidrask_told.specs.declared.Told.{Told}
-use Rattle.cidrask.specs.Promise.{RoutedAs}
+use Rattle.cidrask.specs.Promise.{RoutedAs, DrawnAs, DrawPromise}
 
 pub routed-unread : {board before : List ℕ} {r : AfterRead} (n p : ℕ) → ReadPromise (readBytes board) r → r .answer ≡ answer.Refused n p
     → RoutedAs board before (tell n p 0 0) before
@@ -60,3 +66,32 @@ pub compared-read : (board one two : List ℕ) {r : AfterRead} {t : Told} → Re
     → t ≡ alikeTold (compareBytes (sessionOf (r .session)) one two) → t ≡ alikeTold (editorAlike board one two)
 unfolding editorAlike
 compared-read board one two P e f = rw (read-accepted P e) f
+
+-- drawing: its answers have places of one number
+draw-second : (a : DrawAnswer) → countTold (drawAnswer a) .second ≡ 0
+draw-second (draw.Drawn n) = refl
+draw-second (draw.Refused r) = refl
+
+pub drawn-unread : (board list before : List ℕ) {r : AfterRead} (n p : ℕ) → ReadPromise (readBytes board) r → r .answer ≡ answer.Refused n p
+    → DrawnAs board list before (tell n p 0 0) before
+unfolding editorDraw
+drawn-unread board list before n p P e =
+    let x : editorDraw board list (length before) ≡ no (refusal n p) = rw (read-refused P n p e) refl in
+    record { told = rw x refl; one = refl; buffer = rw x refl }
+
+pub drawn-read : (board list before : List ℕ) (a : DrawAnswer) {after : List ℕ} {r : AfterRead} {t : Told} → ReadPromise (readBytes board) r
+    → r .answer ≡ answer.Accepted → Writes (drawBytes (sessionOf (r .session)) list (length before)) before (drawAnswer a) after
+    → t ≡ countTold (drawAnswer a) → DrawnAs board list before t after
+unfolding editorDraw
+drawn-read board list before a {r = r} P e W f =
+    let x : editorDraw board list (length before) ≡ drawBytes (sessionOf (r .session)) list (length before) = rw (read-accepted P e) refl in
+    record { told = rw x (f ∙ ap countTold (W .answers)); one = ap (λ (u : Told). u .second) f ∙ draw-second a; buffer = rw x (W .buffer) }
+
+pub drawn-told : {board list before after : List ℕ} {t : Told} → DrawnAs board list before t after
+    → DrawPromise board list before (t .number) (t .first) after
+drawn-told {board} {list} {before} {t = t} D =
+    let x = countOf (editorDraw board list (length before)) in
+    record {
+      told = ap (λ (n : ℕ). tell (t .number) (t .first) n 0) (sym (D .one)) ∙ two-numbers t (countTold x) (D .told) (count-third x);
+      buffer = D .buffer;
+    }

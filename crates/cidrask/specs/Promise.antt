@@ -2,8 +2,10 @@
 use mathlib.Core.Path.{_≡_}
 use mathlib.Core.List.{List}
 use Prim.Native.Nat.{ℕ}
+use lib.ListN.{length}
 use Rattle.call_rules.specs.Result.{Result}
-use Rattle.call_rules.specs.Editor.{EditorRoutes, editorJudge, editorAlike}
+use Rattle.call_rules.specs.Writing.{countOf, bufferAfter}
+use Rattle.call_rules.specs.Editor.{EditorRoutes, editorJudge, editorAlike, editorDraw}
 use Rattle.cidrask_told.specs.Told.{tell, countTold, judgeTold, alikeTold}
 use Rattle.cidrask_told.specs.declared.Told.{Told}
 
@@ -23,3 +25,13 @@ JudgePromise board list number first second third = tell number first second thi
 -- comparing
 abbrev pub AlikePromise : (board one two : List ℕ) (number first second : ℕ) → Type 0
 AlikePromise board one two number first second = tell number first second 0 ≡ alikeTold (editorAlike board one two)
+
+-- drawing: a place of one number is told, and no more; t and the page's buffer afterwards
+pub record DrawnAs (board list before : List ℕ) (t : Told) (after : List ℕ) : Type 0 where
+  pub told : t ≡ countTold (countOf (editorDraw board list (length before)))
+  pub one : t .second ≡ 0
+  pub buffer : after ≡ bufferAfter before (editorDraw board list (length before))
+
+pub record DrawPromise (board list before : List ℕ) (number first : ℕ) (after : List ℕ) : Type 0 where
+  pub told : tell number first 0 0 ≡ countTold (countOf (editorDraw board list (length before)))
+  pub buffer : after ≡ bufferAfter before (editorDraw board list (length before))

@@ -2,7 +2,14 @@
 ghost use mathlib.Core.Path.{_≡_};
 ghost use Rattle.call_rules.specs.Editor.{editorJudge, editorAlike};
 ghost use Rattle.cidrask_told.specs.Told.{judgeTold, alikeTold};
-ghost use Rattle.cidrask.specs.Promise.{RoutedAs, RoutePromise, JudgePromise, AlikePromise};
+ghost use Rattle.cidrask.specs.Promise.{
+  RoutedAs,
+  RoutePromise,
+  JudgePromise,
+  AlikePromise,
+  DrawnAs,
+  DrawPromise,
+};
 use board_reading::ReadAnswer;
 use cidrask_told::Told;
 
@@ -14,7 +21,10 @@ fn routed(board: &[u8], buffer: &mut [u8]) -> Told
     let answer = after.answer;
     match answer {
         ReadAnswer::Refused(number, place) => cidrask_told::refused(number, place),
-        ReadAnswer::Accepted => cidrask_told::route_told(route_call::route_bytes(after.session, buffer)),
+        ReadAnswer::Accepted => cidrask_told::route_told(route_call::route_bytes(
+            after.session,
+            buffer,
+        )),
     }
 }
 
@@ -25,7 +35,10 @@ fn judged(board: &[u8], list: &[u8]) -> Told
     let answer = after.answer;
     match answer {
         ReadAnswer::Refused(number, place) => cidrask_told::refused(number, place),
-        ReadAnswer::Accepted => cidrask_told::judge_told(judge_call::judge_bytes(after.session, list)),
+        ReadAnswer::Accepted => cidrask_told::judge_told(judge_call::judge_bytes(
+            after.session,
+            list,
+        )),
     }
 }
 
@@ -36,7 +49,26 @@ fn compared(board: &[u8], one: &[u8], two: &[u8]) -> Told
     let answer = after.answer;
     match answer {
         ReadAnswer::Refused(number, place) => cidrask_told::refused(number, place),
-        ReadAnswer::Accepted => cidrask_told::alike_told(judge_call::compare_bytes(after.session, one, two)),
+        ReadAnswer::Accepted => cidrask_told::alike_told(judge_call::compare_bytes(
+            after.session,
+            one,
+            two,
+        )),
+    }
+}
+
+fn drawn(board: &[u8], list: &[u8], page: &mut [u8]) -> Told
+    ensures { λ r. ⌜ DrawnAs (now (board .entry)) (now (list .entry)) (now (page .entry)) r (now (page .exit)) ⌝ }
+{
+    let after = board_reading::read_bytes(board);
+    let answer = after.answer;
+    match answer {
+        ReadAnswer::Refused(number, place) => cidrask_told::refused(number, place),
+        ReadAnswer::Accepted => cidrask_told::draw_told(draw_call::draw_bytes(
+            after.session,
+            list,
+            page,
+        )),
     }
 }
 
@@ -92,4 +124,15 @@ pub extern "C" fn cidrask_alike(
     *first = told.first;
     *second = told.second;
     told.number
+}
+
+// Reads a board, judges a list of routing words against it and draws its page. Answers 0 or the refusal's number; the other number is the count of
+// bytes, or the place.
+#[no_mangle]
+pub extern "C" fn cidrask_draw(board: &[u8], list: &[u8], page: &mut [u8], first: &mut u64) -> u32
+    ensures { λ r. ⌜ DrawPromise (now (board .entry)) (now (list .entry)) (now (page .entry)) r (now (first .exit)) (now (page .exit)) ⌝ }
+{
+    let drawing = drawn(board, list, page);
+    *first = drawing.first;
+    drawing.number
 }

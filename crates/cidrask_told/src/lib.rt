@@ -4,8 +4,10 @@ ghost use Rattle.session_rules.specs.Refusal.{refusal};
 ghost use Rattle.call_rules.specs.Route.{overfullRefusal};
 ghost use Rattle.route_call.specs.Answers.{routeAnswer};
 ghost use Rattle.judge_call.specs.Answers.{judgementOf, likenessOf};
+ghost use Rattle.draw_call.specs.Answers.{drawAnswer};
 ghost use Rattle.cidrask_told.specs.Told.{refusedTold, countTold, judgeTold, alikeTold};
 use cut::Cut;
+use draw_call::DrawAnswer;
 use judge_call::Judgement;
 use judge_call::Likeness;
 use route_call::RouteAnswer;
@@ -106,5 +108,19 @@ pub fn alike_told(likeness: Likeness) -> Told
             second: r.place as u64,
             third: 0,
         },
+    }
+}
+
+pub fn draw_told(answer: DrawAnswer) -> Told
+    ensures { λ r. ⌜ r ≡ countTold (drawAnswer answer) ⌝ }
+{
+    match answer {
+        DrawAnswer::Drawn(count) => Told {
+            number: 0,
+            first: count as u64,
+            second: 0,
+            third: 0,
+        },
+        DrawAnswer::Refused(r) => refused(r.number, r.place as usize),
     }
 }

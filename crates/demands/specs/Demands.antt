@@ -12,7 +12,7 @@ use mathlib.Core.Option.{none, some}
 use Prim.Native.Nat.{ℕ, _+_, _/_, _%_, _≤_, _<_}
 use lib.ListN.{length, take}
 use Rattle.count.specs.Truth.{Decides}
-use Rattle.board.specs.Board.{Board, Within}
+use Rattle.board.specs.Board.{Board, Within, Edge, IsEdge}
 use Rattle.board.specs.Path.{Convex}
 use Rattle.board.specs.View.{boardOf}
 use Rattle.board.specs.declared.Board as code-board
@@ -22,7 +22,7 @@ use Rattle.board.specs.declared.Vertex.{Vertex}
 use Rattle.board.specs.declared.Direction.{Direction}
 use Rattle.board_convex.specs.Test.{isConvex}
 use Rattle.net.specs.declared.Net.{Net}
-use Rattle.routing_rules.specs.Routing.{trails, Routing, Routable}
+use Rattle.routing_rules.specs.Routing.{trails, uses, Routing, Routable}
 use Rattle.session_rules.specs.Refusal.{Refusal, refusal}
 use Rattle.session_rules.specs.Machine as calls
 use Rattle.session_rules.specs.Machine.{accepted, wentOn}
@@ -48,8 +48,10 @@ use Rattle.call_rules.specs.Result.{Result, no, yes}
 use Rattle.call_rules.specs.Reading.{boardLimit, readWords, readBytes}
 use Rattle.call_rules.specs.Writing.{writeBoard, countOf, bufferAfter, writtenInto}
 use Rattle.call_rules.specs.Report.{Report, reportOf, edgesUsed, turnsMade, turnsOfEach, turnsOccurring, knockKnee, knockKnees, TwoTurns}
-use Rattle.call_rules.specs.Alike.{Alike, equallyMany}
+use Rattle.call_rules.specs.Alike.{SameEdges, Alike, equallyMany}
 use Rattle.call_rules.specs.Judge.{judged, judgeWords, ofList, compareWords, judgeBytes, compareBytes}
+use Rattle.call_rules.specs.Page.{edgesOf, pageOf, pageRoom}
+use Rattle.call_rules.specs.ReadOff.{ReadsOff}
 use Rattle.call_rules.specs.Route.{routeRoom, routeRefused, HandsBack, HandsBackBytes, Routes, RoutesBytes}
 use Rattle.board_reading.specs.declared.AfterRead.{AfterRead}
 use Rattle.board_reading.specs.Promise.{readAnswer, ReadPromise}
@@ -58,11 +60,14 @@ use Rattle.board_writing.specs.Promise.{writeAnswer, WritePromise}
 use Rattle.judge_call.specs.declared.Judgement.{Judgement}
 use Rattle.judge_call.specs.declared.Likeness.{Likeness}
 use Rattle.judge_call.specs.Answers.{judgementOf, likenessOf}
+use Rattle.draw_call.specs.declared.DrawAnswer.{DrawAnswer}
+use Rattle.draw_call.specs.Answers.{drawAnswer}
+use Rattle.draw_call.specs.Promise.{DrawWordsPromise, DrawBytesPromise}
 use Rattle.route_call.specs.declared.RouteAnswer.{RouteAnswer}
 use Rattle.route_call.specs.Answers.{routeAnswer}
 use Rattle.cidrask_told.specs.declared.Told.{Told}
 use Rattle.cidrask_told.specs.Told.{tell, firstOf, refusedTold, countTold}
-use Rattle.cidrask.specs.Promise.{RoutePromise, JudgePromise, AlikePromise}
+use Rattle.cidrask.specs.Promise.{RoutePromise, JudgePromise, AlikePromise, DrawPromise}
 use Rattle.session_history.specs.Made.{Made, changed, routed, routedBytes, Meets, Chain, last, callsOf, answersOf}
 use Rattle.session_history.specs.Demand as history
 
@@ -126,6 +131,21 @@ pub record TellsCompared (s : machine.Session) (one two : List ℕ) (t : Told) :
   pub answers : WholeWords one → WholeWords two → (dss ess : List (List Direction)) → judged s (wordsIn one) ≡ yes dss
       → judged s (wordsIn two) ≡ yes ess → (SameCopper s dss ess → t ≡ tell 0 1 0 0) × ((SameCopper s dss ess → ⊥) → t ≡ tell 0 0 0 0)
 
+-- a list of words drawn for a sound session (document 02, §7): 37 "before judging, where the page's buffer has fewer than 4,032 bytes"; "Routings
+-- that fail judging keep the judge's number and print no page"; else the page at the start of the buffer, "Bytes after the page are untouched", and
+-- the answer is "the count of bytes written"
+pub record Draws (s : machine.Session) (ws before : List ℕ) (x : Result ℕ) (after : List ℕ) : Type 0 where
+  pub short : length before < pageRoom → (x ≡ no (refusal 37 0)) × (after ≡ before)
+  pub refuses : pageRoom ≤ length before → (q : Refusal) → judged s ws ≡ no q → (x ≡ no q) × (after ≡ before)
+  pub draws : pageRoom ≤ length before → (dss : List (List Direction)) → judged s ws ≡ yes dss
+      → (x ≡ yes (length (pageOf s dss))) × (after ≡ writtenInto before (pageOf s dss))
+
+-- the same of a list of bytes: 37 before 10, and 10 before 41
+pub record DrawsBytes (s : machine.Session) (bs before : List ℕ) (x : Result ℕ) (after : List ℕ) : Type 0 where
+  pub short : length before < pageRoom → (x ≡ no (refusal 37 0)) × (after ≡ before)
+  pub uneven : pageRoom ≤ length before → (WholeWords bs → ⊥) → (x ≡ no (refusal 10 0)) × (after ≡ before)
+  pub words : WholeWords bs → Draws s (wordsIn bs) before x after
+
 -- a routing call that 20, 31, 32 and 33 let pass (document 02, §4): "A routing is then given exactly when edge-disjoint paths for all nets exist",
 -- and 34 exactly "where no cut is overfull and no routing exists". Given n says that a routing of n words was handed back, Refused that 34 was told
 pub record Decided (s : machine.Session) (Given : ℕ → Type 0) (Refused : Type 0) : Type 0 where
@@ -147,9 +167,9 @@ OfRouting s ws = (dss : List (List Direction)) × IsRouting s ws dss
 -- ── 1 ──
 -- "Every accepted call .. gives exactly what document 01 lays down for its input, or, for a routing, one of those allowed there. Every refused
 -- call gives its number and place from the table, with the session and each lent buffer the same as before."
--- In each field but `names-stay`, `none-kept`, `two-turns` and `were-alike`, which are laws, and those called rightly: the answer is the
--- definition's, number and place included; what is handed back is the definition's; a refusal changes nothing, but for a list of nets: "for this
--- call alone a refusal leaves that much changed and no more" (document 02, §1).
+-- In each field but `names-stay`, `none-kept`, `two-turns`, `were-alike`, `read-off` and `same-page`, which are laws, and those called rightly: the
+-- answer is the definition's, number and place included; what is handed back is the definition's; a refusal changes nothing, but for a list of nets:
+-- "for this call alone a refusal leaves that much changed and no more" (document 02, §1).
 pub record Demand1 : Type 0 where
   pub add : (s : Session) (n : Net) (r : AfterAdd) → AddPromise s n r
       → (addAnswer (r .answer) ≡ call (sessionOf s) (calls.add n) .answer) × (sessionOf (r .session) ≡ call (sessionOf s) (calls.add n) .next)
@@ -213,6 +233,20 @@ pub record Demand1 : Type 0 where
   -- 02, §3: "Any two that are alike in the new sense were alike in the old one": every net uses equally many edges in both
   pub were-alike : (s : machine.Session) (vs ws : List ℕ) (dss ess : List (List Direction)) → judged s vs ≡ yes dss → judged s ws ≡ yes ess
       → SameCopper s dss ess → equallyMany dss ess ≡ true
+  -- 02, §7: `Draws` has the call's sentences; what its page shows is `read-off`
+  pub draw : (s : Session) (ws before : List ℕ) (r : DrawAnswer) (after : List ℕ) → DrawWordsPromise (sessionOf s) ws before r after
+      → (Unsound (sessionOf s) → (drawAnswer r ≡ no (refusal 20 0)) × (after ≡ before))
+      × (Sound (sessionOf s) → Draws (sessionOf s) ws before (drawAnswer r) after)
+  pub draw-bytes : (s : Session) (bs before : List ℕ) (r : DrawAnswer) (after : List ℕ) → DrawBytesPromise (sessionOf s) bs before r after
+      → (Unsound (sessionOf s) → (drawAnswer r ≡ no (refusal 20 0)) × (after ≡ before))
+      × (Sound (sessionOf s) → DrawsBytes (sessionOf s) bs before (drawAnswer r) after)
+  -- "every used edge can be read off it": the edges that the paths use, which are edges of the board, the vertices, and spaces for all else
+  pub read-off : (s : machine.Session) (ws : List ℕ) (dss : List (List Direction)) → Sound s → judged s ws ≡ yes dss
+      → ReadsOff (s .block .board) (λ e. 0 < uses e (edgesOf s dss)) (pageOf s dss)
+      × ((e : Edge) → 0 < uses e (edgesOf s dss) → IsEdge (s .block .board) e)
+  -- "Two routings of one board that use the same edges give the same page", and those that do not give another
+  pub same-page : (s : machine.Session) (vs ws : List ℕ) (dss ess : List (List Direction)) → Sound s → judged s vs ≡ yes dss → judged s ws ≡ yes ess
+      → (pageOf s dss ≡ pageOf s ess) ↔ SameEdges (edgesOf s dss) (edgesOf s ess)
   -- routing: first 20, 31, 32 "now only where more than 12 vertices are odd" and 33, by `routeRefused`
   pub route : (s : Session) (before : List ℕ) (r : RouteAnswer) (after : List ℕ) → Routes (sessionOf s) before (routeAnswer r) after
       → ((q : Refusal) → routeRefused (sessionOf s) (length before) ≡ some q → (routeAnswer r ≡ no q) × (after ≡ before))
@@ -252,6 +286,10 @@ pub record Demand1 : Type 0 where
   pub c-alike : (board one two : List ℕ) (number first second : ℕ) → AlikePromise board one two number first second
       → ((q : Refusal) → readBytes board ≡ no q → tell number first second 0 ≡ refusedTold q)
       × ((s : machine.Session) → readBytes board ≡ yes s → TellsCompared s one two (tell number first second 0))
+  pub c-draw : (board list before : List ℕ) (number first : ℕ) (after : List ℕ) → DrawPromise board list before number first after
+      → ((q : Refusal) → readBytes board ≡ no q → (tell number first 0 0 ≡ refusedTold q) × (after ≡ before))
+      × ((s : machine.Session) → readBytes board ≡ yes s
+      → (a : Result ℕ) × (tell number first 0 0 ≡ countTold a) × DrawsBytes s list before a after)
 
 -- ── 2 ──
 pub record Demand2 : Type 0 where

@@ -45,6 +45,7 @@ use Rattle.judge_laws.specs.Passing.{Numbered}
 use Rattle.judge_laws.specs.Exact.{passes-exactly}
 use Rattle.judge_laws.specs.Alike.{judged-equally-many}
 use Rattle.judge_laws.specs.TwoTurns.{judged-two-turns}
+use Rattle.judge_laws.specs.Pages.{used-edges, reads-off, same-page}
 use Rattle.board_roundtrip.specs.Parts.{asRead}
 use Rattle.board_roundtrip.specs.RoundTrip.{buffer-reads, read-written, read-none-kept, read-bytes-none-kept}
 use Rattle.session_answers.specs.Answers.{addAnswer}
@@ -70,6 +71,7 @@ use Rattle.demands.specs.Judging.{
   compares-bytes,
   c-compared,
 }
+use Rattle.demands.specs.Drawing.{refused-leaves, draw-is, draw-bytes-is, draws, draws-bytes, c-drawn}
 
 -- ── 1 ──
 -- the answer is none exactly where the definition gives a session
@@ -177,6 +179,14 @@ demand-1 = record {
   compare-bytes = λ s one two r e.
       let m = sessionOf s in let f = e ∙ compare-bytes-is m one two in
       (λ n. f ∙ unsound-first m _ n, λ S. compares-bytes m one two (likenessOf r) (f ∙ sound-then m _ S));
+  draw = λ s ws before r after W.
+      let m = sessionOf s in let f = draw-is m ws (length before) in
+      (λ n. refused-leaves W (f ∙ unsound-first m _ n), λ S. draws m ws before W (f ∙ sound-then m _ S));
+  draw-bytes = λ s bs before r after W.
+      let m = sessionOf s in let f = draw-bytes-is m bs (length before) in
+      (λ n. refused-leaves W (f ∙ unsound-first m _ n), λ S. draws-bytes m bs before W (f ∙ sound-then m _ S));
+  read-off = λ s ws dss S j. (reads-off s (S .within) dss, used-edges s ws dss j);
+  same-page = λ s vs ws dss ess S j k. same-page s (S .within) vs ws dss ess j k;
   were-alike = λ s vs ws dss ess e f h. judged-equally-many s vs ws dss ess e f h;
   route-rightly = λ s before r after R S long. history.words-both (sessionOf s) S long R;
   route-bytes-rightly = λ s before r after R S long. history.bytes-both (sessionOf s) S long R;
@@ -188,6 +198,7 @@ demand-1 = record {
     λ s e. tells-judged board list s (tell number first second third) P e,
   );
   c-alike = λ board one two number first second P. c-compared board one two (tell number first second 0) P;
+  c-draw = c-drawn;
 }
 
 -- ── 2 ──

@@ -1,4 +1,5 @@
 pub mod Demands
 pub mod Routing
 pub mod Judging
+pub mod Drawing
 pub mod Laws

@@ -16,11 +16,13 @@ ghost use Rattle.call_rules.specs.Route.{Routes, RoutesBytes};
 ghost use Rattle.board_reading.specs.Promise.{ReadPromise};
 ghost use Rattle.board_writing.specs.Promise.{WritePromise};
 ghost use Rattle.judge_call.specs.Answers.{judgementOf, likenessOf};
+ghost use Rattle.draw_call.specs.Promise.{DrawWordsPromise, DrawBytesPromise};
 ghost use Rattle.route_call.specs.Answers.{routeAnswer};
 use board::Board;
 use board_block::Block;
 use board_reading::AfterRead;
 use board_writing::WriteAnswer;
+use draw_call::DrawAnswer;
 use judge_call::Judgement;
 use judge_call::Likeness;
 use net::Net;
@@ -138,6 +140,19 @@ pub fn compare_bytes(s: Session, first: &[u8], second: &[u8]) -> Likeness
     ensures { λ r. ⌜ likenessOf r ≡ compareBytes (sessionOf s) (now (first .entry)) (now (second .entry)) ⌝ }
 {
     judge_call::compare_bytes(s, first, second)
+}
+
+// A routing, given as words or bytes, as a page of text.
+pub fn draw_words(s: Session, words: &[u32], out: &mut [u8]) -> DrawAnswer
+    ensures { λ r. ⌜ DrawWordsPromise (sessionOf s) (now (words .entry)) (now (out .entry)) r (now (out .exit)) ⌝ }
+{
+    draw_call::draw_words(s, words, out)
+}
+
+pub fn draw_bytes(s: Session, bytes: &[u8], out: &mut [u8]) -> DrawAnswer
+    ensures { λ r. ⌜ DrawBytesPromise (sessionOf s) (now (bytes .entry)) (now (out .entry)) r (now (out .exit)) ⌝ }
+{
+    draw_call::draw_bytes(s, bytes, out)
 }
 
 // A routing of a session's nets, into words or bytes.

@@ -42,7 +42,7 @@ nets-rise k (place ∷ places) = go (place .held) (nets-rise (suc k) places)
     go Nothing f = from-less (suc k) k (netsFrom (suc k) places) (omega arith) f
     go (Ends e) f = (omega arith, f)
 
-ends-in : (ps : List PathAt) → endsOf ps ≡ pairs (netsIn ps)
+pub ends-in : (ps : List PathAt) → endsOf ps ≡ pairs (netsIn ps)
 ends-in [] = refl
 ends-in (p ∷ ps) = ap (λ (l : List Pair). p .net .ends ∷ l) (ends-in ps)
 

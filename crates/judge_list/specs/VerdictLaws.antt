@@ -79,11 +79,11 @@ pub checks-same : {b : Board} {ns : List Net} {vs ws m a : List ℕ} {c d : Chec
 checks-same h e f = rw (← e, ← f) h
 
 module _ {b : Board} {ns : List Net} {ws : List ℕ} {c : Checked} {a : List ℕ} (h : Checks b ns ws unused a c) where
-  refused-by : {r : Refusal} → c ≡ checked.Refused r → judgedBy b ns ws ≡ no (refusalOf r)
+  pub refused-by : {r : Refusal} → c ≡ checked.Refused r → judgedBy b ns ws ≡ no (refusalOf r)
   unfolding judgedBy
   refused-by f = rw (← h .ends, f) refl
 
-  passed-by : c ≡ checked.Passed → judgedBy b ns ws ≡ yes (pathsIn (pathsFrom 0 ns ws))
+  pub passed-by : c ≡ checked.Passed → judgedBy b ns ws ≡ yes (pathsIn (pathsFrom 0 ns ws))
   unfolding judgedBy
   passed-by f = rw (← h .ends, f) refl
 
@@ -134,7 +134,7 @@ shape-all ns ws e = shape-nets (length ns) 0 ns ws (go (firstRefusal (line (badC
     go (some r) f = absurd (let z : _≡_ {A = ℕ} 0 1 = cc in omega arith)
 
 -- ── within the limits ──
-numbers-above : (k : ℕ) (places : List Place) (i : ℕ) (ws : List ℕ) → 0 < k → Each (λ q. 0 < q .net .number) (pathsFrom i (netsFrom k places) ws)
+pub numbers-above : (k : ℕ) (places : List Place) (i : ℕ) (ws : List ℕ) → 0 < k → Each (λ q. 0 < q .net .number) (pathsFrom i (netsFrom k places) ws)
 unfolding netsFrom pathsFrom
 numbers-above k [] i ws p = tt
 numbers-above k (place ∷ places) i ws p = go (place .held) (λ j vs. numbers-above (suc k) places j vs (omega arith)) ws

@@ -42,7 +42,7 @@ pub enum BytesChecked {
 }
 
 // Does a list pass? First the shape of the whole list, then the paths in order, with a map of the edges used before.
-fn check(b: Board, nets: [Place; 64], words: &[u32], used: &mut [u8; 2048]) -> Checked
+pub fn check(b: Board, nets: [Place; 64], words: &[u32], used: &mut [u8; 2048]) -> Checked
     ensures { λ r. ⌜ Checks (boardOf b) (netsOf nets) (now (words .entry)) (now (used .entry)) (now (used .exit)) r ⌝ }
     ensures { λ r. ⌜ (r ≡ Passed → length (now (words .entry)) ≤ routingLimit) ⌝ }
 {

@@ -38,12 +38,12 @@ pub edge-lies : (b : Board) → Within b → (e : Edge) → IsEdge b e → Lies 
 edge-lies b w e (i, j, c, s) = side-lies (omega (arith, c .row, w .few)) (omega (arith, c .to, w .fits i (c .row))) s
 
 -- ── its slot ──
-slot-across : (e : Edge) → e .to ≡ at (e .from .line) (suc (e .from .column)) → slot e ≡ corner (e .from .line) (e .from .column)
+pub slot-across : (e : Edge) → e .to ≡ at (e .from .line) (suc (e .from .column)) → slot e ≡ corner (e .from .line) (e .from .column)
 slot-across e t =
     let k : e .from .line ≡ e .to .line = sym (ap (λ (v : Vertex). v .line) t) in
     rw (eq-eqb (e .from .line) (e .to .line) k) (omega arith)
 
-slot-down : (e : Edge) → e .to ≡ at (suc (e .from .line)) (e .from .column) → slot e ≡ corner (e .from .line) (e .from .column) + 1
+pub slot-down : (e : Edge) → e .to ≡ at (suc (e .from .line)) (e .from .column) → slot e ≡ corner (e .from .line) (e .from .column) + 1
 slot-down e t =
     let k : e .to .line ≡ suc (e .from .line) = ap (λ (v : Vertex). v .line) t in
     rw (ne-eqb (e .from .line) (e .to .line) (λ z. omega arith)) (omega arith)

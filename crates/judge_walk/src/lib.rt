@@ -87,7 +87,7 @@ fn corner_of(line: u8, column: u8) -> usize
 }
 
 // The slot of the edge that leaves v in the direction d.
-fn slot_of(d: Direction, v: Vertex) -> usize
+pub fn slot_of(d: Direction, v: Vertex) -> usize
     ensures { λ r. ⌜ r ≡ slotAt d v ⌝ }
     ensures { λ r. ⌜ r < 2048 ⌝ }
 {

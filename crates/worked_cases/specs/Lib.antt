@@ -5,3 +5,4 @@ pub mod Reading
 pub mod Judging
 pub mod Sessions
 pub mod Names
+pub mod Pages
