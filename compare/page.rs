@@ -1,5 +1,5 @@
-//! The page on which a routing is drawn, from the requirements' words and the C header alone: what drawing owes, the edges read off a page again,
-//! and what the program draw is to print.
+//! The page on which a routing is drawn, from the requirements' words and the C header: what drawing owes, the edges read off a page again, and what
+//! the program draw is to print.
 
 #![allow(dead_code)]
 

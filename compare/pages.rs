@@ -309,7 +309,7 @@ const DUE: [(&str, u64); 25] = [
     ("page: 37, fewer bytes than this page has", 12_000),
 ];
 
-/// What part g reached, and how often is due: two thirds or less of what each of the seeds 1985, 1 and 2 reaches.
+/// What part g reached, and how often is due: 200,000 calls, and of the others two thirds or less of what each of the seeds 1985, 1 and 2 reaches.
 fn reached(run: &Run) -> Vec<(String, u64, u64)> {
     let mut due: Vec<(String, u64)> = DUE.map(|(what, least)| (what.to_string(), least)).into();
     due.extend(TRUE_PAIRS.map(|(kind, ..)| (kind.to_string(), 1_200)));

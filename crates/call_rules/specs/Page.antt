@@ -70,12 +70,12 @@ page b used = flatMap (textLine b used) (upTo (textLines b))
 abbrev pub edgesOf : Session → List (List Direction) → List Edge
 edgesOf s dss = flatten (trails (pairs (s .nets)) dss)
 
--- is an edge one of these?
-abbrev pub among : List Edge → Edge → Bool
-among es e = ltb 0 (uses e es)
+-- is an edge used, where these are the edges of the paths?
+abbrev pub usedIn : List Edge → Edge → Bool
+usedIn es e = ltb 0 (uses e es)
 
 abbrev pub pageOf : Session → List (List Direction) → List ℕ
-pageOf s dss = page (s .block .board) (among (edgesOf s dss))
+pageOf s dss = page (s .block .board) (usedIn (edgesOf s dss))
 
 -- ── the call ──
 -- "37 .. where the page's buffer has fewer than 4,032 bytes": as many as the longest page has
@@ -86,11 +86,14 @@ pageRoom = 4032
 abbrev pub ifRoom : {A : Type 0} → (room : ℕ) → Result A → Result A
 ifRoom room x = unless (firstRefusal (line (ltb room pageRoom) 37 0 ∷ [])) x
 
--- "Print a judged routing as a page": its bytes, for a buffer of so many, or the refusal. "Routings that fail judging keep the judge's number and
--- print no page."
-unfoldable pub drawWords : Session → List ℕ → (room : ℕ) → Result (List ℕ)
-drawWords s ws room = ifSound s (ifRoom room (andThen (judged s ws) (λ dss. yes (pageOf s dss))))
+-- "Print a judged routing as a page". "Routings that fail judging keep the judge's number and print no page."
+abbrev pub judgedPage : Session → List ℕ → Result (List ℕ)
+judgedPage s ws = andThen (judged s ws) (λ dss. yes (pageOf s dss))
 
--- the same of a list of bytes: 10 before 41
+-- the bytes that are written into a buffer of so many, or the refusal: 20, 37, 41 to 46
+unfoldable pub drawWords : Session → List ℕ → (room : ℕ) → Result (List ℕ)
+drawWords s ws room = ifSound s (ifRoom room (judgedPage s ws))
+
+-- the same of a list of bytes: 37 before 10, and 10 before 41
 unfoldable pub drawBytes : Session → List ℕ → (room : ℕ) → Result (List ℕ)
-drawBytes s bs room = ifSound s (ifRoom room (ifEven bs (andThen (judged s (wordsIn bs)) (λ dss. yes (pageOf s dss)))))
+drawBytes s bs room = ifSound s (ifRoom room (ifEven bs (judgedPage s (wordsIn bs))))

@@ -1,12 +1,11 @@
 -- The page of a board and a set of used edges, character by character: all that stands on it can be read off, and nothing but the set plays a part.
 -- Assumes nothing; where edges of the board are read off, that the board is within the limits.
 use mathlib.Core.Path.{_≡_, refl, ap, sym, _∙_}
-use mathlib.Core.Bool.{Bool, true, false, cond}
+use mathlib.Core.Bool.{Bool, true, false}
 use mathlib.Core.List.{List, [], _∷_, _++_, map, flatMap}
 use mathlib.Core.Logic.{_⊎_, inl, inr, _↔_}
-use Prim.Native.Nat.{ℕ, zero, suc, _+_, _-_, _*_, _/_, _%_, _≤_, _<_}
+use Prim.Native.Nat.{ℕ, zero, suc, _+_, _*_, _/_, _%_, _≤_, _<_}
 use native.Mathlib.Omega.{arith}
-use lib.Dec.{eqb}
 use lib.ListN.{length, getD, length-append, List·getD-append}
 use lib.Seq.{getD-append-add}
 use borrow.Author.Tests.{eq-eqb, ne-eqb, lt-ltb, le-ltb, ltb-true}
@@ -37,9 +36,12 @@ use Rattle.board.specs.Tests.{vertex-exact}
 use Rattle.board.specs.declared.Vertex.{Vertex}
 use Rattle.board.specs.declared.Direction.the-variants.{Right, Down}
 use Rattle.routing_rules.specs.Routing.{uses}
+use Rattle.words.specs.Bytes.{wordsIn}
 use Rattle.session_rules.specs.Refusal.{refusal}
+use Rattle.session_rules.specs.Session.{Session}
 use Rattle.call_rules.specs.Result.{Result, no}
 use Rattle.call_rules.specs.Alike.{SameEdges}
+use Rattle.call_rules.specs.Judge.{ifSound, ifEven}
 use Rattle.call_rules.specs.Page.{
   plus,
   dash,
@@ -54,9 +56,12 @@ use Rattle.call_rules.specs.Page.{
   textLine,
   textLines,
   page,
-  among,
+  usedIn,
   pageRoom,
   ifRoom,
+  judgedPage,
+  drawWords,
+  drawBytes,
 }
 use Rattle.call_rules.specs.ReadOff.{readAt, lineOf, characterOf, signOf, ReadsOff}
 
@@ -212,9 +217,9 @@ module _ (b : Board) (w : Within b) (used : Edge → Bool) where
       ends = page-feed b used;
     }
 
--- an edge is among others exactly where they use it
-pub among-exact : (es : List Edge) (e : Edge) → (among es e ≡ true) ↔ (0 < uses e es)
-among-exact es e = (ltb-true 0 (uses e es), lt-ltb 0 (uses e es))
+-- the test is exact
+pub used-in-exact : (es : List Edge) (e : Edge) → (usedIn es e ≡ true) ↔ (0 < uses e es)
+used-in-exact es e = (ltb-true 0 (uses e es), lt-ltb 0 (uses e es))
 
 -- ── the set alone plays a part ──
 -- DEFINITION: two tests agree on the edges that have a place on the page of a board
@@ -236,20 +241,29 @@ module _ (b : Board) (used used' : Edge → Bool) (same : SameOnPage b used used
       (λ y p q. ap (λ (t : List ℕ). t ++ (lineFeed ∷ [])) (map-rising (characterAt b used y) (characterAt b used' y) 0 63
       (λ x r s. character-same y x (omega arith) (omega arith))))
 
-pub same-edges : (b : Board) (es fs : List Edge) → SameEdges es fs → page b (among es) ≡ page b (among fs)
-same-edges b es fs same = page-same b (among es) (among fs) (λ l c h k. (alike (along Right (at l c)), alike (along Down (at l c))))
+pub same-edges : (b : Board) (es fs : List Edge) → SameEdges es fs → page b (usedIn es) ≡ page b (usedIn fs)
+same-edges b es fs same = page-same b (usedIn es) (usedIn fs) (λ l c h k. (alike (along Right (at l c)), alike (along Down (at l c))))
   where
-    alike : (e : Edge) → among es e ≡ among fs e
+    alike : (e : Edge) → usedIn es e ≡ usedIn fs e
     alike e =
-        bool-eq (among es e) (among fs e)
-        (λ t. among-exact fs e .1 (same e .0 (among-exact es e .0 t))) (λ t. among-exact es e .1 (same e .1 (among-exact fs e .0 t)))
+        bool-eq (usedIn es e) (usedIn fs e)
+        (λ t. used-in-exact fs e .1 (same e .0 (used-in-exact es e .0 t))) (λ t. used-in-exact es e .1 (same e .1 (used-in-exact fs e .0 t)))
 
 -- ── and the same page tells the same edges of the board ──
 pub read-alike : {b : Board} {Used Other : Edge → Type 0} {text : List ℕ} → ReadsOff b Used text → ReadsOff b Other text → (e : Edge)
     → IsEdge b e → Used e ↔ Other e
 read-alike R S e h = (λ u. S .edges e h .0 (R .edges e h .1 u), λ v. R .edges e h .0 (S .edges e h .1 v))
 
--- ── room for a page ──
+-- ── the call in its parts ──
+pub draw-words-is : (s : Session) (ws : List ℕ) (room : ℕ) → drawWords s ws room ≡ ifSound s (ifRoom room (judgedPage s ws))
+unfolding drawWords
+draw-words-is s ws room = refl
+
+pub draw-bytes-is : (s : Session) (bs : List ℕ) (room : ℕ)
+    → drawBytes s bs room ≡ ifSound s (ifRoom room (ifEven bs (judgedPage s (wordsIn bs))))
+unfolding drawBytes
+draw-bytes-is s bs room = refl
+
 pub room-short : {A : Type 0} (room : ℕ) (x : Result A) → room < pageRoom → ifRoom room x ≡ no (refusal 37 0)
 room-short room x h = rw (lt-ltb room pageRoom h) refl
 

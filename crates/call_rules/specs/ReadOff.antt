@@ -6,7 +6,7 @@ use mathlib.Core.Logic.{_↔_}
 use Prim.Native.Nat.{ℕ, _+_, _*_, _<_}
 use lib.Dec.{eqb}
 use lib.ListN.{length, getD}
-use Rattle.board.specs.Board.{Board, height, Edge, edge, IsVertex, IsEdge}
+use Rattle.board.specs.Board.{Board, height, Edge, IsVertex, IsEdge}
 use Rattle.board.specs.declared.Vertex.{Vertex}
 use Rattle.call_rules.specs.Page.{plus, dash, bar, space, lineFeed}
 

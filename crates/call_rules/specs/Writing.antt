@@ -1,4 +1,5 @@
--- Definitions only: writing a session's board and nets as words (document 01, "Board words", refusal 18). Nothing is proved here.
+-- Definitions only: writing into a lent buffer, and a session's board and nets written as words (document 01, "Board words", refusal 18; document 02,
+-- §7, for bytes). Nothing is proved here.
 use mathlib.Core.Path.{_≡_}
 use mathlib.Core.Bool.{not}
 use mathlib.Core.List.{List, [], _∷_, _++_, map}
@@ -17,7 +18,7 @@ unfoldable pub boardWords : Session → List ℕ
 boardWords s =
     map rowWord (s .block .board .rows) ++ (map netWord (s .nets) ++ (endWord (length (s .block .board .rows)) (length (s .nets)) ∷ []))
 
--- the words written into a buffer: "words after the end word are untouched"
+-- the words written into a buffer: "words after the end word are untouched"; of bytes "Bytes after the page are untouched"
 abbrev pub writtenInto : List ℕ → List ℕ → List ℕ
 writtenInto buffer ws = ws ++ drop (length ws) buffer
 
@@ -25,7 +26,7 @@ writtenInto buffer ws = ws ++ drop (length ws) buffer
 unfoldable pub writeBoard : Session → (room : ℕ) → Result (List ℕ)
 writeBoard s room = unless (firstRefusal (line (not (sound? s)) 20 0 ∷ line (ltb room boardLimit) 18 0 ∷ [])) (yes (boardWords s))
 
--- the count that is answered, and the buffer afterwards: on a refusal the same as before
+-- the count that is answered, "with the count of words written" or "of bytes written", and the buffer afterwards: on a refusal the same as before
 abbrev pub countOf : Result (List ℕ) → Result ℕ
 countOf (no r) = no r
 countOf (yes ws) = yes (length ws)

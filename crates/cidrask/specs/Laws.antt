@@ -11,7 +11,7 @@ use Rattle.call_rules.specs.Result.{Result, no, yes}
 use Rattle.call_rules.specs.Reading.{readBytes}
 use Rattle.call_rules.specs.Route.{RoutesBytes}
 use Rattle.call_rules.specs.Judge.{judgeBytes, compareBytes}
-use Rattle.call_rules.specs.Writing.{Writes, countOf}
+use Rattle.call_rules.specs.Writing.{countOf}
 use Rattle.call_rules.specs.Page.{drawBytes}
 use Rattle.call_rules.specs.Editor.{unread, read, editorJudge, editorAlike, editorDraw}
 use Rattle.board_reading.specs.Promise.{ReadPromise}
@@ -19,6 +19,7 @@ use Rattle.board_reading.specs.ReadAs.{read-refused, read-accepted}
 use Rattle.board_reading.specs.declared.AfterRead.{AfterRead}
 use Rattle.board_reading.specs.declared.ReadAnswer.the-variants as answer
 use Rattle.draw_call.specs.Answers.{drawAnswer}
+use Rattle.draw_call.specs.Promise.{DrawBytesPromise}
 use Rattle.draw_call.specs.declared.DrawAnswer.{DrawAnswer}
 use Rattle.draw_call.specs.declared.DrawAnswer.the-variants as draw
 use Rattle.cidrask_told.specs.Told.{tell, countTold, judgeTold, alikeTold}
@@ -67,31 +68,30 @@ pub compared-read : (board one two : List ℕ) {r : AfterRead} {t : Told} → Re
 unfolding editorAlike
 compared-read board one two P e f = rw (read-accepted P e) f
 
--- drawing: its answers have places of one number
-draw-second : (a : DrawAnswer) → countTold (drawAnswer a) .second ≡ 0
-draw-second (draw.Drawn n) = refl
-draw-second (draw.Refused r) = refl
-
 pub drawn-unread : (board list before : List ℕ) {r : AfterRead} (n p : ℕ) → ReadPromise (readBytes board) r → r .answer ≡ answer.Refused n p
     → DrawnAs board list before (tell n p 0 0) before
 unfolding editorDraw
 drawn-unread board list before n p P e =
-    let x : editorDraw board list (length before) ≡ no (refusal n p) = rw (read-refused P n p e) refl in
-    record { told = rw x refl; one = refl; buffer = rw x refl }
+    let x : editorDraw board list (length before) ≡ no (refusal n p) = rw (read-refused P n p e) refl in record { told = rw x refl; buffer = rw x refl }
 
 pub drawn-read : (board list before : List ℕ) (a : DrawAnswer) {after : List ℕ} {r : AfterRead} {t : Told} → ReadPromise (readBytes board) r
-    → r .answer ≡ answer.Accepted → Writes (drawBytes (sessionOf (r .session)) list (length before)) before (drawAnswer a) after
-    → t ≡ countTold (drawAnswer a) → DrawnAs board list before t after
+    → r .answer ≡ answer.Accepted → DrawBytesPromise (sessionOf (r .session)) list before a after → t ≡ countTold (drawAnswer a)
+    → DrawnAs board list before t after
 unfolding editorDraw
 drawn-read board list before a {r = r} P e W f =
     let x : editorDraw board list (length before) ≡ drawBytes (sessionOf (r .session)) list (length before) = rw (read-accepted P e) refl in
-    record { told = rw x (f ∙ ap countTold (W .answers)); one = ap (λ (u : Told). u .second) f ∙ draw-second a; buffer = rw x (W .buffer) }
+    record { told = rw x (f ∙ ap countTold (W .answers)); buffer = rw x (W .buffer) }
 
-pub drawn-told : {board list before after : List ℕ} {t : Told} → DrawnAs board list before t after
+-- an answer of drawing has a place of one number
+pub draw-second : (a : DrawAnswer) → countTold (drawAnswer a) .second ≡ 0
+draw-second (draw.Drawn n) = refl
+draw-second (draw.Refused r) = refl
+
+pub drawn-told : {board list before after : List ℕ} {t : Told} → DrawnAs board list before t after → t .second ≡ 0
     → DrawPromise board list before (t .number) (t .first) after
-drawn-told {board} {list} {before} {t = t} D =
+drawn-told {board} {list} {before} {t = t} D z =
     let x = countOf (editorDraw board list (length before)) in
     record {
-      told = ap (λ (n : ℕ). tell (t .number) (t .first) n 0) (sym (D .one)) ∙ two-numbers t (countTold x) (D .told) (count-third x);
+      told = ap (λ (n : ℕ). tell (t .number) (t .first) n 0) (sym z) ∙ two-numbers t (countTold x) (D .told) (count-third x);
       buffer = D .buffer;
     }

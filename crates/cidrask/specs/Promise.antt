@@ -26,12 +26,10 @@ JudgePromise board list number first second third = tell number first second thi
 abbrev pub AlikePromise : (board one two : List ℕ) (number first second : ℕ) → Type 0
 AlikePromise board one two number first second = tell number first second 0 ≡ alikeTold (editorAlike board one two)
 
--- drawing: a place of one number is told, and no more; t and the page's buffer afterwards
+-- drawing: the count of bytes or the refusal, told by t, and the page's buffer afterwards
 pub record DrawnAs (board list before : List ℕ) (t : Told) (after : List ℕ) : Type 0 where
   pub told : t ≡ countTold (countOf (editorDraw board list (length before)))
-  pub one : t .second ≡ 0
   pub buffer : after ≡ bufferAfter before (editorDraw board list (length before))
 
-pub record DrawPromise (board list before : List ℕ) (number first : ℕ) (after : List ℕ) : Type 0 where
-  pub told : tell number first 0 0 ≡ countTold (countOf (editorDraw board list (length before)))
-  pub buffer : after ≡ bufferAfter before (editorDraw board list (length before))
+abbrev pub DrawPromise : (board list before : List ℕ) (number first : ℕ) (after : List ℕ) → Type 0
+DrawPromise board list before number first after = DrawnAs board list before (tell number first 0 0) after

@@ -59,6 +59,7 @@ fn compared(board: &[u8], one: &[u8], two: &[u8]) -> Told
 
 fn drawn(board: &[u8], list: &[u8], page: &mut [u8]) -> Told
     ensures { λ r. ⌜ DrawnAs (now (board .entry)) (now (list .entry)) (now (page .entry)) r (now (page .exit)) ⌝ }
+    ensures { λ r. ⌜ r .second ≡ 0 ⌝ }
 {
     let after = board_reading::read_bytes(board);
     let answer = after.answer;

@@ -244,9 +244,10 @@ pub record Demand1 : Type 0 where
   pub read-off : (s : machine.Session) (ws : List ℕ) (dss : List (List Direction)) → Sound s → judged s ws ≡ yes dss
       → ReadsOff (s .block .board) (λ e. 0 < uses e (edgesOf s dss)) (pageOf s dss)
       × ((e : Edge) → 0 < uses e (edgesOf s dss) → IsEdge (s .block .board) e)
-  -- "Two routings of one board that use the same edges give the same page", and those that do not give another
-  pub same-page : (s : machine.Session) (vs ws : List ℕ) (dss ess : List (List Direction)) → Sound s → judged s vs ≡ yes dss → judged s ws ≡ yes ess
-      → (pageOf s dss ≡ pageOf s ess) ↔ SameEdges (edgesOf s dss) (edgesOf s ess)
+  -- "Two routings of one board that use the same edges give the same page", whatever its nets, and those that do not give another
+  pub same-page : (s t : machine.Session) (vs ws : List ℕ) (dss ess : List (List Direction)) → Sound s → s .block .board ≡ t .block .board
+      → judged s vs ≡ yes dss → judged t ws ≡ yes ess
+      → (pageOf s dss ≡ pageOf t ess) ↔ SameEdges (edgesOf s dss) (edgesOf t ess)
   -- routing: first 20, 31, 32 "now only where more than 12 vertices are odd" and 33, by `routeRefused`
   pub route : (s : Session) (before : List ℕ) (r : RouteAnswer) (after : List ℕ) → Routes (sessionOf s) before (routeAnswer r) after
       → ((q : Refusal) → routeRefused (sessionOf s) (length before) ≡ some q → (routeAnswer r ≡ no q) × (after ≡ before))
@@ -289,7 +290,7 @@ pub record Demand1 : Type 0 where
   pub c-draw : (board list before : List ℕ) (number first : ℕ) (after : List ℕ) → DrawPromise board list before number first after
       → ((q : Refusal) → readBytes board ≡ no q → (tell number first 0 0 ≡ refusedTold q) × (after ≡ before))
       × ((s : machine.Session) → readBytes board ≡ yes s
-      → (a : Result ℕ) × (tell number first 0 0 ≡ countTold a) × DrawsBytes s list before a after)
+      → Sound s × ((a : Result ℕ) × (tell number first 0 0 ≡ countTold a) × DrawsBytes s list before a after))
 
 -- ── 2 ──
 pub record Demand2 : Type 0 where

@@ -33,6 +33,7 @@ use Rattle.words.specs.Bytes.{wordsIn}
 use Rattle.call_rules.specs.Result.{Result, no, yes}
 use Rattle.call_rules.specs.Reading.{boardLimit, readWords, readBytes, handedBack}
 use Rattle.call_rules.specs.Writing.{boardWords, writeBoard, countOf, bufferAfter}
+use Rattle.call_rules.specs.PageLaws.{draw-words-is, draw-bytes-is}
 use Rattle.call_rules.specs.Report.{Report, reportOf}
 use Rattle.call_rules.specs.Judge.{judged, ifEven}
 use Rattle.route_call.specs.Answers.{routeAnswer}
@@ -71,7 +72,7 @@ use Rattle.demands.specs.Judging.{
   compares-bytes,
   c-compared,
 }
-use Rattle.demands.specs.Drawing.{refused-leaves, draw-is, draw-bytes-is, draws, draws-bytes, c-drawn}
+use Rattle.demands.specs.Drawing.{refused-leaves, draws, draws-bytes, c-drawn}
 
 -- ── 1 ──
 -- the answer is none exactly where the definition gives a session
@@ -180,13 +181,13 @@ demand-1 = record {
       let m = sessionOf s in let f = e ∙ compare-bytes-is m one two in
       (λ n. f ∙ unsound-first m _ n, λ S. compares-bytes m one two (likenessOf r) (f ∙ sound-then m _ S));
   draw = λ s ws before r after W.
-      let m = sessionOf s in let f = draw-is m ws (length before) in
+      let m = sessionOf s in let f = draw-words-is m ws (length before) in
       (λ n. refused-leaves W (f ∙ unsound-first m _ n), λ S. draws m ws before W (f ∙ sound-then m _ S));
   draw-bytes = λ s bs before r after W.
       let m = sessionOf s in let f = draw-bytes-is m bs (length before) in
       (λ n. refused-leaves W (f ∙ unsound-first m _ n), λ S. draws-bytes m bs before W (f ∙ sound-then m _ S));
   read-off = λ s ws dss S j. (reads-off s (S .within) dss, used-edges s ws dss j);
-  same-page = λ s vs ws dss ess S j k. same-page s (S .within) vs ws dss ess j k;
+  same-page = λ s t vs ws dss ess S b j k. same-page s t (S .within) b vs ws dss ess j k;
   were-alike = λ s vs ws dss ess e f h. judged-equally-many s vs ws dss ess e f h;
   route-rightly = λ s before r after R S long. history.words-both (sessionOf s) S long R;
   route-bytes-rightly = λ s before r after R S long. history.bytes-both (sessionOf s) S long R;

@@ -15,5 +15,5 @@ drawAnswer (answer.Drawn n) = yes n
 drawAnswer (answer.Refused r) = no (refusalOf r)
 
 -- the number of what is refused before the list is looked at, 0 where nothing is
-abbrev pub asked : Session → (room : ℕ) → ℕ
-asked s room = cond (sound? s) (cond (ltb room pageRoom) 37 0) 20
+abbrev pub refusedFirst : Session → (room : ℕ) → ℕ
+refusedFirst s room = cond (sound? s) (cond (ltb room pageRoom) 37 0) 20

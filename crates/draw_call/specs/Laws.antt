@@ -4,14 +4,12 @@ use mathlib.Core.Path.{_≡_, refl, ap, sym, _∙_}
 use mathlib.Core.Bool.{true, false}
 use mathlib.Core.List.{List, [], flatten}
 use mathlib.Core.Logic.{inl, inr}
-use Prim.Native.Nat.{ℕ, suc, _+_, _≤_, _<_}
+use Prim.Native.Nat.{ℕ, _≤_}
 use native.Mathlib.Omega.{arith}
 use lib.Dec.{ltb}
-use lib.ListN.{length, getD}
 use borrow.Author.Tests.{lt-ltb, le-ltb}
 use Rattle.count.specs.TruthLaws.{bool, le-or-lt}
 use Rattle.board.specs.Board.{Board, Within, Edge}
-use Rattle.board.specs.declared.Direction.{Direction}
 use Rattle.net.specs.declared.Net.{Net}
 use Rattle.net.specs.declared.Place.{Place}
 use Rattle.net_places.specs.Places.{netsFrom, netsOf}
@@ -21,20 +19,20 @@ use Rattle.session_rules.specs.Refusal.{refusal}
 use Rattle.session_rules.specs.Session.{Session, pairs}
 use Rattle.session_rules.specs.Sound.{sound?}
 use Rattle.session_laws.specs.Exact.{sound-exact}
-use Rattle.words.specs.Bytes.{wordsIn, uneven}
-use Rattle.call_rules.specs.Result.{Result, no, yes, andThen}
+use Rattle.words.specs.Bytes.{wordsIn}
+use Rattle.call_rules.specs.Result.{Result, no, yes}
 use Rattle.call_rules.specs.Shape.{PathAt, pathsFrom}
 use Rattle.call_rules.specs.Walk.{walkPaths}
 use Rattle.call_rules.specs.Judge.{pathsIn, judged, ifSound, ifEven}
 use Rattle.call_rules.specs.Writing.{Writes}
-use Rattle.call_rules.specs.Page.{page, among, pageRoom, ifRoom, drawWords, drawBytes}
-use Rattle.call_rules.specs.PageLaws.{page-same, room-short, room-enough}
+use Rattle.call_rules.specs.Page.{page, usedIn, pageRoom, ifRoom, judgedPage, drawWords, drawBytes}
+use Rattle.call_rules.specs.PageLaws.{page-same, draw-words-is, draw-bytes-is, room-short, room-enough}
 use Rattle.judge_shape.specs.Refused.{refusalOf}
 use Rattle.judge_shape.specs.declared.Refusal.{Refusal}
 use Rattle.judge_shape.specs.declared.Checked.{Checked}
 use Rattle.judge_shape.specs.declared.Checked.the-variants as checked
 use Rattle.judge_walk.specs.EdgeMap.{unused}
-use Rattle.judge_walk.specs.MapWalk.{Came, came, mapPaths}
+use Rattle.judge_walk.specs.MapWalk.{came, mapPaths}
 use Rattle.judge_walk.specs.SlotLaws.{Lies}
 use Rattle.judge_walk.specs.SameWalk.{Agree, Marked, marks-none, paths-same}
 use Rattle.judge_laws.specs.Walks.{endsOf, paths-went}
@@ -44,16 +42,28 @@ use Rattle.judge_list.specs.ComparisonLaws.{ends-in}
 use Rattle.judge_list.specs.declared.BytesChecked.{BytesChecked}
 use Rattle.judge_list.specs.declared.BytesChecked.the-variants as bytes
 use Rattle.judge_page.specs.Marked.{marked}
-use Rattle.draw_call.specs.Answers.{asked}
+use Rattle.draw_call.specs.Answers.{refusedFirst}
 
 -- DEFINITION: the page of a list that passes on a board with nets, or its refusal
 abbrev pub pageOn : Board → List Net → List ℕ → Result (List ℕ)
-pageOn b ns ws = andThen (judged (on b ns) ws) (λ dss. yes (page b (among (flatten (trails (pairs ns) dss)))))
+pageOn b ns ws = judgedPage (on b ns) ws
+
+-- of a session its board and nets alone play a part
+page-on : (s : Session) (ws : List ℕ) → judgedPage s ws ≡ pageOn (s .block .board) (s .nets) ws
+unfolding judged
+page-on s ws = refl
+
+pub words-on : (s : Session) (ws : List ℕ) (room : ℕ) → drawWords s ws room ≡ ifSound s (ifRoom room (pageOn (s .block .board) (s .nets) ws))
+words-on s ws room = draw-words-is s ws room ∙ ap (λ (x : Result (List ℕ)). ifSound s (ifRoom room x)) (page-on s ws)
+
+pub bytes-on : (s : Session) (bs : List ℕ) (room : ℕ)
+    → drawBytes s bs room ≡ ifSound s (ifRoom room (ifEven bs (pageOn (s .block .board) (s .nets) (wordsIn bs))))
+bytes-on s bs room = draw-bytes-is s bs room ∙ ap (λ (x : Result (List ℕ)). ifSound s (ifRoom room (ifEven bs x))) (page-on s (wordsIn bs))
 
 -- ── the map that a check leaves marks the edges of the paths ──
 module _ {b : Board} (w : Within b) (places : List Place) (ws : List ℕ) where
   marks-paths : {a : List ℕ} → mapPaths b (pathsFrom 0 (netsOf places) ws) unused ≡ came tt a → (e : Edge) → Lies e
-      → marked a e ≡ among (flatten (trails (endsOf (pathsFrom 0 (netsOf places) ws)) (pathsIn (pathsFrom 0 (netsOf places) ws)))) e
+      → marked a e ≡ usedIn (flatten (trails (endsOf (pathsFrom 0 (netsOf places) ws)) (pathsIn (pathsFrom 0 (netsOf places) ws)))) e
   unfolding netsOf uses
   marks-paths {a} m e l =
       go (walkPaths b ps []) refl (rw m at (paths-same w ps (numbers-above 1 places 0 ws (omega arith)) [] unused marks-none))
@@ -62,7 +72,7 @@ module _ {b : Board} (w : Within b) (places : List Place) (ws : List ℕ) where
       ps = pathsFrom 0 (netsFrom 1 places) ws
 
       go : (x : Result (List Edge)) → walkPaths b ps [] ≡ x → Agree Marked (came tt a) x
-          → marked a e ≡ among (flatten (trails (endsOf ps) (pathsIn ps))) e
+          → marked a e ≡ usedIn (flatten (trails (endsOf ps) (pathsIn ps))) e
       go (no r) f h = absurd h
       go (yes walked) f h =
           let n : uses e walked ≡ uses e (flatten (trails (endsOf ps) (pathsIn ps))) = omega (arith, paths-went b ps [] walked f .counts e) in
@@ -79,7 +89,7 @@ module _ {b : Board} (w : Within b) (places : List Place) (ws : List ℕ) where
         let j : judged (on b (netsOf places)) ws ≡ yes (pathsIn ps) = sym (judged-same w places ws) ∙ passed-by h f in
         let (shape, walk) = checked-passed h f in
         let n : endsOf ps ≡ pairs (netsOf places) = ends-in ps ∙ ap pairs (shape-all (netsOf places) ws shape) in
-        let same = page-same b (among (flatten (trails (endsOf ps) (pathsIn ps)))) (marked a)
+        let same = page-same b (usedIn (flatten (trails (endsOf ps) (pathsIn ps)))) (marked a)
         (λ l k p q. (
           sym (marks-paths walk _ (record { line = omega (arith, w .few); column = omega arith; to = inl refl })),
           sym (marks-paths walk _ (record { line = omega (arith, w .few); column = omega arith; to = inr refl })),
@@ -94,10 +104,19 @@ pub drawn-writes : {x : Result (List ℕ)} {text before after : List ℕ} {n : �
     → Writes x before (yes n) after
 drawn-writes e W = rw e W
 
--- 20, then 37, and then what is asked of the list
+-- 20, then 37, and then what the list comes to
 module _ (s : Session) (room : ℕ) where
-  pub asked-some : {k : ℕ} → k ≡ asked s room → (k ≡ 0 → ⊥) → (x : Result (List ℕ)) → ifSound s (ifRoom room x) ≡ no (refusal k 0)
-  asked-some e n x = elim (bool (sound? s)) [
+  pub first-20 : sound? s ≡ false → 20 ≡ refusedFirst s room
+  first-20 e = rw e refl
+
+  pub first-37 : sound? s ≡ true → ltb room pageRoom ≡ true → 37 ≡ refusedFirst s room
+  first-37 e h = rw (e, h) refl
+
+  pub first-none : sound? s ≡ true → ltb room pageRoom ≡ false → 0 ≡ refusedFirst s room
+  first-none e h = rw (e, h) refl
+
+  pub refused-some : {k : ℕ} → k ≡ refusedFirst s room → (k ≡ 0 → ⊥) → (x : Result (List ℕ)) → ifSound s (ifRoom room x) ≡ no (refusal k 0)
+  refused-some e n x = elim (bool (sound? s)) [
     | inr u ↦ let f = rw u at e in rw (u, f) refl
     | inl u ↦ elim (le-or-lt pageRoom room) [
       | inl h ↦ absurd (n (rw (u, le-ltb room pageRoom h) at e))
@@ -105,9 +124,9 @@ module _ (s : Session) (room : ℕ) where
     ]
   ]
 
-  pub asked-none : {k : ℕ} → k ≡ asked s room → k ≡ 0
+  pub refused-none : {k : ℕ} → k ≡ refusedFirst s room → k ≡ 0
       → Within (s .block .board) × (pageRoom ≤ room) × ((x : Result (List ℕ)) → ifSound s (ifRoom room x) ≡ x)
-  asked-none e z = elim (bool (sound? s)) [
+  refused-none e z = elim (bool (sound? s)) [
     | inr u ↦ absurd (let f = rw u at e in omega arith)
     | inl u ↦ elim (le-or-lt pageRoom room) [
       | inl h ↦ (sound-exact s .0 u .within, h, λ x. rw u (room-enough room x h))
@@ -115,17 +134,7 @@ module _ (s : Session) (room : ℕ) where
     ]
   ]
 
--- the list as words
-pub words-is : (s : Session) (ws : List ℕ) (room : ℕ) → drawWords s ws room ≡ ifSound s (ifRoom room (pageOn (s .block .board) (s .nets) ws))
-unfolding drawWords judged
-words-is s ws room = refl
-
--- and as bytes
-pub bytes-is : (s : Session) (bs : List ℕ) (room : ℕ)
-    → drawBytes s bs room ≡ ifSound s (ifRoom room (ifEven bs (pageOn (s .block .board) (s .nets) (wordsIn bs))))
-unfolding drawBytes judged
-bytes-is s bs room = refl
-
+-- the list as bytes
 module _ {b : Board} (w : Within b) (places : List Place) (bs : List ℕ) {a : List ℕ} {c : BytesChecked}
     (h : ChecksBytes b (netsOf places) bs unused a c) where
   pub bytes-uneven : c ≡ bytes.UnevenBytes → ifEven bs (pageOn b (netsOf places) (wordsIn bs)) ≡ no (refusal 10 0)

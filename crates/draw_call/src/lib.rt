@@ -3,7 +3,7 @@ ghost use mathlib.Core.Path.{_≡_};
 ghost use Rattle.session_rules.specs.Refusal.{refusal};
 ghost use Rattle.session.specs.View.{sessionOf};
 ghost use Rattle.call_rules.specs.Result.{no};
-ghost use Rattle.draw_call.specs.Answers.{asked, drawAnswer};
+ghost use Rattle.draw_call.specs.Answers.{refusedFirst, drawAnswer};
 ghost use Rattle.draw_call.specs.Promise.{DrawWordsPromise, DrawBytesPromise};
 use judge_list::BytesChecked;
 use judge_page::PAGE_BYTES;
@@ -17,9 +17,9 @@ pub enum DrawAnswer {
     Refused(Refusal),
 }
 
-// What is asked before the list is looked at: 20 where the session is unsound, then 37 where a buffer of so many bytes is too short, otherwise 0.
+// What is refused before the list is looked at: 20 where the session is unsound, then 37 where a buffer of so many bytes is too short, otherwise 0.
 fn ask_first(s: Session, room: usize) -> u8
-    ensures { λ r. ⌜ r ≡ asked (sessionOf s) room ⌝ }
+    ensures { λ r. ⌜ r ≡ refusedFirst (sessionOf s) room ⌝ }
 {
     let unsound = !s.sound();
     let short = room < PAGE_BYTES;

@@ -1,19 +1,19 @@
--- Two lists that pass give the same page exactly where their paths use the same edges, by whatever nets.
+-- Two lists that pass give the same page exactly where their paths use the same edges, by whatever nets of one board.
 -- Assumes that the board is within the limits.
-use mathlib.Core.Path.{_≡_}
+use mathlib.Core.Path.{_≡_, ap, _∙_}
 use mathlib.Core.List.{List}
 use mathlib.Core.Logic.{_↔_}
 use Prim.Native.Nat.{ℕ, _<_}
-use Rattle.board.specs.Board.{Within, Edge, IsEdge}
+use Rattle.board.specs.Board.{Board, Within, Edge, IsEdge}
 use Rattle.board.specs.declared.Direction.{Direction}
 use Rattle.routing_rules.specs.Routing.{uses}
 use Rattle.session_rules.specs.Session.{Session, pairs}
 use Rattle.call_rules.specs.Result.{yes}
 use Rattle.call_rules.specs.Alike.{SameEdges}
 use Rattle.call_rules.specs.Judge.{judged}
-use Rattle.call_rules.specs.Page.{edgesOf, among, pageOf}
+use Rattle.call_rules.specs.Page.{page, edgesOf, usedIn, pageOf}
 use Rattle.call_rules.specs.ReadOff.{ReadsOff}
-use Rattle.call_rules.specs.PageLaws.{page-reads, among-exact, same-edges, read-alike}
+use Rattle.call_rules.specs.PageLaws.{page-reads, used-in-exact, same-edges, read-alike}
 use Rattle.judge_laws.specs.Edges.{all-edges, joins-edges}
 use Rattle.judge_laws.specs.Exact.{passes-sound}
 
@@ -24,18 +24,18 @@ used-edges s ws dss j e h =
     all-edges (s .block .board) (edgesOf s dss)
     (joins-edges (s .block .board) (pairs (s .nets)) dss (passes-sound s ws dss j .routing .joins)) e h
 
-module _ (s : Session) (w : Within (s .block .board)) where
-  -- all that stands on a page
-  pub reads-off : (dss : List (List Direction)) → ReadsOff (s .block .board) (λ e. 0 < uses e (edgesOf s dss)) (pageOf s dss)
-  reads-off dss =
-      page-reads (s .block .board) w (among (edgesOf s dss)) (λ e. 0 < uses e (edgesOf s dss)) (among-exact (edgesOf s dss))
+-- all that stands on a page
+pub reads-off : (s : Session) → Within (s .block .board) → (dss : List (List Direction))
+    → ReadsOff (s .block .board) (λ e. 0 < uses e (edgesOf s dss)) (pageOf s dss)
+reads-off s w dss = page-reads (s .block .board) w (usedIn (edgesOf s dss)) (λ e. 0 < uses e (edgesOf s dss)) (used-in-exact (edgesOf s dss))
 
-  pub same-page : (vs ws : List ℕ) (dss ess : List (List Direction)) → judged s vs ≡ yes dss → judged s ws ≡ yes ess
-      → (pageOf s dss ≡ pageOf s ess) ↔ SameEdges (edgesOf s dss) (edgesOf s ess)
-  same-page vs ws dss ess j k = (
-    λ p e.
-        let R = reads-off dss in
-        let S : ReadsOff (s .block .board) (λ e. 0 < uses e (edgesOf s ess)) (pageOf s dss) = rw p (reads-off ess) in
-        (λ h. read-alike R S e (used-edges s vs dss j e h) .0 h, λ h. read-alike R S e (used-edges s ws ess k e h) .1 h),
-    λ same. same-edges (s .block .board) (edgesOf s dss) (edgesOf s ess) same,
-  )
+-- THE LAW: of two sessions on one board, whatever their nets
+pub same-page : (s t : Session) → Within (s .block .board) → s .block .board ≡ t .block .board → (vs ws : List ℕ) (dss ess : List (List Direction))
+    → judged s vs ≡ yes dss → judged t ws ≡ yes ess → (pageOf s dss ≡ pageOf t ess) ↔ SameEdges (edgesOf s dss) (edgesOf t ess)
+same-page s t w b vs ws dss ess j k = (
+  λ p e.
+      let R = reads-off s w dss in
+      let S : ReadsOff (s .block .board) (λ e. 0 < uses e (edgesOf t ess)) (pageOf s dss) = rw (p, b) (reads-off t (rw b at w) ess) in
+      (λ h. read-alike R S e (used-edges s vs dss j e h) .0 h, λ h. read-alike R S e (rw b (used-edges t ws ess k e h)) .1 h),
+  λ same. ap (λ (x : Board). page x (usedIn (edgesOf s dss))) b ∙ same-edges (t .block .board) (edgesOf s dss) (edgesOf t ess) same,
+)

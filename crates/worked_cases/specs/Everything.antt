@@ -29,6 +29,7 @@ use Rattle.call_rules.specs.Report.{directions, edgesUsed, turnsMade, turnsAt, 
 use Rattle.call_rules.specs.Alike.{among?, alike?, equallyMany}
 use Rattle.call_rules.specs.Judge.{judged, judgeWords, compareWords, judgeBytes, compareBytes}
 use Rattle.call_rules.specs.Page.{onLine, belowLine, textLine, page, drawWords, drawBytes}
+use Rattle.call_rules.specs.Editor.{editorDraw}
 use Rattle.call_rules.specs.Route.{routeRefused}
 
 unfoldable pub everything : ℕ
@@ -40,6 +41,6 @@ unfolding sum count select turn turns belowRight belowLeft aboveRight aboveLeft 
     boardWord asRow asNet asEnd routingWord asPath asRun asRoutingEnd runsOf pathWords pathsWords routingWords wordsIn bytesOf wordLines takeWords
     addListed readNets readTaken readWords readBytes boardWords writeBoard wordsRefused runsFrom pathsFrom walkSteps walkRuns walkPath walkPaths
     directions edgesUsed turnsMade turnsAt tally turnsOfEach turnsOccurring knockKnee knockKnees knockKneeOfNets among? alike? equallyMany
-    judged judgeWords compareWords judgeBytes compareBytes onLine belowLine textLine page drawWords drawBytes routeRefused after answers xor
+    judged judgeWords compareWords judgeBytes compareBytes onLine belowLine textLine page drawWords drawBytes editorDraw routeRefused after answers xor
     flatMap flatten
 everything = 0

@@ -14,7 +14,7 @@ same-length : tie.Need-same-length
 same-length c = search needs
 
 returns : tie.Need-returns
-returns c = drawn-told (c .before .before .drawn .ensures)
+returns c = let drawn = c .before .before .drawn in drawn-told (drawn .ensures .0) (drawn .ensures .1)
 
 pub cidrask-draw-spec : {M : Type 1} → statement M
 cidrask-draw-spec = tie.close (tie.spec drawn-requires same-length returns)

@@ -1,5 +1,6 @@
 -- `drawn` reads the board, then draws the list.
-use Rattle.cidrask.specs.Laws.{drawn-unread, drawn-read}
+use mathlib.Core.Path.{refl}
+use Rattle.cidrask.specs.Laws.{drawn-unread, drawn-read, draw-second}
 use borrow.Author.Needs.{needs}
 use Rattle.cidrask.proofs.drawn.Statement.{statement}
 use Rattle.cidrask.proofs.drawn.Tie as tie
@@ -34,7 +35,8 @@ returns c =
     let at-answer = c .before .before in let answer = at-answer .answer in
     let at-read-bytes = at-answer .before .before in let read-bytes = at-read-bytes .read-bytes in
     let at-args = at-read-bytes .before .before .before .before in let args = at-args .args in
-    rw (refused .ensures) (drawn-unread (args .board .now) (args .list .now) (args .page .now) _ _ (read-bytes .ensures) (answer .given .1))
+    let told = drawn-unread (args .board .now) (args .list .now) (args .page .now) _ _ (read-bytes .ensures) (answer .given .1) in
+    (rw (refused .ensures) told, rw (refused .ensures) refl)
 
 same-length : tie.Need-same-length
 same-length c = search needs
@@ -45,9 +47,11 @@ returns-2 c =
     let at-draw-bytes = c .before .before .before in let draw-bytes = at-draw-bytes .draw-bytes in
     let at-enum-told = at-draw-bytes .before .before in let told = at-enum-told .enum-told in
     let at-read-bytes = at-enum-told .before .before in let read-bytes = at-read-bytes .read-bytes in
-    let at-args = at-read-bytes .before .before .before .before in let args = at-args .args in
-    drawn-read (args .board .now) (args .list .now) (args .page .now) (draw-bytes .result) (read-bytes .ensures) (told .given .1)
-    (draw-bytes .ensures) (draw-told .ensures)
+    let at-args = at-read-bytes .before .before .before .before in let args = at-args .args in (
+      drawn-read (args .board .now) (args .list .now) (args .page .now) (draw-bytes .result) (read-bytes .ensures) (told .given .1)
+          (draw-bytes .ensures) (draw-told .ensures),
+      rw (draw-told .ensures) (draw-second (draw-bytes .result)),
+    )
 
 pub drawn-spec : {M : Type 1} → statement M
 drawn-spec =

@@ -4,7 +4,7 @@ use mathlib.Core.Path.{_∙_}
 use lib.ListN.{length}
 use Rattle.board.specs.ViewLaws.{height-of}
 use Rattle.session.specs.View.{sessionOf}
-use Rattle.draw_call.specs.Laws.{refused-writes, drawn-writes, asked-some, asked-none, bytes-is, bytes-uneven, bytes-refused, bytes-passed}
+use Rattle.draw_call.specs.Laws.{refused-writes, drawn-writes, refused-some, refused-none, bytes-on, bytes-uneven, bytes-refused, bytes-passed}
 use borrow.Author.Needs.{needs}
 use Rattle.draw_call.proofs.draw_bytes.Statement.{statement}
 use Rattle.draw_call.proofs.draw_bytes.Tie as tie
@@ -28,8 +28,8 @@ returns c =
     let at-ask-first = at-if1 .before in let ask-first = at-ask-first .ask-first in
     let at-args = at-ask-first .before .before .before in let args = at-args .args in
     let s = sessionOf (args .s) in let room = length (args .out .now) in
-    rw (refused .ensures) (refused-writes (args .out .now) (bytes-is s (args .bytes .now) room
-    ∙ asked-some s room (ask-first .ensures) (if1 .taken) _))
+    rw (refused .ensures) (refused-writes (args .out .now) (bytes-on s (args .bytes .now) room
+    ∙ refused-some s room (ask-first .ensures) (if1 .taken) _))
 
 check-bytes-requires : tie.Need-check-bytes-requires
 check-bytes-requires c κs = search needs
@@ -51,7 +51,7 @@ draw-requires c κs =
     let at-if1 = c .before .before .before .before .before .before .before .before in let if1 = at-if1 .if1 in
     let at-ask-first = at-if1 .before in let ask-first = at-ask-first .ask-first in
     let at-args = at-ask-first .before .before .before in let args = at-args .args in
-    let (within, enough, rest) = asked-none (sessionOf (args .s)) (length (args .out .now)) (ask-first .ensures) (if1 .left) in
+    let (within, enough, rest) = refused-none (sessionOf (args .s)) (length (args .out .now)) (ask-first .ensures) (if1 .left) in
     (omega (arith, within .few, height-of (args .s .block .board)), enough)
 
 returns-2 : tie.Need-returns-2
@@ -63,8 +63,8 @@ returns-2 c =
     let at-ask-first = at-if1 .before in let ask-first = at-ask-first .ask-first in
     let at-args = at-ask-first .before .before .before in let args = at-args .args in
     let s = sessionOf (args .s) in let room = length (args .out .now) in
-    let (within, enough, rest) = asked-none s room (ask-first .ensures) (if1 .left) in
-    rw (refused2 .ensures) (refused-writes (args .out .now) (bytes-is s (args .bytes .now) room
+    let (within, enough, rest) = refused-none s room (ask-first .ensures) (if1 .left) in
+    rw (refused2 .ensures) (refused-writes (args .out .now) (bytes-on s (args .bytes .now) room
     ∙ (rest _ ∙ bytes-uneven within (args .s .nets) (args .bytes .now) (check-bytes .ensures) (enum-told .given .1))))
 
 returns-3 : tie.Need-returns-3
@@ -75,8 +75,8 @@ returns-3 c =
     let at-ask-first = at-if1 .before in let ask-first = at-ask-first .ask-first in
     let at-args = at-ask-first .before .before .before in let args = at-args .args in
     let s = sessionOf (args .s) in let room = length (args .out .now) in
-    let (within, enough, rest) = asked-none s room (ask-first .ensures) (if1 .left) in
-    refused-writes (args .out .now) (bytes-is s (args .bytes .now) room
+    let (within, enough, rest) = refused-none s room (ask-first .ensures) (if1 .left) in
+    refused-writes (args .out .now) (bytes-on s (args .bytes .now) room
     ∙ (rest _ ∙ bytes-refused within (args .s .nets) (args .bytes .now) (check-bytes .ensures) (r .given .1)))
 
 same-length : tie.Need-same-length
@@ -91,8 +91,8 @@ returns-4 c =
     let at-ask-first = at-if1 .before in let ask-first = at-ask-first .ask-first in
     let at-args = at-ask-first .before .before .before in let args = at-args .args in
     let s = sessionOf (args .s) in let room = length (args .out .now) in
-    let (within, enough, rest) = asked-none s room (ask-first .ensures) (if1 .left) in
-    drawn-writes (bytes-is s (args .bytes .now) room
+    let (within, enough, rest) = refused-none s room (ask-first .ensures) (if1 .left) in
+    drawn-writes (bytes-on s (args .bytes .now) room
     ∙ (rest _ ∙ bytes-passed within (args .s .nets) (args .bytes .now) (check-bytes .ensures) (enum-told2 .given .1))) (draw .ensures)
 
 pub draw-bytes-spec : {M : Type 1} → statement M

@@ -4,7 +4,7 @@ use mathlib.Core.Path.{_∙_}
 use lib.ListN.{length}
 use Rattle.board.specs.ViewLaws.{height-of}
 use Rattle.session.specs.View.{sessionOf}
-use Rattle.draw_call.specs.Laws.{refused-writes, drawn-writes, asked-some, asked-none, words-is, page-refused, page-passed}
+use Rattle.draw_call.specs.Laws.{refused-writes, drawn-writes, refused-some, refused-none, words-on, page-refused, page-passed}
 use borrow.Author.Needs.{needs}
 use Rattle.draw_call.proofs.draw_words.Statement.{statement}
 use Rattle.draw_call.proofs.draw_words.Tie as tie
@@ -28,8 +28,8 @@ returns c =
     let at-ask-first = at-if1 .before in let ask-first = at-ask-first .ask-first in
     let at-args = at-ask-first .before .before .before in let args = at-args .args in
     let s = sessionOf (args .s) in let room = length (args .out .now) in
-    rw (refused .ensures) (refused-writes (args .out .now) (words-is s (args .words .now) room
-    ∙ asked-some s room (ask-first .ensures) (if1 .taken) _))
+    rw (refused .ensures) (refused-writes (args .out .now) (words-on s (args .words .now) room
+    ∙ refused-some s room (ask-first .ensures) (if1 .taken) _))
 
 check-requires : tie.Need-check-requires
 check-requires c κs = search needs
@@ -45,7 +45,7 @@ draw-requires c κs =
     let at-if1 = c .before .before .before .before .before .before .before .before in let if1 = at-if1 .if1 in
     let at-ask-first = at-if1 .before in let ask-first = at-ask-first .ask-first in
     let at-args = at-ask-first .before .before .before in let args = at-args .args in
-    let (within, enough, rest) = asked-none (sessionOf (args .s)) (length (args .out .now)) (ask-first .ensures) (if1 .left) in
+    let (within, enough, rest) = refused-none (sessionOf (args .s)) (length (args .out .now)) (ask-first .ensures) (if1 .left) in
     (omega (arith, within .few, height-of (args .s .block .board)), enough)
 
 returns-2 : tie.Need-returns-2
@@ -56,8 +56,8 @@ returns-2 c =
     let at-ask-first = at-if1 .before in let ask-first = at-ask-first .ask-first in
     let at-args = at-ask-first .before .before .before in let args = at-args .args in
     let s = sessionOf (args .s) in let room = length (args .out .now) in
-    let (within, enough, rest) = asked-none s room (ask-first .ensures) (if1 .left) in
-    refused-writes (args .out .now) (words-is s (args .words .now) room
+    let (within, enough, rest) = refused-none s room (ask-first .ensures) (if1 .left) in
+    refused-writes (args .out .now) (words-on s (args .words .now) room
     ∙ (rest _ ∙ page-refused within (args .s .nets) (args .words .now) (check .ensures .0) (r .given .1)))
 
 same-length : tie.Need-same-length
@@ -72,8 +72,8 @@ returns-3 c =
     let at-ask-first = at-if1 .before in let ask-first = at-ask-first .ask-first in
     let at-args = at-ask-first .before .before .before in let args = at-args .args in
     let s = sessionOf (args .s) in let room = length (args .out .now) in
-    let (within, enough, rest) = asked-none s room (ask-first .ensures) (if1 .left) in
-    drawn-writes (words-is s (args .words .now) room
+    let (within, enough, rest) = refused-none s room (ask-first .ensures) (if1 .left) in
+    drawn-writes (words-on s (args .words .now) room
     ∙ (rest _ ∙ page-passed within (args .s .nets) (args .words .now) (check .ensures .0) (enum-told .given .1))) (draw .ensures)
 
 pub draw-words-spec : {M : Type 1} → statement M
