@@ -63,7 +63,7 @@ use Rattle.call_rules.specs.Page.{
   drawWords,
   drawBytes,
 }
-use Rattle.call_rules.specs.ReadOff.{readAt, lineOf, characterOf, signOf, ReadsOff}
+use Rattle.call_rules.specs.ReadOff.{readAt, textLineOf, characterOf, edgeSign, ReadsOff}
 
 -- ── texts of 64 bytes, one behind the other ──
 module _ (f : ℕ → List ℕ) (each : (k : ℕ) → length (f k) ≡ 64) where
@@ -158,14 +158,14 @@ module _ (b : Board) (w : Within b) (used : Edge → Bool) where
   -- a vertex and an edge of the board have such places
   module _ (Used : Edge → Type 0) (exact : (e : Edge) → (used e ≡ true) ↔ Used e) where
     across-read : (l c : ℕ) → l ≤ height b → c < 31
-        → (readAt (page b used) (lineOf (along Right (at l c))) (characterOf (along Right (at l c))) ≡ signOf (along Right (at l c)))
+        → (readAt (page b used) (textLineOf (along Right (at l c))) (characterOf (along Right (at l c))) ≡ edgeSign (along Right (at l c)))
         ↔ Used (along Right (at l c))
     across-read l c h k =
         let y : l + l ≡ 2 * l = omega arith in let x : c + suc c ≡ 2 * c + 1 = omega arith in
         rw (y, x, eq-eqb l l refl) (signed (used (along Right (at l c))) (λ z. omega arith) (exact (along Right (at l c))) (across-at l c h k))
 
     down-read : (l c : ℕ) → l < height b → c < 32
-        → (readAt (page b used) (lineOf (along Down (at l c))) (characterOf (along Down (at l c))) ≡ signOf (along Down (at l c)))
+        → (readAt (page b used) (textLineOf (along Down (at l c))) (characterOf (along Down (at l c))) ≡ edgeSign (along Down (at l c)))
         ↔ Used (along Down (at l c))
     down-read l c h k =
         let y : l + suc l ≡ 2 * l + 1 = omega arith in let x : c + c ≡ 2 * c = omega arith in
@@ -173,7 +173,7 @@ module _ (b : Board) (w : Within b) (used : Edge → Bool) where
         (signed (used (along Down (at l c))) (λ z. omega arith) (exact (along Down (at l c))) (down-at l c h k))
 
     side-read : {i j : ℕ} {e : Edge} → i < height b → j < 31 → Side i j e
-        → (readAt (page b used) (lineOf e) (characterOf e) ≡ signOf e) ↔ Used e
+        → (readAt (page b used) (textLineOf e) (characterOf e) ≡ edgeSign e) ↔ Used e
     side-read {i} {j} h k top-side = across-read i j (omega arith) k
     side-read {i} {j} h k bottom-side = across-read (suc i) j h k
     side-read {i} {j} h k left-side = down-read i j h (omega arith)
@@ -191,7 +191,7 @@ module _ (b : Board) (w : Within b) (used : Edge → Bool) where
     blank sign false e n = e
 
     blank-at : (y x l c : ℕ) → y < 2 * height b + 1 → x < 63 → (y ≡ 2 * l) ⊎ (y ≡ 2 * l + 1) → (x ≡ 2 * c) ⊎ (x ≡ 2 * c + 1)
-        → ((v : Vertex) → IsVertex b v → y ≡ 2 * v .line → x ≡ 2 * v .column → ⊥) → ((e : Edge) → Used e → y ≡ lineOf e → x ≡ characterOf e → ⊥)
+        → ((v : Vertex) → IsVertex b v → y ≡ 2 * v .line → x ≡ 2 * v .column → ⊥) → ((e : Edge) → Used e → y ≡ textLineOf e → x ≡ characterOf e → ⊥)
         → readAt (page b used) y x ≡ space
     blank-at y x l c h k (inl p) (inl q) no-vertex no-edge =
         rw (p, q) (blank plus (vertex? b (at l c)) (vertex-at l c (omega arith) (omega arith))
@@ -217,7 +217,7 @@ module _ (b : Board) (w : Within b) (used : Edge → Bool) where
       ends = page-feed b used;
     }
 
--- the test is exact
+-- `usedIn` is exact
 pub used-in-exact : (es : List Edge) (e : Edge) → (usedIn es e ≡ true) ↔ (0 < uses e es)
 used-in-exact es e = (ltb-true 0 (uses e es), lt-ltb 0 (uses e es))
 

@@ -72,7 +72,8 @@ pub drawn-unread : (board list before : List ℕ) {r : AfterRead} (n p : ℕ) �
     → DrawnAs board list before (tell n p 0 0) before
 unfolding editorDraw
 drawn-unread board list before n p P e =
-    let x : editorDraw board list (length before) ≡ no (refusal n p) = rw (read-refused P n p e) refl in record { told = rw x refl; buffer = rw x refl }
+    let x : editorDraw board list (length before) ≡ no (refusal n p) = rw (read-refused P n p e) refl in
+    record { told = rw x refl; buffer = rw x refl }
 
 pub drawn-read : (board list before : List ℕ) (a : DrawAnswer) {after : List ℕ} {r : AfterRead} {t : Told} → ReadPromise (readBytes board) r
     → r .answer ≡ answer.Accepted → DrawBytesPromise (sessionOf (r .session)) list before a after → t ≡ countTold (drawAnswer a)

@@ -41,6 +41,7 @@ unfolding sum count select turn turns belowRight belowLeft aboveRight aboveLeft 
     boardWord asRow asNet asEnd routingWord asPath asRun asRoutingEnd runsOf pathWords pathsWords routingWords wordsIn bytesOf wordLines takeWords
     addListed readNets readTaken readWords readBytes boardWords writeBoard wordsRefused runsFrom pathsFrom walkSteps walkRuns walkPath walkPaths
     directions edgesUsed turnsMade turnsAt tally turnsOfEach turnsOccurring knockKnee knockKnees knockKneeOfNets among? alike? equallyMany
-    judged judgeWords compareWords judgeBytes compareBytes onLine belowLine textLine page drawWords drawBytes editorDraw routeRefused after answers xor
+    judged judgeWords compareWords judgeBytes compareBytes onLine belowLine textLine page drawWords drawBytes editorDraw routeRefused
+    after answers xor
     flatMap flatten
 everything = 0
