@@ -73,6 +73,8 @@ impl Around {
 
 struct Board {
     rows: Vec<Row>,
+    /// How many pins of each vertex the package has taken.
+    taken: [u8; 1024],
 }
 
 impl Board {
@@ -89,6 +91,17 @@ impl Board {
             below_left: self.cell(below, left),
             below_right: self.cell(below, right),
         }
+    }
+
+    /// The pins of a vertex, less those that are taken.
+    fn pins_left(&self, around: Around, v: Vertex) -> usize {
+        (4 - around.degree()).saturating_sub(self.taken[spot(v) as usize] as usize)
+    }
+
+    /// More pins are taken than the vertex has, or it is no vertex.
+    fn over_taken(&self, v: Vertex, count: u8) -> bool {
+        let around = self.around(v);
+        !around.any() || 4 - around.degree() < count as usize
     }
 
     /// The rows nested, widths never shrinking and then growing: row after row is taken from the top or the bottom, the inner one first.
@@ -135,7 +148,7 @@ fn add_refused(board: &Board, nets: &Nets, number: u8, ends: Pair) -> Option<u32
     if ends.first == ends.second {
         return Some(24);
     }
-    let full = |around: Around, v: Vertex| 4 - around.degree() <= terminals_at(nets, v);
+    let full = |around: Around, v: Vertex| board.pins_left(around, v) <= terminals_at(nets, v);
     if full(first, ends.first) || full(second, ends.second) {
         return Some(25);
     }
@@ -146,6 +159,7 @@ fn add_refused(board: &Board, nets: &Nets, number: u8, ends: Pair) -> Option<u32
 
 enum BoardWord {
     Row(Row),
+    Taken(Vertex, u8),
     Net(u8, Pair),
     End(u8, u8),
 }
@@ -162,6 +176,9 @@ fn board_word(w: u32) -> Option<BoardWord> {
             let second = Vertex { line: bits(w, 5, 5), column: bits(w, 0, 5) };
             Some(BoardWord::Net(bits(w, 20, 8), Pair { first, second }))
         }
+        3 if w & 0x0FFF_F000 == 0 && (1..=2).contains(&bits(w, 10, 2)) => {
+            Some(BoardWord::Taken(Vertex { line: bits(w, 5, 5), column: bits(w, 0, 5) }, bits(w, 10, 2)))
+        }
         15 if w & 0x0FFF_0000 == 0 => Some(BoardWord::End(bits(w, 8, 8), bits(w, 0, 8))),
         _ => None,
     }
@@ -171,17 +188,24 @@ fn board_word(w: u32) -> Option<BoardWord> {
 fn scan(words: &[u32]) -> Result<Board, Refusal> {
     let mut rows = Vec::with_capacity(31);
     let (mut nets, mut last, mut ended) = (0, 0, false);
+    let mut last_taken = None;
     for (i, &w) in words.iter().enumerate() {
         match board_word(w) {
             None => return refuse(12, i, 0),
             Some(BoardWord::Row(row)) => {
-                if nets > 0 || ended {
+                if last_taken.is_some() || nets > 0 || ended {
                     return refuse(13, i, 0);
                 }
                 if row.left >= row.right || rows.len() == 31 {
                     return refuse(14, i, 0);
                 }
                 rows.push(row);
+            }
+            Some(BoardWord::Taken(v, _)) => {
+                if i == 0 || nets > 0 || ended || last_taken.is_some_and(|last| spot(v) <= last) {
+                    return refuse(13, i, 0);
+                }
+                last_taken = Some(spot(v));
             }
             Some(BoardWord::Net(number, _)) => {
                 if i == 0 || ended || nets > 0 && number <= last {
@@ -201,20 +225,28 @@ fn scan(words: &[u32]) -> Result<Board, Refusal> {
             }
         }
     }
-    if ended { Ok(Board { rows }) } else { refuse(13, words.len(), 0) }
+    if ended { Ok(Board { rows, taken: [0; 1024] }) } else { refuse(13, words.len(), 0) }
 }
 
 fn read(bytes: &[u8]) -> Result<(Board, Nets), Refusal> {
     if bytes.len() % 4 != 0 {
         return refuse(10, 0, 0);
     }
-    if bytes.is_empty() || bytes.len() > 4 * 96 {
+    if bytes.is_empty() || bytes.len() > 4 * 224 {
         return refuse(11, 0, 0);
     }
     let words: Vec<u32> = bytes.chunks_exact(4).map(|b| u32::from_le_bytes([b[0], b[1], b[2], b[3]])).collect();
-    let board = scan(&words)?;
+    let mut board = scan(&words)?;
     if !board.is_convex() {
         return refuse(16, 0, 0);
+    }
+    for (i, &w) in words.iter().enumerate() {
+        if let Some(BoardWord::Taken(v, count)) = board_word(w) {
+            if board.over_taken(v, count) {
+                return refuse(38, i, 0);
+            }
+            board.taken[spot(v) as usize] = count;
+        }
     }
     let mut nets: Nets = [None; 64];
     for (i, &w) in words.iter().enumerate() {
@@ -230,10 +262,13 @@ fn read(bytes: &[u8]) -> Result<(Board, Nets), Refusal> {
 
 // ------------------------------------------------------------ what routing checks first
 
-/// A convex board, and nets that could all be added to it. The pile of a board that was read is empty.
+/// A convex board, taken pins that are there, and nets that could all be added to it. The pile of a board that was read is empty.
 fn is_sound(board: &Board, nets: &Nets) -> bool {
     let mut on: Nets = [None; 64];
     let mut ok = board.is_convex();
+    for (i, &count) in board.taken.iter().enumerate() {
+        ok &= count == 0 || !board.over_taken(Vertex { line: (i / 32) as u8, column: (i % 32) as u8 }, count);
+    }
     for (i, net) in nets.iter().enumerate() {
         if let Some(ends) = *net {
             ok &= add_refused(board, &on, i as u8 + 1, ends).is_none();

@@ -4,18 +4,21 @@
 //!     degrees SEED CASE       one case again
 //!
 //! Here a board is the set of its cells. Cells that meet at a vertex and edges that end there are counted apart, and the two counts have to go
-//! together as the requirements say. The first difference ends the run with status 1 and prints seed, case, the input's bytes and both texts.
-//! So does a run whose boards reach too little.
+//! together as the requirements say. Taken pins do not show in a drawing, but they may have a board refused. The first difference ends the run with
+//! status 1 and prints seed, case, the input's bytes and both texts. So does a run whose boards reach too little.
 
 #[allow(dead_code)]
 mod generate;
 mod independent;
 mod program;
+#[allow(dead_code)]
+mod taken;
 
-use generate::{any_nets, board_bytes, even_nets, wrong_net, Random, BOARD_KINDS};
-use independent::{bytes_of, read, Board, Net, Vertex};
+use generate::{any_nets, board_bytes, even_nets, take_pins, wrong_net, Random, BOARD_KINDS};
+use independent::{bytes_of, read, Board, Net, Vertex, MOST_WORDS};
 use std::collections::{BTreeMap, BTreeSet, VecDeque};
 use std::time::Instant;
+use taken::{taken_bytes, TAKEN_KINDS};
 
 const PROGRAM: &str = "target/bin/degrees";
 /// Most rows, and most columns of cells.
@@ -217,8 +220,9 @@ fn nets(random: &mut Random, rows: &[(usize, usize)]) -> Vec<Net> {
 
 fn convex_board(random: &mut Random, count: usize, width: usize) -> Board {
     let rows = shape(random, count, width);
-    let nets = nets(random, &rows);
-    Board { rows, nets }
+    let mut board = Board { nets: nets(random, &rows), ..Board::bare(&rows) };
+    take_pins(random, &mut board);
+    board
 }
 
 /// A convex board of any size, with those at the limits more often than others.
@@ -235,7 +239,7 @@ fn any_convex_board(random: &mut Random) -> Board {
     convex_board(random, count, width)
 }
 
-/// 31 rows and 64 nets, as many words as a board can have. It takes all pins, which a random choice of nets seldom does.
+/// 31 rows and 64 nets. These take all pins, which a random choice of nets seldom does.
 fn full_board(random: &mut Random) -> Board {
     let mut board = Board::bare(&shape(random, MOST, MOST));
     for _ in 0..100 {
@@ -295,13 +299,15 @@ fn not_convex(random: &mut Random) -> Vec<u8> {
         1 => waist(random),
         _ => bent(random),
     };
-    let nets = nets(random, &rows);
-    bytes_of(&Board { rows, nets }.words())
+    let mut board = Board { nets: nets(random, &rows), ..Board::bare(&rows) };
+    take_pins(random, &mut board);
+    bytes_of(&board.words())
 }
 
 /// A convex board's bytes and more bytes after them.
 fn many_bytes(random: &mut Random) -> Vec<u8> {
-    let length = random.pick(&[385, 386, 388, 392, 4_095, 4_096, 4_097, LONGEST - 4, LONGEST - 2, LONGEST - 1, LONGEST]);
+    let most = 4 * MOST_WORDS;
+    let length = random.pick(&[most + 1, most + 2, most + 4, most + 8, 4_095, 4_096, 4_097, LONGEST - 4, LONGEST - 2, LONGEST - 1, LONGEST]);
     let mut bytes = bytes_of(&any_convex_board(random).words());
     while bytes.len() < length {
         bytes.push(random.next() as u8);
@@ -319,12 +325,14 @@ fn case_bytes(seed: u64, case: u64) -> Vec<u8> {
     if case < CONVEX {
         return bytes_of(&any_convex_board(&mut random).words());
     }
-    match random.below(10) {
+    match random.below(13) {
         0..=4 => {
             // The first five kinds there are true boards.
             let kind = 5 + random.below(BOARD_KINDS.len() - 5);
             board_bytes(&mut random, kind)
         }
+        // Each of these kinds in turn.
+        10..=12 => taken_bytes(&mut random, case as usize % TAKEN_KINDS.len()).0,
         5..=7 => not_convex(&mut random),
         8 => {
             let board = any_convex_board(&mut random);
@@ -337,7 +345,7 @@ fn case_bytes(seed: u64, case: u64) -> Vec<u8> {
 // ---------------------------------------------------------------- boards drawn by hand
 
 /// Words of boards, and the lines to be printed, worked out from the requirements.
-const BY_HAND: [(&[u32], &[&str]); 10] = [
+const BY_HAND: [(&[u32], &[&str]); 18] = [
     // One cell.
     (
         &[0x10000001, 0xF0000100],
@@ -397,6 +405,23 @@ const BY_HAND: [(&[u32], &[&str]); 10] = [
     (&[0x10000022, 0x10000003, 0x10000022, 0x20108401, 0xF0000301], &["refused 25 3"]),
     // No words.
     (&[], &["refused 11 0"]),
+    // Taken pins leave the drawing as it is: two at (0,0), one at (0,1), one of two at (1,2), where a net ends too.
+    (
+        &[0x10000002, 0x30000800, 0x30000401, 0x30000422, 0x20108022, 0xF0000101],
+        &[
+            "oso                             ",
+            "oso                             ",
+        ],
+    ),
+    // That net to (0,1) instead; two pins taken there; at (0,3), where no vertex is; at the vertex inside a square of 2 by 2 cells.
+    (&[0x10000002, 0x30000800, 0x30000401, 0x30000422, 0x20108001, 0xF0000101], &["refused 25 4"]),
+    (&[0x10000002, 0x30000800, 0x30000801, 0x30000422, 0x20108022, 0xF0000101], &["refused 38 2"]),
+    (&[0x10000002, 0x30000800, 0x30000403, 0x30000422, 0x20108022, 0xF0000101], &["refused 38 2"]),
+    (&[0x10000002, 0x10000002, 0x30000421, 0xF0000200], &["refused 38 2"]),
+    // Three pins taken, a vertex before the last one's, and a taken word after a net.
+    (&[0x10000002, 0x30000C00, 0xF0000100], &["refused 12 1"]),
+    (&[0x10000002, 0x30000401, 0x30000800, 0xF0000100], &["refused 13 2"]),
+    (&[0x10000002, 0x20108022, 0x30000401, 0xF0000101], &["refused 13 2"]),
 ];
 
 /// Board f once more: two cells meet at (1,1) without a side in common, and four edges end there. That is none of the four kinds.
@@ -457,11 +482,13 @@ struct Run {
     with_nets: u64,
     right_of_0: u64,
     reach_31: u64,
+    with_taken: u64,
     of_96_words: u64,
+    of_more_words: u64,
 }
 
 /// All that reading can refuse. A number that is on the board already is not above the last one, and gets 13 instead of 22.
-const REFUSALS: [u32; 11] = [10, 11, 12, 13, 14, 15, 16, 21, 23, 24, 25];
+const REFUSALS: [u32; 12] = [10, 11, 12, 13, 14, 15, 16, 38, 21, 23, 24, 25];
 
 impl Run {
     /// One case.
@@ -485,7 +512,9 @@ impl Run {
         self.with_nets += !board.nets.is_empty() as u64;
         self.right_of_0 += (left > 0) as u64;
         self.reach_31 += (right == 31) as u64;
+        self.with_taken += !board.taken.is_empty() as u64;
         self.of_96_words += (bytes.len() == 4 * 96) as u64;
+        self.of_more_words += (bytes.len() > 4 * 96) as u64;
     }
 
     fn refused(&self) -> u64 {
@@ -502,7 +531,9 @@ impl Run {
             ("boards without nets", self.drawn - self.with_nets, 300),
             ("boards that begin right of column 0", self.right_of_0, 500),
             ("boards that reach column 31", self.reach_31, 300),
+            ("boards with taken pins", self.with_taken, 380),
             ("boards of 96 words", self.of_96_words, 5),
+            ("boards of more words", self.of_more_words, 15),
         ];
         let mut all: Vec<(String, u64, u64)> = reached.map(|(what, seen, least)| (what.to_string(), seen, least)).into();
         all.extend((0..4).map(|kind| (format!("vertices: {}", KINDS[kind].3), self.kinds[kind], 1_000)));

@@ -1,4 +1,4 @@
-//! Seeded inputs: boards true and damaged, and lists of routing words true and damaged.
+//! Seeded inputs: boards true and damaged, with taken pins and without, and lists of routing words true and damaged.
 
 use crate::independent::*;
 use std::collections::{HashSet, VecDeque};
@@ -96,24 +96,26 @@ pub fn stepped_rows(random: &mut Random, most_rows: usize, most_width: usize) ->
     rows.into()
 }
 
-/// The board with its nets mirrored, from column 0 on.
+/// The board with its nets and taken pins mirrored, from column 0 on.
 pub fn mirrored(board: &Board) -> Board {
     let end = board.rows.iter().map(|row| row.1).max().unwrap_or(0);
     let at = |v: Vertex| (v.0, end - v.1);
-    Board { rows: board.rows.iter().map(|row| (end - row.1, end - row.0)).collect(), nets: moved(&board.nets, &at) }
+    moved(board, board.rows.iter().map(|row| (end - row.1, end - row.0)).collect(), &at)
 }
 
-/// The board with its nets turned by a quarter, from line 0 and column 0 on: the left side comes to the top.
+/// The board with its nets and taken pins turned by a quarter, from line 0 and column 0 on: the left side comes to the top.
 pub fn turned(board: &Board) -> Board {
     let (start, end) = (board.rows.iter().map(|row| row.0).min().unwrap_or(0), board.rows.iter().map(|row| row.1).max().unwrap_or(0));
     let lines = board.rows.len();
     let across = |column: usize| (0..lines).filter(|&i| board.rows[i].0 <= column && column < board.rows[i].1).collect::<Vec<_>>();
     let rows = (start..end).map(across).map(|rows| (lines - 1 - rows[rows.len() - 1], lines - rows[0])).collect();
-    Board { rows, nets: moved(&board.nets, &|v| (v.1 - start, lines - v.0)) }
+    moved(board, rows, &|v| (v.1 - start, lines - v.0))
 }
 
-fn moved(nets: &[Net], at: &dyn Fn(Vertex) -> Vertex) -> Vec<Net> {
-    nets.iter().map(|n| Net { number: n.number, first: at(n.first), second: at(n.second) }).collect()
+/// Nets and taken pins moved to other rows.
+fn moved(board: &Board, rows: Vec<(usize, usize)>, at: &dyn Fn(Vertex) -> Vertex) -> Board {
+    let nets = board.nets.iter().map(|n| Net { number: n.number, first: at(n.first), second: at(n.second) }).collect();
+    Board { rows, taken: board.taken.iter().map(|(&v, &count)| (at(v), count)).collect(), nets }
 }
 
 /// The size of a case's board: mostly small, at times as large as can be.
@@ -295,6 +297,35 @@ pub fn some_odd_nets(random: &mut Random, rows: &[(usize, usize)]) -> Vec<Net> {
     odd_nets(random, rows, count, care)
 }
 
+/// The vertices with pins that neither the package nor the nets have taken, each with how many.
+pub fn free_pins(board: &Board) -> Vec<(Vertex, usize)> {
+    let with_pins = board.vertices().into_iter().map(|v| (v, board.pins(v))).filter(|&(_, pins)| pins > 0);
+    with_pins.map(|(v, pins)| (v, pins.saturating_sub(board.terminals(v)))).filter(|&(_, free)| free > 0).collect()
+}
+
+/// Free pins are taken on every second board. The nets stay, so that the answers do.
+pub fn take_pins(random: &mut Random, board: &mut Board) {
+    if random.one_in(2) {
+        take_some_pins(random, board);
+    }
+}
+
+/// Free pins are taken, at one to three vertices, at some or at all; at a vertex one of them or all.
+pub fn take_some_pins(random: &mut Random, board: &mut Board) {
+    let mut free = free_pins(board);
+    random.shuffle(&mut free);
+    let vertices = match random.below(4) {
+        0 | 1 => 1 + random.below(3),
+        2 => random.below(free.len() + 1),
+        _ => free.len(),
+    };
+    let whole = random.one_in(2);
+    for (v, pins) in free.into_iter().take(vertices) {
+        let count = if whole { pins } else { 1 + random.below(pins) };
+        *board.taken.entry(v).or_insert(0) += count;
+    }
+}
+
 /// A board that is accepted, of the given size at most.
 pub fn true_board(random: &mut Random, (most_rows, most_width): (usize, usize)) -> Board {
     let stepped = random.one_in(4);
@@ -305,7 +336,9 @@ pub fn true_board(random: &mut Random, (most_rows, most_width): (usize, usize)) 
         4..=7 => even_nets(random, &rows, true),
         _ => some_odd_nets(random, &rows),
     };
-    Board { rows, nets }
+    let mut board = Board { nets, ..Board::bare(&rows) };
+    take_pins(random, &mut board);
+    board
 }
 
 // ---------------------------------------------------------------- board bytes, true and damaged
@@ -322,7 +355,7 @@ pub fn board_bytes(random: &mut Random, kind: usize) -> Vec<u8> {
     match name {
         "no bytes" => return Vec::new(),
         "random bytes" => return (0..random.below(500)).map(|_| random.next() as u8).collect(),
-        "random words" => return bytes_of(&(0..random.below(110)).map(|_| random.next() as u32).collect::<Vec<_>>()),
+        "random words" => return bytes_of(&(0..random.below(240)).map(|_| random.next() as u32).collect::<Vec<_>>()),
         "words of the kinds" => {
             let count = 1 + random.below(8);
             return bytes_of(&(0..count).map(|_| any_board_word(random)).collect::<Vec<_>>());
@@ -362,17 +395,18 @@ fn damage_board(random: &mut Random, name: &str, board: &Board, words: &mut Vec<
         "a word doubled" => words.insert(at, words[at]),
         "two words swapped" => words.swap(at, random.below(end + 1)),
         "words after the end" => {
-            let count = if random.one_in(3) { 97 - words.len().min(96) } else { 1 + random.below(3) };
+            let count = if random.one_in(3) { MOST_WORDS + 1 - words.len().min(MOST_WORDS) } else { 1 + random.below(3) };
             words.extend((0..count).map(|_| any_board_word(random)));
         }
         "cut short" => words.truncate(at),
         "counts off" => words[end] = words[end].wrapping_add(random.pick(&[1, 0x100, !0, 0xFFFF_FF00, 0x101, 0xFF])),
         "a number at the bounds" | "a terminal elsewhere" if !board.nets.is_empty() => {
-            let i = board.rows.len() + random.below(board.nets.len());
+            let first = end - board.nets.len();
+            let i = first + random.below(board.nets.len());
             if name == "a terminal elsewhere" {
                 words[i] ^= 1 << random.below(20);
             } else {
-                let i = random.pick(&[i, end - 1, board.rows.len()]);
+                let i = random.pick(&[i, end - 1, first]);
                 words[i] = words[i] & 0xF00F_FFFF | random.pick(&[0, 1, 63, 64, 65, 66, 128, 255]) << 20;
             }
         }
@@ -383,8 +417,9 @@ fn damage_board(random: &mut Random, name: &str, board: &Board, words: &mut Vec<
 /// A word of one of the board kinds, at times with a bit too many.
 fn any_board_word(random: &mut Random) -> u32 {
     let small = |random: &mut Random| random.below(4) as u32;
-    let word = match random.below(5) {
+    let word = match random.below(6) {
         0 | 1 => 1 << 28 | small(random) << 5 | small(random),
+        5 => 3 << 28 | small(random) << 10 | small(random) << 5 | small(random),
         2 | 3 => {
             let number = random.pick(&[0, 1, 2, 3, 10, 63, 64, 65, 255]);
             2 << 28 | number << 20 | small(random) << 15 | small(random) << 10 | small(random) << 5 | small(random)
@@ -397,7 +432,7 @@ fn any_board_word(random: &mut Random) -> u32 {
     word
 }
 
-/// 30 to 33 rows; 95 to 98 words; as many nets as can be.
+/// 30 to 33 rows; 223 to 226 words; as many nets or taken pins as can be.
 fn bounds(random: &mut Random) -> Vec<u8> {
     let count = random.pick(&[30, 31, 31, 32, 33]);
     let width = random.pick(&[1, 2, 31, 31]);
@@ -408,6 +443,9 @@ fn bounds(random: &mut Random) -> Vec<u8> {
         let mend = random.below(3) > 0;
         board.nets = if random.one_in(3) { some_odd_nets(random, &rows) } else { even_nets(random, &rows, mend) };
     }
+    if count <= 31 {
+        take_pins(random, &mut board);
+    }
     let mut words = board.words();
     let extra = random.pick(&[0, 0, 0, 1, 2]);
     for _ in 0..extra {
@@ -415,14 +453,14 @@ fn bounds(random: &mut Random) -> Vec<u8> {
         words.insert(at, words[if at == 0 { 0 } else { at - 1 }]);
     }
     if random.one_in(4) {
-        let length = random.pick(&[95, 96, 97, 98]);
+        let length = random.pick(&[MOST_WORDS - 1, MOST_WORDS, MOST_WORDS + 1, MOST_WORDS + 2]);
         let word = words[words.len() - 1];
         words.resize(length, word);
     }
     bytes_of(&words)
 }
 
-/// Rows at random, seldom convex, at times with nets.
+/// Rows at random, seldom convex, at times with nets and taken pins.
 fn not_convex(random: &mut Random) -> Vec<u8> {
     let span = |random: &mut Random| {
         let left = random.below(5);
@@ -440,6 +478,7 @@ fn not_convex(random: &mut Random) -> Vec<u8> {
     }
     let mut board = Board::bare(&rows);
     board.nets = any_nets(random, &rows);
+    take_pins(random, &mut board);
     bytes_of(&board.words())
 }
 
@@ -452,7 +491,7 @@ pub fn wrong_net(random: &mut Random, mut board: Board) -> Vec<u8> {
         0 => number = random.pick(&[0, 65, 66, 128, 255]),
         1 => first = (random.below(32), random.below(32)),
         2 => second = first,
-        // Without a pin: inside, or a concave corner.
+        // Without a pin: inside, a concave corner, or all taken.
         _ => second = vertices.iter().copied().find(|&v| board.pins(v) == 0).unwrap_or(second),
     }
     if random.one_in(2) {

@@ -1,6 +1,6 @@
-//! The requirements read anew, from their words alone: boards and their words, convexity, pins, cuts, odd vertices and their pairings,
-//! the revised cut test of source document 004, the judge of routing words, and whether two routings are alike. Nothing here is taken from the
-//! proved library; it is what the library is held against.
+//! The requirements read anew, from their words alone: boards and their words, convexity, pins and those that the package has taken, cuts, odd
+//! vertices and their pairings, the revised cut test of source document 004, the judge of routing words, and whether two routings are alike. Nothing
+//! here is taken from the proved library; it is what the library is held against.
 
 #![allow(dead_code)]
 
@@ -49,6 +49,8 @@ pub struct Net {
 pub struct Board {
     /// Left and right of each row, from the top.
     pub rows: Vec<(usize, usize)>,
+    /// For each vertex with pins that the package has taken, how many; in reading order.
+    pub taken: BTreeMap<Vertex, usize>,
     /// In rising number.
     pub nets: Vec<Net>,
 }
@@ -57,7 +59,7 @@ pub struct Board {
 
 impl Board {
     pub fn bare(rows: &[(usize, usize)]) -> Board {
-        Board { rows: rows.to_vec(), nets: Vec::new() }
+        Board { rows: rows.to_vec(), taken: BTreeMap::new(), nets: Vec::new() }
     }
 
     pub fn lines(&self) -> usize {
@@ -76,6 +78,12 @@ impl Board {
     pub fn vertex(&self, v: Vertex) -> bool {
         let (l, c) = (v.0 as isize, v.1 as isize);
         self.cell(l - 1, c - 1) || self.cell(l - 1, c) || self.cell(l, c - 1) || self.cell(l, c)
+    }
+
+    /// How many cells meet there.
+    pub fn cells(&self, v: Vertex) -> usize {
+        let (l, c) = (v.0 as isize, v.1 as isize);
+        [(l - 1, c - 1), (l - 1, c), (l, c - 1), (l, c)].into_iter().filter(|&(row, column)| self.cell(row, column)).count()
     }
 
     /// Edges are the sides of cells: the one that leaves `v` in that direction.
@@ -98,8 +106,19 @@ impl Board {
         (0..4).filter(|&d| self.edge(v, d)).count()
     }
 
-    pub fn pins(&self, v: Vertex) -> usize {
+    /// The pins of a vertex before any are taken.
+    pub fn all_pins(&self, v: Vertex) -> usize {
         4 - self.degree(v)
+    }
+
+    /// The pins of a vertex that the package has left.
+    pub fn pins(&self, v: Vertex) -> usize {
+        self.all_pins(v).saturating_sub(self.taken.get(&v).copied().unwrap_or(0))
+    }
+
+    /// Whether so many pins can be taken there.
+    pub fn can_take(&self, v: Vertex, count: usize) -> bool {
+        self.vertex(v) && count <= self.all_pins(v)
     }
 
     pub fn terminals(&self, v: Vertex) -> usize {
@@ -354,17 +373,26 @@ pub fn bytes_of(words: &[u32]) -> Vec<u8> {
     words.iter().flat_map(|w| w.to_le_bytes()).collect()
 }
 
+/// The most words that a board can have.
+pub const MOST_WORDS: usize = 224;
+
 pub fn read(bytes: &[u8]) -> Result<Board, Refusal> {
     let words = words_of(bytes)?;
-    if words.is_empty() || words.len() > 96 {
+    if words.is_empty() || words.len() > MOST_WORDS {
         return refuse(11, 0);
     }
-    let (rows, nets) = scan(&words)?;
-    let mut board = Board { rows, nets: Vec::new() };
+    let scanned = scan(&words)?;
+    let mut board = Board::bare(&scanned.rows);
     if !board.convex() {
         return refuse(16, 0);
     }
-    for (index, net) in nets {
+    for (index, v, count) in scanned.taken {
+        if !board.can_take(v, count) {
+            return refuse(38, index);
+        }
+        board.taken.insert(v, count);
+    }
+    for (index, net) in scanned.nets {
         if let Some(number) = board.add_refused(&net) {
             return refuse(number, index);
         }
@@ -373,27 +401,40 @@ pub fn read(bytes: &[u8]) -> Result<Board, Refusal> {
     Ok(board)
 }
 
-type Rows = Vec<(usize, usize)>;
+/// What the words of a board say. Taken pins and nets come with the index of their word.
+#[derive(Default)]
+struct Scanned {
+    rows: Vec<(usize, usize)>,
+    taken: Vec<(usize, Vertex, usize)>,
+    nets: Vec<(usize, Net)>,
+}
 
-/// The words one by one, each through 12 to 15. Nets come with the index of their word.
-fn scan(words: &[u32]) -> Result<(Rows, Vec<(usize, Net)>), Refusal> {
-    let mut rows: Rows = Vec::new();
-    let mut nets: Vec<(usize, Net)> = Vec::new();
+/// The words one by one, each through 12 to 15.
+fn scan(words: &[u32]) -> Result<Scanned, Refusal> {
+    let Scanned { mut rows, mut taken, mut nets } = Scanned::default();
     let mut ended = false;
     for (index, &word) in words.iter().enumerate() {
         let kind = bits(word, 31, 28);
         let unnamed = match kind {
             1 => bits(word, 27, 10),
             2 => 0,
+            3 => bits(word, 27, 12),
             15 => bits(word, 27, 16),
             _ => return refuse(12, index),
         };
-        if unnamed != 0 {
+        let count = bits(word, 11, 10);
+        if unnamed != 0 || (kind == 3 && (count == 0 || count == 3)) {
             return refuse(12, index);
         }
         let number = bits(word, 27, 20) as u32;
-        let not_above = nets.last().map_or(false, |(_, last)| number <= last.number);
-        if (index == 0 && kind != 1) || (kind == 1 && !nets.is_empty()) || (kind == 2 && not_above) || ended {
+        let vertex = (bits(word, 9, 5), bits(word, 4, 0));
+        let misplaced = match kind {
+            1 => !taken.is_empty() || !nets.is_empty(),
+            2 => nets.last().is_some_and(|(_, last)| number <= last.number),
+            3 => !nets.is_empty() || taken.last().is_some_and(|&(_, last, _)| vertex <= last),
+            _ => false,
+        };
+        if (index == 0 && kind != 1) || misplaced || ended {
             return refuse(13, index);
         }
         match kind {
@@ -409,6 +450,7 @@ fn scan(words: &[u32]) -> Result<(Rows, Vec<(usize, Net)>), Refusal> {
                 let second = (bits(word, 9, 5), bits(word, 4, 0));
                 nets.push((index, Net { number, first, second }));
             }
+            3 => taken.push((index, vertex, count)),
             _ => {
                 if bits(word, 15, 8) != rows.len() || bits(word, 7, 0) != nets.len() {
                     return refuse(15, index);
@@ -420,7 +462,7 @@ fn scan(words: &[u32]) -> Result<(Rows, Vec<(usize, Net)>), Refusal> {
     if !ended {
         return refuse(13, words.len());
     }
-    Ok((rows, nets))
+    Ok(Scanned { rows, taken, nets })
 }
 
 impl Board {
@@ -448,8 +490,19 @@ impl Board {
     pub fn words(&self) -> Vec<u32> {
         let row = |r: &(usize, usize)| 1 << 28 | (r.0 << 5) as u32 | r.1 as u32;
         let end = 15 << 28 | (self.rows.len() << 8) as u32 | self.nets.len() as u32;
-        self.rows.iter().map(row).chain(self.nets.iter().map(net_word)).chain([end]).collect()
+        let taken = self.taken.iter().map(|(&v, &count)| taken_word(v, count));
+        self.rows.iter().map(row).chain(taken).chain(self.nets.iter().map(net_word)).chain([end]).collect()
     }
+}
+
+/// So many taken pins of a vertex.
+pub fn taken_word(v: Vertex, count: usize) -> u32 {
+    3 << 28 | (count << 10 | v.0 << 5 | v.1) as u32
+}
+
+/// A board's bytes without the words of taken pins; the end word does not count these.
+pub fn without_taken(bytes: &[u8]) -> Vec<u8> {
+    bytes.chunks(4).filter(|word| word.len() < 4 || word[3] >> 4 != 3).flatten().copied().collect()
 }
 
 pub fn net_word(n: &Net) -> u32 {
@@ -480,7 +533,7 @@ pub fn route_refused(board: &Board, buffer_length: usize) -> Option<Refusal> {
 pub fn bare_pins_board() -> Board {
     let ends = [((0, 2), (1, 4)), ((2, 5), (4, 4)), ((5, 3), (4, 1)), ((3, 0), (1, 1)), ((0, 3), (5, 2)), ((3, 5), (2, 0))];
     let nets = (1..).zip(ends).map(|(number, (first, second))| Net { number, first, second }).collect();
-    Board { rows: vec![(2, 3), (1, 4), (0, 5), (1, 4), (2, 3)], nets }
+    Board { nets, ..Board::bare(&[(2, 3), (1, 4), (0, 5), (1, 4), (2, 3)]) }
 }
 
 /// The routing words of paths given by their steps, one path for each net in order.

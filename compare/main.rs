@@ -8,6 +8,8 @@
 //! against the exhaustive router; d, every assignment of nets on small boards against it; e, pairs of lists true and damaged through the
 //! comparison of two routings; f, small boards with odd vertices, by hand and at random, against the exhaustive router; g, lists true and damaged
 //! through drawing; h, boards and lists true and damaged through the program draw.
+//! In all parts many boards have pins that the package has taken. Where such a board is read, routing is called once more without the words of taken
+//! pins: the answer and every byte have to be the same.
 //! Whether a board with odd vertices has a routing is decided by trying every way to pair them off. On small boards this way is itself held
 //! against the exhaustive router.
 //! The first difference ends the run with status 1 and prints seed, part, case and the input's bytes. So does a run whose inputs reach too little.
@@ -23,6 +25,7 @@ mod pages;
 mod pairs;
 mod prints;
 mod program;
+mod taken;
 
 use cidrask::{cidrask_alike, cidrask_draw, cidrask_judge, cidrask_route};
 use exhaustive::Answer;
@@ -30,6 +33,7 @@ use generate::*;
 use independent::*;
 use std::collections::BTreeMap;
 use std::time::Instant;
+use taken::{any_bytes, taken_bytes, TAKEN_KINDS};
 
 const CASES_A: u64 = 220_000;
 const CASES_B: u64 = 120_000;
@@ -37,7 +41,7 @@ const CASES_C: u64 = 6_000;
 const CASES_E: u64 = 30_000;
 const CASES_F: u64 = 6_000;
 const CASES_G: u64 = 24_000;
-const CASES_H: u64 = 1_500;
+const CASES_H: u64 = 1_600;
 /// Routing words for a board of their own.
 const OTHER_LIST: [u32; 5] = [0x40100001, 0x54000001, 0x40200001, 0x58000001, 0xE0000002];
 /// Bytes before and after a buffer that must stay as they are.
@@ -47,7 +51,7 @@ const TURNED_TWICE: &str = "lists with a vertex where one net turns twice";
 
 /// The refusals that reading, routing and judging of bytes can give. 22 is not among them: a number that is on the board
 /// already is not above the last one, and gets 13 before any net is added.
-const REFUSALS: [u32; 21] = [10, 11, 12, 13, 14, 15, 16, 21, 23, 24, 25, 31, 32, 33, 34, 41, 42, 43, 44, 45, 46];
+const REFUSALS: [u32; 22] = [10, 11, 12, 13, 14, 15, 16, 38, 21, 23, 24, 25, 31, 32, 33, 34, 41, 42, 43, 44, 45, 46];
 
 #[derive(Default)]
 struct Run {
@@ -63,6 +67,7 @@ struct Run {
     drawn: u64,
     most_words: usize,
     most_nets: usize,
+    most_taken: usize,
     large: u64,
     full_cuts: u64,
     passed: u64,
@@ -99,6 +104,27 @@ impl Run {
         self.most_nets = self.most_nets.max(b.nets.len());
         self.large += (b.rows.len() >= 16 && b.nets.len() >= 16 && b.rows.iter().any(|row| row != &b.rows[0])) as u64;
         self.full_cuts += b.cuts().iter().any(|&cut| b.cut_edges(cut) > 0 && b.margin(cut) == 0) as u64;
+    }
+
+    /// Counts what a board with taken pins came to; `refused` is what routing owes it.
+    fn count_taken(&mut self, b: &Board, refused: Option<Refusal>) {
+        if b.taken.is_empty() {
+            return;
+        }
+        let free = free_pins(b);
+        let left_at = |v: &Vertex| free.iter().any(|(u, _)| u == v);
+        self.most_taken = self.most_taken.max(b.taken.len());
+        self.count(&taken_and(refused.map_or(0, |r| r.number)));
+        self.count_all(&[
+            (TAKEN_FEW, b.taken.len() <= 3),
+            (TAKEN_MANY, b.taken.len() >= 40),
+            (TAKEN_LONG, b.rows.len() + b.taken.len() + b.nets.len() + 1 > 96),
+            (TAKEN_NO_NETS, b.nets.is_empty()),
+            (TAKEN_ALL, free.is_empty()),
+            (TAKEN_ALL_AT_SOME, !free.is_empty() && b.taken.keys().any(|v| !left_at(v))),
+            (TAKEN_NET_BESIDE, b.taken.keys().any(|&v| b.terminals(v) > 0)),
+            (TAKEN_LEFT_BESIDE, b.taken.keys().any(left_at)),
+        ]);
     }
 
     /// Counts what a list that passes has. That no vertex has more than two turns is seen here, not taken for granted.
@@ -153,7 +179,9 @@ impl Run {
         }
         if let Ok(b) = &expected {
             self.count_odd(b, refused);
+            self.count_taken(b, refused);
         }
+        let taken = with_taken(&expected);
         if let Some(r) = refused {
             self.count_refused(&r);
             if (result, first, second) != (r.number, r.place[0] as u64, r.place[1] as u64) {
@@ -161,6 +189,9 @@ impl Run {
             }
             if memory != before {
                 self.difference("routing refused, but memory was written to", board, &[]);
+            }
+            if taken {
+                self.route_without_taken(random, board, buffer_length, (result, first, second), &[]);
             }
             return None;
         }
@@ -177,12 +208,36 @@ impl Run {
                 self.difference("routing hands back words where the revised cut test fails", board, &memory[start..start + count]);
             }
         }
-        Some(memory[start..start + count].to_vec())
+        let words = memory[start..start + count].to_vec();
+        if taken {
+            self.route_without_taken(random, board, buffer_length, (0, first, 0), &words);
+        }
+        Some(words)
+    }
+
+    /// Calls routing for a board that was read, without the words of its taken pins: the answer is the same, and so is every byte.
+    fn route_without_taken(&mut self, random: &mut Random, board: &[u8], buffer_length: usize, answer: (u32, u64, u64), words: &[u8]) {
+        let stripped = without_taken(board);
+        let mut due = pattern(random.next(), GUARD + buffer_length + GUARD);
+        let mut memory = due.clone();
+        due[GUARD..GUARD + words.len()].copy_from_slice(words);
+        let lent = Lent::new(&stripped, random.below(8));
+        let mut numbers = Numbers::new();
+        let buffer = memory[GUARD..GUARD + buffer_length].as_mut_ptr();
+        let [first, second, _] = numbers.lend();
+        let result = unsafe { cidrask_route(lent.start(), stripped.len(), buffer, buffer_length, first, second) };
+        let [first, second, _] = numbers.taken();
+        if (result, first, second) != answer || memory != due || !lent.unchanged() || !numbers.guarded() {
+            let what = format!("routing: {answer:?}, but {:?} or other bytes without the words of taken pins", (result, first, second));
+            self.difference_in(&what, &[("board", board), ("without taken pins", &stripped), ("routing", words)]);
+        }
+        self.count(STRIPPED);
     }
 
     /// Calls judging and compares result and report or place.
     fn judge(&mut self, board: &[u8], list: &[u8]) -> Option<Report> {
-        let expected = read(board).and_then(|b| judge(&b, list));
+        let board_read = read(board);
+        let expected = board_read.as_ref().map_err(|refusal| *refusal).and_then(|b| judge(b, list));
         let shift = self.case as usize + list.len() / 4;
         let (lent_board, lent_list) = (Lent::new(board, shift % 8), Lent::new(list, shift / 8 % 8));
         let mut lent = Numbers::new();
@@ -200,6 +255,7 @@ impl Run {
             self.difference(&format!("judging: library {result} {n:?}, independent {number} {numbers:?}"), board, list);
         }
         self.judged += 1;
+        self.count_all(&[(TAKEN_JUDGED, with_taken(&board_read))]);
         if let Err(refusal) = &expected {
             self.count_refused(refusal);
         }
@@ -231,6 +287,7 @@ impl Run {
             self.difference_in(&format!("comparing: library {result} at {first} {second}, independent {expected:?}"), &inputs);
         }
         self.pairs += 1;
+        self.count_all(&[(TAKEN_COMPARED, with_taken(&board_read))]);
         match board_read {
             Ok(b) => self.count_pair(&b, one, two, expected),
             Err(_) => self.count("refused: the board of a pair"),
@@ -252,6 +309,7 @@ impl Run {
         let [first, ..] = numbers.lend();
         let result = unsafe { cidrask_draw(lent[0].start(), board.len(), lent[1].start(), list.len(), buffer, length, first) };
         self.drawn += 1;
+        self.count_all(&[(TAKEN_DRAWN, with_taken(&board_read))]);
         let [first, second, third] = numbers.taken();
         if !lent.iter().all(Lent::unchanged) || !numbers.guarded() || [second, third] != [UNTOUCHED; 2] {
             self.difference("drawing wrote to what it is not lent for writing", board, list);
@@ -288,9 +346,7 @@ impl Run {
     fn part_a(&mut self, case: u64) {
         (self.part, self.case) = ('a', case);
         let mut random = Random::of_case(self.seed, 'a', case);
-        let kind = random.below(BOARD_KINDS.len());
-        let board = board_bytes(&mut random, kind);
-        self.count(BOARD_KINDS[kind]);
+        let board = if random.one_in(10) { self.taken_board(&mut random) } else { self.any_board(&mut random) };
         let length = match random.below(10) {
             0 => random.pick(&[0, 1, 3, 4, 8191, 8192, 8195]),
             1 => random.below(8196),
@@ -298,6 +354,25 @@ impl Run {
             _ => 8196,
         };
         self.route_and_judge(&mut random, &board, length);
+    }
+
+    /// A board of any kind but those made for taken pins.
+    fn any_board(&mut self, random: &mut Random) -> Vec<u8> {
+        let kind = random.below(BOARD_KINDS.len());
+        self.count(BOARD_KINDS[kind]);
+        board_bytes(random, kind)
+    }
+
+    /// A board of the kinds made for taken pins. Reading gives what it is made for.
+    fn taken_board(&mut self, random: &mut Random) -> Vec<u8> {
+        let kind = random.below(TAKEN_KINDS.len());
+        let (board, due) = taken_bytes(random, kind);
+        let answer = read(&board).err();
+        if answer != due {
+            self.difference(&format!("{}: made for {due:?}, but independent {answer:?}", TAKEN_KINDS[kind]), &board, &[]);
+        }
+        self.count(TAKEN_KINDS[kind]);
+        board
     }
 
     fn part_b(&mut self, case: u64) {
@@ -335,8 +410,7 @@ impl Run {
         }
         if random.one_in(30) {
             // A damaged board with a list: the board is read first.
-            let kind = random.below(BOARD_KINDS.len());
-            let damaged = board_bytes(&mut random, kind);
+            let damaged = any_bytes(&mut random);
             let mut list = bytes_of(&words);
             list.truncate(list.len() - random.below(3));
             self.count("list for a damaged board");
@@ -372,7 +446,7 @@ impl Run {
         let rows = convex_rows(&mut random, size, size);
         let mend = random.one_in(2);
         let nets = even_nets(&mut random, &rows, mend);
-        self.small(&mut random, &Board { rows, nets }, 200_000, found);
+        self.small(&mut random, &Board { nets, ..Board::bare(&rows) }, 200_000, found);
     }
 
     /// These pairs as nets on this board.
@@ -380,12 +454,15 @@ impl Run {
         (self.part, self.case) = ('d', case);
         let mut random = Random::of_case(self.seed, 'd', case);
         let nets = numbered(&mut random, pairs.to_vec());
-        self.small(&mut random, &Board { rows: bare.rows.clone(), nets }, u64::MAX, found);
+        self.small(&mut random, &Board { nets, ..bare.clone() }, u64::MAX, found);
     }
 
     /// One board with its nets and at most 12 odd vertices: the exhaustive router finds paths exactly when the odd vertices can be paired off,
-    /// and routing is accepted exactly then.
+    /// and routing is accepted exactly then. Pins that the nets leave free may be taken, which changes none of this.
     fn small(&mut self, random: &mut Random, board: &Board, steps: u64, found: &mut Found) {
+        let mut board = board.clone();
+        take_pins(random, &mut board);
+        let board = &board;
         let bytes = bytes_of(&board.words());
         let answer = exhaustive::route(board, steps);
         let paths = match &answer {
@@ -408,6 +485,43 @@ impl Run {
             }
         }
     }
+}
+
+// ---------------------------------------------------------------- taken pins
+
+const STRIPPED: &str = "taken: the same without these words";
+const TAKEN_JUDGED: &str = "taken: lists judged";
+const TAKEN_COMPARED: &str = "taken: pairs compared";
+const TAKEN_DRAWN: &str = "taken: calls of drawing";
+const TAKEN_FEW: &str = "taken: at three vertices or fewer";
+const TAKEN_MANY: &str = "taken: at 40 vertices or more";
+const TAKEN_LONG: &str = "taken: a board of more than 96 words";
+const TAKEN_NO_NETS: &str = "taken: no nets";
+const TAKEN_ALL: &str = "taken: no pin is free";
+const TAKEN_ALL_AT_SOME: &str = "taken: no pin is free at some of these vertices, but elsewhere";
+const TAKEN_NET_BESIDE: &str = "taken: one pin by the package and one by a net";
+const TAKEN_LEFT_BESIDE: &str = "taken: one pin by the package, the other free";
+
+/// What is due in parts a and b besides kinds and answers.
+const TAKEN_DUE: [(&str, u64); 10] = [
+    (STRIPPED, 45_000),
+    (TAKEN_JUDGED, 125_000),
+    (TAKEN_FEW, 32_000),
+    (TAKEN_MANY, 520),
+    (TAKEN_LONG, 480),
+    (TAKEN_NO_NETS, 2_000),
+    (TAKEN_ALL, 12_000),
+    (TAKEN_ALL_AT_SOME, 30_000),
+    (TAKEN_NET_BESIDE, 17_500),
+    (TAKEN_LEFT_BESIDE, 9_500),
+];
+
+fn with_taken(board: &Result<Board, Refusal>) -> bool {
+    board.as_ref().is_ok_and(|board| !board.taken.is_empty())
+}
+
+fn taken_and(number: u32) -> String {
+    format!("taken: {}", if number == 0 { "routed".to_string() } else { format!("refused by {number}") })
 }
 
 /// What the exhaustive router decided of small boards.
@@ -631,6 +745,16 @@ fn kinds() -> impl Iterator<Item = &'static str> {
     BOARD_KINDS.into_iter().chain(LIST_KINDS).chain(others)
 }
 
+/// What boards with taken pins come to in parts a and b, and how often is due; more than 124 vertices with pins no board has.
+fn taken_reached(run: &Run) -> Vec<(String, u64, u64)> {
+    let mut due: Vec<(String, u64)> = TAKEN_DUE.map(|(what, least)| (what.to_string(), least)).into();
+    due.extend(TAKEN_KINDS.map(|kind| (kind.to_string(), 380)));
+    due.extend([(0, 30_000), (31, 3_500), (32, 2_200), (33, 5_100), (34, 3_600)].map(|(number, least)| (taken_and(number), least)));
+    let mut reached: Vec<_> = due.into_iter().map(|(what, least)| (what.clone(), run.counted(&what), least)).collect();
+    reached.push(("vertices with taken pins on a board".to_string(), run.most_taken as u64, 124));
+    reached
+}
+
 /// What parts a and b reached, and how often is due: two thirds or less of what each of the seeds 1985, 1 and 2 reaches;
 /// 64 nets are all there can be.
 fn reached(run: &Run) -> Vec<(String, u64, u64)> {
@@ -648,6 +772,7 @@ fn reached(run: &Run) -> Vec<(String, u64, u64)> {
     let mut all: Vec<(String, u64, u64)> = reached.map(|(what, seen, least)| (what.to_string(), seen, least)).into();
     all.extend(kinds().map(|kind| (format!("inputs of the kind \"{kind}\""), run.counted(kind), 1_000)));
     all.extend(REFUSALS.map(|number| (format!("refusals by {number}"), run.refused(number), 50)));
+    all.extend(taken_reached(run));
     all.extend(odd::reached(run));
     all
 }

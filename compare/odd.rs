@@ -3,14 +3,14 @@
 
 use crate::generate::*;
 use crate::independent::*;
-use crate::{end_if_short, print_small, Found, Run, CASES_F};
+use crate::{end_if_short, print_small, taken_and, Found, Run, CASES_F, STRIPPED, TAKEN_ALL, TAKEN_NET_BESIDE};
 use std::time::Instant;
 
 // ---------------------------------------------------------------- boards by hand
 
 fn board(rows: &[(usize, usize)], ends: &[(Vertex, Vertex)]) -> Board {
     let nets = (1..).zip(ends).map(|(number, &(first, second))| Net { number, first, second }).collect();
-    Board { rows: rows.to_vec(), nets }
+    Board { nets, ..Board::bare(rows) }
 }
 
 /// Boards with the refusal that routing owes them, worked out from the requirements.
@@ -59,7 +59,7 @@ fn odd_board(random: &mut Random, counts: &[usize], care: Care) -> Board {
     let rows = if random.one_in(4) { convex_rows(random, size, size) } else { stepped_rows(random, size, size) };
     let count = random.pick(counts);
     let nets = odd_nets(random, &rows, count, care);
-    Board { rows, nets }
+    Board { nets, ..Board::bare(&rows) }
 }
 
 /// The first of many boards with filled cuts that is such, if one is.
@@ -163,7 +163,7 @@ fn large_and(number: u32) -> String {
 /// and 2 reaches. Two odd vertices never get 34: the margin of a cut between them is odd.
 const DUE: [(usize, u32, u64); 19] = [
     (2, 0, 5_000), (4, 0, 5_500), (6, 0, 5_500), (8, 0, 5_500), (10, 0, 4_500), (12, 0, 4_500),
-    (2, 33, 2_500), (4, 33, 1_900), (6, 33, 1_200), (8, 33, 650), (10, 33, 380), (12, 33, 340),
+    (2, 33, 2_500), (4, 33, 1_900), (6, 33, 1_200), (8, 33, 650), (10, 33, 360), (12, 33, 340),
     (4, 34, 1_300), (6, 34, 2_000), (8, 34, 1_800), (10, 34, 1_500), (12, 34, 550),
     (14, 32, 2_000), (16, 32, 1_500),
 ];
@@ -186,6 +186,8 @@ fn reached_by_small(run: &Run) -> Vec<(String, u64, u64)> {
     let answers = [(OTHER_PAIRS, 4_500), (REVISED_HOLDS, 500), (REVISED_FAILS, 1_600)];
     let mut due: Vec<(String, u64)> = kinds.iter().chain(&answers).map(|&(what, least)| (what.to_string(), least)).collect();
     due.extend([(odd_and(12, 0), 300), (odd_and(12, 34), 140)]);
+    due.extend([(STRIPPED, 77_000), (TAKEN_ALL, 40_000), (TAKEN_NET_BESIDE, 31_000)].map(|(what, least)| (what.to_string(), least)));
+    due.extend([(0, 26_000), (33, 49_000), (34, 1_050)].map(|(number, least)| (taken_and(number), least)));
     seen(run, due)
 }
 

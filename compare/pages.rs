@@ -4,7 +4,8 @@ use crate::generate::*;
 use crate::independent::*;
 use crate::page::{page_length, read_off, used_edges, ROOM};
 use crate::pairs::{any_of, any_state, backwards, in_state, other_paths, Paths, TRUE_PAIRS};
-use crate::{end_if_short, Run, CASES_G, LOOPS, OTHER_LIST};
+use crate::taken::TAKEN_KINDS;
+use crate::{end_if_short, Run, CASES_G, LOOPS, OTHER_LIST, TAKEN_DRAWN};
 use std::collections::{BTreeSet, HashSet};
 use std::time::Instant;
 
@@ -44,7 +45,7 @@ fn too_short(random: &mut Random, page: usize) -> usize {
 fn by_other_nets(random: &mut Random, board: &Board, paths: &Paths) -> (Board, Paths) {
     let mut order: Vec<usize> = (0..paths.len()).collect();
     random.shuffle(&mut order);
-    let (mut other, mut steps) = (Board::bare(&board.rows), Vec::new());
+    let (mut other, mut steps) = (Board { nets: Vec::new(), ..board.clone() }, Vec::new());
     for (place, &index) in order.iter().enumerate() {
         let (number, net, path) = (board.nets[place].number, &board.nets[index], &paths[index]);
         let (first, second, path) =
@@ -80,6 +81,7 @@ fn winding(random: &mut Random) -> (Board, Paths) {
         index += 1;
     }
     board.nets.push(Net { number: 1 + random.below(64) as u32, first, second });
+    take_pins(random, &mut board);
     (board, vec![path])
 }
 
@@ -181,15 +183,24 @@ impl Run {
         self.count_all(&[(SAME_INPUT, same_input), (SAME_PAGE, page && !same_input), (OTHER_PAGE, !page)]);
     }
 
-    /// A damaged board, or this one with a net that is refused. The list, which may be damaged too, is for this one: the board is read first.
+    /// A damaged board, one made for taken pins, or this one with a net that is refused. The list, which may be damaged too, is for this one: the
+    /// board is read first.
     fn damaged_board(&mut self, random: &mut Random, board: &Board, words: &[u32]) {
         // The first five kinds are true boards.
         let (kind, state) = (5 + random.below(BOARD_KINDS.len() - 5), any_state(random));
-        let wrong = random.one_in(6);
-        let damaged = if wrong { wrong_net(random, board.clone()) } else { board_bytes(random, kind) };
+        let damaged = match random.below(6) {
+            0 => {
+                self.count(WRONG_NET);
+                wrong_net(random, board.clone())
+            }
+            1 => self.taken_board(random),
+            _ => {
+                self.count(BOARD_KINDS[kind]);
+                board_bytes(random, kind)
+            }
+        };
         let list = in_state(random, state, words);
         let length = if random.one_in(2) { long_enough(random) } else { too_short(random, page_length(board)) };
-        self.count(if wrong { WRONG_NET } else { BOARD_KINDS[kind] });
         self.draw_and_read(random, &damaged, &list, length);
     }
 
@@ -277,16 +288,17 @@ fn before_list_by(number: u32) -> String {
 // ---------------------------------------------------------------- the whole part
 
 /// The refusals of reading; 22 cannot come.
-pub const OF_BOARDS: [u32; 11] = [10, 11, 12, 13, 14, 15, 16, 21, 23, 24, 25];
+pub const OF_BOARDS: [u32; 12] = [10, 11, 12, 13, 14, 15, 16, 38, 21, 23, 24, 25];
 pub const OF_LISTS: [u32; 7] = [10, 41, 42, 43, 44, 45, 46];
 
 /// What is due besides kinds and refusals.
-const DUE: [(&str, u64); 25] = [
+const DUE: [(&str, u64); 26] = [
     (BY_LIBRARY, 1_600),
     (BY_TRAILS, 13_000),
     (WINDING, 130),
     (LOOPS, 1_900),
     (WRONG_NET, 2_600),
+    (TAKEN_DRAWN, 71_000),
     (OTHER_NETS, 16_000),
     (SAME_INPUT, 25_000),
     (SAME_PAGE, 20_000),
@@ -305,7 +317,7 @@ const DUE: [(&str, u64); 25] = [
     ("page: 37, one byte", 4_500),
     ("page: 37, a byte too few", 9_600),
     ("page: 37, as many bytes as this page has", 4_300),
-    ("page: 37, more bytes than this page has", 15_800),
+    ("page: 37, more bytes than this page has", 15_700),
     ("page: 37, fewer bytes than this page has", 12_000),
 ];
 
@@ -314,7 +326,8 @@ fn reached(run: &Run) -> Vec<(String, u64, u64)> {
     let mut due: Vec<(String, u64)> = DUE.map(|(what, least)| (what.to_string(), least)).into();
     due.extend(TRUE_PAIRS.map(|(kind, ..)| (kind.to_string(), 1_200)));
     due.extend(LIST_KINDS.map(|kind| (kind.to_string(), 2_400)));
-    due.extend(BOARD_KINDS[5..].iter().map(|kind| (kind.to_string(), 730)));
+    due.extend(BOARD_KINDS[5..].iter().map(|kind| (kind.to_string(), 580)));
+    due.extend(TAKEN_KINDS.map(|kind| (kind.to_string(), 55)));
     due.extend(OF_BOARDS.iter().flat_map(|&number| [true, false].map(|short| (board_by(number, short), 190))));
     due.extend(OF_LISTS.iter().flat_map(|&number| [(list_by(number), 2_500), (before_list_by(number), 780)]));
     let mut reached: Vec<_> = due.into_iter().map(|(what, least)| (what.clone(), run.counted(&what), least)).collect();

@@ -2,7 +2,8 @@
 
 use crate::generate::*;
 use crate::independent::*;
-use crate::{end_if_short, Run, CASES_E, OTHER_LIST, TURNED_TWICE};
+use crate::taken::any_bytes;
+use crate::{end_if_short, Run, CASES_E, OTHER_LIST, TAKEN_COMPARED, TURNED_TWICE};
 use std::collections::{HashMap, HashSet};
 use std::time::Instant;
 
@@ -30,7 +31,9 @@ fn pair_board(random: &mut Random) -> Board {
     let others = any_nets(random, &rows);
     let most = random.pick(&[0, 1, 3, 64]);
     pairs.extend(others.iter().take(most).map(|net| (net.first, net.second)));
-    with_room(random, bare, &pairs)
+    let mut board = with_room(random, bare, &pairs);
+    take_pins(random, &mut board);
+    board
 }
 
 /// The two neighbours of a corner.
@@ -245,8 +248,7 @@ impl Run {
             self.in_states(&mut random, &bytes, &words);
         }
         if random.one_in(4) {
-            let kind = random.below(BOARD_KINDS.len());
-            let damaged = board_bytes(&mut random, kind);
+            let damaged = any_bytes(&mut random);
             self.count("pair: for a damaged board");
             self.in_states(&mut random, &damaged, &words);
         }
@@ -321,9 +323,10 @@ impl Run {
 // ---------------------------------------------------------------- the whole part
 
 /// What is due besides the kinds of pairs, the states of lists and their refusals.
-const DUE: [(&str, u64); 12] = [
+const DUE: [(&str, u64); 13] = [
     ("pair: a routed list with random trails", 1_000),
     ("pair: for a damaged board", 4_800),
+    (TAKEN_COMPARED, 52_000),
     ("alike: the same bytes", 30_000),
     ("alike: other bytes", 1_700),
     ("not alike", 30_000),

@@ -5,6 +5,7 @@ use crate::independent::*;
 use crate::page::{drawn_from, printed, LONGEST};
 use crate::pages::{OF_BOARDS, OF_LISTS};
 use crate::pairs::{any_state, in_state};
+use crate::taken::{taken_bytes, TAKEN_KINDS};
 use crate::{end_if_short, program, Run, CASES_H};
 use std::time::Instant;
 
@@ -15,10 +16,10 @@ const PROGRAM: &str = "target/bin/draw";
 /// The first cases: no bytes, fewer than a word has, an end word alone, one cut short, and one shifted by a byte.
 const SHORT: [&[u8]; 5] = [&[], &[0xF0], &[0, 0, 0, 0xF0], &[0, 0, 0xF0], &[0, 0, 0, 0, 0xF0]];
 
-const INPUTS: [&str; 14] = [
+const INPUTS: [&str; 15] = [
     "input: a routing", "input: a routing", "input: a damaged list", "input: a damaged list", "input: a damaged list", "input: a damaged board",
-    "input: a damaged board", "input: a wrong net", "input: a board alone", "input: no end word", "input: an end word too soon",
-    "input: a board twice", "input: bytes more or fewer", "input: many bytes",
+    "input: a damaged board", "input: a board made for taken pins", "input: a wrong net", "input: a board alone", "input: no end word",
+    "input: an end word too soon", "input: a board twice", "input: bytes more or fewer", "input: many bytes",
 ];
 
 /// An input of that kind, made from a board and a routing of its nets.
@@ -35,6 +36,10 @@ fn input(random: &mut Random, kind: &str, board: &Board, words: &[u32]) -> Vec<u
             // The first five kinds are true boards.
             let kind = 5 + random.below(BOARD_KINDS.len() - 5);
             return [board_bytes(random, kind), list].concat();
+        }
+        "input: a board made for taken pins" => {
+            let kind = random.below(TAKEN_KINDS.len());
+            return [taken_bytes(random, kind).0, list].concat();
         }
         "input: a wrong net" => return [wrong_net(random, board.clone()), list].concat(),
         "input: a board alone" => return bytes_of(&own),
@@ -83,6 +88,7 @@ impl Run {
         let (board, paths) = self.paths_to_draw(&mut random);
         let kind = INPUTS[case as usize % INPUTS.len()];
         self.count(kind);
+        self.count_all(&[(TAKEN_ROUTING, kind == "input: a routing" && !board.taken.is_empty())]);
         self.print(&input(&mut random, kind, &board, &routing_words(&board, &paths)));
     }
 
@@ -102,6 +108,7 @@ impl Run {
     }
 }
 
+const TAKEN_ROUTING: &str = "input: a routing, pins taken";
 const PAGE: &str = "printed: a page";
 const TOO_LONG: &str = "printed: for more bytes than are read";
 
@@ -116,7 +123,7 @@ fn reached(run: &Run) -> Vec<(String, u64, u64)> {
     let mut due: Vec<(String, u64)> = INPUTS.map(|kind| (kind.to_string(), 70)).into();
     due.dedup();
     due.extend(OF_BOARDS.iter().chain(&OF_LISTS[1..]).map(|&number| (refused_by(number), 2)));
-    due.extend([(PAGE, 180), (TOO_LONG, 28)].map(|(what, least)| (what.to_string(), least)));
+    due.extend([(TAKEN_ROUTING, 45), (PAGE, 180), (TOO_LONG, 24)].map(|(what, least)| (what.to_string(), least)));
     due.into_iter().map(|(what, least)| (what.clone(), run.counted(&what), least)).collect()
 }
 

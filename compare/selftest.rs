@@ -1,19 +1,22 @@
-//! The independent side tried on its own: the ring and the boards a to i of the requirements, reports by hand and against another way to work
-//! them out, pairs of routings whose answer is known, pages drawn by hand and against another way to draw them, the three readings of convexity
-//! against each other, the exhaustive router on boards whose answer is known, odd vertices and their pairings, and the revised cut test on boards
-//! worked out by hand and against other ways to work it out.
+//! The independent side tried on its own: the ring and the boards a to i of the requirements, taken pins by hand and on boards made for a refusal,
+//! reports by hand and against another way to work them out, pairs of routings whose answer is known, pages drawn by hand and against another way to
+//! draw them, the three readings of convexity against each other, the exhaustive router on boards whose answer is known, odd vertices and their
+//! pairings, and the revised cut test on boards worked out by hand and against other ways to work it out.
 
 mod exhaustive;
 #[allow(dead_code)]
 mod generate;
 mod independent;
 mod page;
+#[allow(dead_code)]
+mod taken;
 
 use exhaustive::{route, Answer};
-use generate::{convex_rows, loop_laid_on, mirrored, odd_nets, stepped_rows, trails, true_board, turned, Care, Random};
+use generate::{convex_rows, free_pins, loop_laid_on, mirrored, odd_nets, stepped_rows, take_pins, trails, true_board, turned, Care, Random};
 use independent::*;
 use page::{draw, page_length, printed, read_off, used_edges, LONGEST, ROOM};
 use std::collections::BTreeMap;
+use taken::{taken_bytes, TAKEN_KINDS};
 
 const RING: [u32; 6] = [0x10000001, 0x20100001, 0x20200421, 0x20308420, 0x20408000, 0xF0000104];
 const RING_ROUTED: [u32; 9] =
@@ -205,7 +208,8 @@ fn refusals() {
     };
     assert_eq!(read(&[0; 5]), Err(refused(10, 0)));
     assert_eq!(read(&[]), Err(refused(11, 0)));
-    assert_eq!(read(&[0xFF; 4 * 97]), Err(refused(11, 0)));
+    assert_eq!(read(&[0xFF; 4 * 225]), Err(refused(11, 0)));
+    assert_eq!([read(&[0xFF; 4 * 97]), read(&[0xFF; 4 * 224])], [Err(refused(12, 0)), Err(refused(12, 0))]);
     assert_eq!(board(&|w| w[0] |= 1 << 10), Some(refused(12, 0)));
     assert_eq!(board(&|w| w[5] |= 1 << 16), Some(refused(12, 5)));
     assert_eq!(board(&|w| w[3] = 0x30308420), Some(refused(12, 3)));
@@ -326,6 +330,170 @@ fn refusals_of_pairs() {
         lists.iter().for_each(|(_, _, other)| assert_eq!(alike(&ring, list, other), of_list(0)));
     }
     assert_eq!([alike(&ring, uneven, &passes), alike(&ring, &passes, uneven), alike(&ring, uneven, uneven)], [ten; 3]);
+}
+
+// ---------------------------------------------------------------- taken pins
+
+/// Rows 0-2 and 0-1: two pins taken at the outer corner (0,0), one on the straight side at (0,1), one of two at the outer corner (1,2); net 1 from
+/// there to (2,0).
+const TAKEN: [u32; 7] = [0x10000002, 0x10000001, 0x30000800, 0x30000401, 0x30000422, 0x20108840, 0xF0000201];
+
+/// What reading says of these words with a change.
+fn taken_changed(change: &dyn Fn(&mut Vec<u32>)) -> Option<Refusal> {
+    let mut words = TAKEN.to_vec();
+    change(&mut words);
+    read(&bytes_of(&words)).err()
+}
+
+fn pins_left() {
+    let board = read(&bytes_of(&TAKEN)).unwrap();
+    assert_eq!(board.words(), TAKEN);
+    assert_eq!(board.taken, BTreeMap::from([((0, 0), 2), ((0, 1), 1), ((1, 2), 1)]));
+    let pins: Vec<usize> = board.vertices().iter().map(|&v| board.pins(v)).collect();
+    // (0,0) to (0,2), (1,0) to (1,2), (2,0) and (2,1); (1,1) is a concave corner.
+    assert_eq!(pins, [0, 0, 2, 1, 0, 1, 2, 2]);
+    assert_eq!(free_pins(&board), [((0, 2), 2), ((1, 0), 1), ((2, 0), 1), ((2, 1), 2)]);
+    let add = |first, second| board.add_refused(&Net { number: 2, first, second });
+    assert_eq!([add((0, 0), (2, 1)), add((2, 1), (0, 1)), add((1, 2), (2, 1)), add((2, 1), (1, 2))], [Some(25); 4]);
+    assert_eq!([add((0, 2), (1, 0)), add((2, 0), (2, 1))], [None; 2]);
+    // Both terminals at a vertex with no pin left, one vertex twice, or one that is not there: 24 and 23 come first.
+    assert_eq!([add((0, 0), (0, 1)), add((0, 0), (0, 0)), add((0, 0), (2, 2))], [Some(25), Some(24), Some(23)]);
+    // Without the taken words the same nets, odd vertices and cuts; the end word stays.
+    let bare = read(&without_taken(&bytes_of(&TAKEN))).unwrap();
+    assert_eq!(bare.words(), [0x10000002, 0x10000001, 0x20108840, 0xF0000201]);
+    assert_eq!((bare.odd_vertices(), bare.margins()), (board.odd_vertices(), board.margins()));
+    assert_eq!(board.odd_vertices(), [(0, 1), (1, 0), (1, 2), (2, 0)]);
+    assert!(routes(&board) && route_refused(&board, 8196).is_none());
+}
+
+fn taken_ill_made_or_out_of_order() {
+    let changed = taken_changed;
+    assert_eq!(changed(&|_| ()), None);
+    assert_eq!([changed(&|w| w[3] = 0x30000001), changed(&|w| w[3] = 0x30000C01)], [Some(refused(12, 3)); 2]);
+    (12..28).for_each(|bit| assert_eq!(changed(&|w| w[3] |= 1 << bit), Some(refused(12, 3))));
+    // 12 before 13: a count of 0 at an earlier vertex, one of 3 in the first word, one of 0 after the end.
+    assert_eq!(changed(&|w| w[4] = 0x30000001), Some(refused(12, 4)));
+    assert_eq!(changed(&|w| w.insert(0, 0x30000C00)), Some(refused(12, 0)));
+    assert_eq!(changed(&|w| w.push(0x30000040)), Some(refused(12, 7)));
+    // First, in place of a row too; after a net; after the end.
+    assert_eq!([changed(&|w| w.insert(0, 0x30000400)), changed(&|w| w[0] = 0x30000400)], [Some(refused(13, 0)); 2]);
+    assert_eq!(changed(&|w| w.insert(6, 0x30000440)), Some(refused(13, 6)));
+    assert_eq!(changed(&|w| w.push(0x30000440)), Some(refused(13, 7)));
+    assert_eq!(changed(&|w| w.insert(5, 0x30000440)), None);
+    // A vertex twice; an earlier line, with the same column, a later one or an earlier one; an earlier column of the line.
+    assert_eq!([changed(&|w| w.insert(4, 0x30000401)), changed(&|w| w.insert(4, 0x30000801))], [Some(refused(13, 4)); 2]);
+    assert_eq!([changed(&|w| w.insert(5, 0x30000402)), changed(&|w| w.insert(5, 0x30000401))], [Some(refused(13, 5)); 2]);
+    assert_eq!(changed(&|w| { w[4] = 0x30000420; w.insert(5, 0x30000402) }), Some(refused(13, 5)));
+    assert_eq!(changed(&|w| w.insert(5, 0x30000420)), Some(refused(13, 5)));
+    assert_eq!(changed(&|w| w.swap(2, 3)), Some(refused(13, 3)));
+    // A later line with an earlier column is right.
+    assert_eq!(changed(&|w| w[4] = 0x30000440), None);
+    // A row after a taken word, be its left not below its right or its bits wrong.
+    assert_eq!([changed(&|w| w.insert(3, 0x10000001)), changed(&|w| w.swap(1, 2))], [Some(refused(13, 3)), Some(refused(13, 2))]);
+    assert_eq!([changed(&|w| w.insert(5, 0x10000021)), changed(&|w| w.insert(5, 0x10000040))], [Some(refused(13, 5)); 2]);
+    assert_eq!(changed(&|w| w.insert(5, 0x10000401)), Some(refused(12, 5)));
+    let rows = [0x10000001; 31];
+    let read_words = |words: &[&[u32]]| read(&bytes_of(&words.concat())).err();
+    assert_eq!(read_words(&[&rows, &[0x30000400, 0x10000001, 0xF0002000]]), Some(refused(13, 32)));
+    assert_eq!(read_words(&[&rows, &[0x10000001, 0x30000400, 0xF0002000]]), Some(refused(14, 31)));
+    assert_eq!(read_words(&[&rows, &[0x30000400, 0xF0001F00]]), None);
+    // The end word counts rows and nets alone.
+    assert_eq!([changed(&|w| w[6] = 0xF0000204), changed(&|w| w[6] = 0xF0000501)], [Some(refused(15, 6)); 2]);
+}
+
+fn taken_too_many() {
+    let changed = taken_changed;
+    // No vertex: below a short row, right of the board, far away. A concave corner, one pin or two. Two on a straight side.
+    for word in [0x30000442, 0x30000423, 0x300007FF, 0x30000421, 0x30000821] {
+        assert_eq!(changed(&|w| w[4] = word), Some(refused(38, 4)));
+    }
+    assert_eq!(changed(&|w| w[3] = 0x30000801), Some(refused(38, 3)));
+    // Inside.
+    let square = |word: u32| read(&bytes_of(&[0x10000002, 0x10000002, word, 0xF0000200])).err();
+    assert_eq!([square(0x30000421), square(0x30000821), square(0x30000801)], [Some(refused(38, 2)); 3]);
+    assert_eq!([square(0x30000401), square(0x30000800), square(0x30000842)], [None; 3]);
+    // The first of two; before the nets, whatever is wrong with them.
+    assert_eq!(changed(&|w| (w[3], w[4]) = (0x30000801, 0x30000421)), Some(refused(38, 3)));
+    for net in [0x24108840, 0x20008840, 0x20108842, 0x20108822, 0x20100040] {
+        assert!(changed(&|w| w[5] = net).is_some_and(|refusal| refusal.number > 20 && refusal.number < 26));
+        assert_eq!(changed(&|w| (w[4], w[5]) = (0x30000442, net)), Some(refused(38, 4)));
+    }
+    // After all words, and after 16: boards f and g.
+    assert_eq!(changed(&|w| (w[4], w[6]) = (0x30000442, 0xF0000202)), Some(refused(15, 6)));
+    assert_eq!(changed(&|w| { w[4] = 0x30000442; w.truncate(6) }), Some(refused(13, 6)));
+    assert_eq!(changed(&|w| (w[2], w[4]) = (0x30000C00, 0x30000442)), Some(refused(12, 2)));
+    assert_eq!(changed(&|w| (w[2], w[4]) = (0x30000402, 0x30000C22)), Some(refused(13, 3)));
+    assert_eq!(read(&bytes_of(&[0x10000001, 0x10000022, 0x300007FF, 0xF0000200])).err(), Some(refused(16, 0)));
+    assert_eq!(read(&bytes_of(&[0x10000002, 0x10000001, 0x10000002, 0x300007FF, 0xF0000300])).err(), Some(refused(16, 0)));
+}
+
+/// Nets where pins are taken.
+fn taken_and_nets() {
+    let changed = taken_changed;
+    // First and second terminal at (0,0), and at (0,1).
+    for net in [0x20100040, 0x20110000, 0x20100440, 0x20110001] {
+        assert_eq!(changed(&|w| w[5] = net), Some(refused(25, 5)));
+    }
+    // Without that taken word each of them is right.
+    assert_eq!([changed(&|w| { w[5] = 0x20100040; w.remove(2); }), changed(&|w| { w[5] = 0x20110001; w.remove(3); })], [None; 2]);
+    // A second net at (1,2), either way round; right where no pin is taken there. With both taken net 1 is refused.
+    for net in [0x20208840, 0x20210422] {
+        let second = |w: &mut Vec<u32>| { w[6] = 0xF0000202; w.insert(6, net); };
+        assert_eq!(changed(&second), Some(refused(25, 6)));
+        assert_eq!(changed(&|w| { second(w); w.remove(4); }), None);
+    }
+    assert_eq!(changed(&|w| w[4] = 0x30000822), Some(refused(25, 5)));
+    // Pins taken at every vertex as many as there are: with no nets a board that is read and routed.
+    let all = [0x30000800, 0x30000401, 0x30000802, 0x30000420, 0x30000822, 0x30000840, 0x30000841];
+    let words = [&TAKEN[..2], &all, &[0xF0000200]].concat();
+    let board = read(&bytes_of(&words)).unwrap();
+    assert!(board.words() == words && free_pins(&board).is_empty() && route_refused(&board, 8196).is_none());
+    assert_eq!(board.odd_vertices(), [(0, 1), (1, 0)]);
+    // 14 odd vertices, with pins taken at the first of them.
+    let wide = read(&bytes_of(&[0x10000008, 0x30000401, 0xF0000100])).unwrap();
+    assert_eq!(route_refused(&wide, 8196), Some(Refusal { number: 32, place: [0, 1] }));
+}
+
+/// Boards made for a refusal, or for none. Answers with how many.
+fn boards_made_for_taken_pins() -> usize {
+    let each = 40;
+    for (kind, name) in TAKEN_KINDS.iter().enumerate() {
+        for case in 0..each {
+            let (bytes, due) = taken_bytes(&mut Random::of_case(7, 'z', 1_000 * kind as u64 + case), kind);
+            assert_eq!(read(&bytes).err(), due, "{name}");
+        }
+    }
+    TAKEN_KINDS.len() * each as usize
+}
+
+/// Boards with taken pins are written and read, and have the answers of the boards without: whether paths exist, and what routing owes. A net more
+/// is accepted exactly where each end has a pin that is neither taken nor used. Answers with how many boards.
+fn boards_with_taken_pins() -> usize {
+    let (mut boards, mut refused) = (0, 0);
+    for case in 0..6_000 {
+        let mut random = Random::of_case(7, 'x', case);
+        let size = random.pick(&[2, 4, 8]);
+        let board = true_board(&mut random, (size, size));
+        if board.taken.is_empty() {
+            continue;
+        }
+        let (bytes, bare) = (bytes_of(&board.words()), Board { taken: BTreeMap::new(), ..board.clone() });
+        assert_eq!(read(&bytes).as_ref(), Ok(&board));
+        assert_eq!(read(&without_taken(&bytes)).as_ref(), Ok(&bare));
+        assert_eq!(route_refused(&board, 8196), route_refused(&bare, 8196));
+        let vertices = board.vertices();
+        let (first, second) = (random.pick(&vertices), random.pick(&vertices));
+        let net = Net { number: 64, first, second };
+        if first != second && board.nets.iter().all(|net| net.number != 64) {
+            // Edges, terminals and taken pins together are four at most.
+            let at = |v: Vertex| board.degree(v) + board.terminals(v) + board.taken.get(&v).unwrap_or(&0);
+            assert_eq!(board.add_refused(&net).is_none(), at(first) < 4 && at(second) < 4);
+            refused += (board.add_refused(&net) != bare.add_refused(&net)) as usize;
+        }
+        boards += 1;
+    }
+    assert!(boards > 1_500 && refused > 100, "{boards} {refused}");
+    boards
 }
 
 // ---------------------------------------------------------------- pages
@@ -484,6 +652,12 @@ fn printed_by_hand() {
     assert_eq!(print(&[&ring[..20], &[0, 0, 0, 0xF0], &routed]), "refused 15 5\n");
     assert_eq!(print(&[&ring, &routed[..35]]), "refused 10 0\n");
     assert_eq!(print(&[&ring[..22]]), "refused 10 0\n");
+    // Taken words belong to the board and do not show on the page.
+    let (board, list) = (bytes_of(&TAKEN), bytes_of(&[0x40100002, 0x5C000002, 0x58000001, 0xE0000001]));
+    let page = text(&["+ + +", "", "+-+-+", "|", "+ +"]);
+    assert_eq!([print(&[&board, &list]), print(&[&without_taken(&board), &list])], [page.clone(), page]);
+    assert_eq!(print(&[&board[..12], &bytes_of(&[0x30000801]), &board[16..], &list]), "refused 38 3\n");
+    assert_eq!(print(&[&board, &bytes_of(&[0x30000800]), &list]), "refused 42 0\n");
     // No more bytes are read than the most; with all of them the list would be uneven.
     assert_eq!(print(&[&ring, &vec![0; LONGEST - ring.len() + 1]]), "refused 41 0\n");
     assert_eq!(print(&[&ring, &vec![0; LONGEST - ring.len() - 1]]), "refused 10 0\n");
@@ -609,10 +783,11 @@ fn odd_boards() -> usize {
         let rows = if random.one_in(2) { convex_rows(&mut random, size, size) } else { stepped_rows(&mut random, size, size) };
         let (count, care) = (random.pick(&[0, 2, 4, 6, 8]), random.pick(&[Care::None, Care::Mended, Care::Filled]));
         let nets = odd_nets(&mut random, &rows, count, care);
-        let board = Board { rows, nets };
+        let mut board = Board { nets, ..Board::bare(&rows) };
+        take_pins(&mut random, &mut board);
         assert!(board.convex() && read(&bytes_of(&board.words())).as_ref() == Ok(&board));
         let odd = board.odd_vertices().len();
-        assert!(odd == count || odd < count && board.vertices().iter().filter(|&&v| board.pins(v) > 0).count() < count + 2);
+        assert!(odd == count || odd < count && board.vertices().iter().filter(|&&v| board.all_pins(v) > 0).count() < count + 2);
         assert_eq!(board.parity_demands(), demands_by_odd_vertices(&board));
         assert_eq!(board.paths_exist(), paths_by_trying(&board));
         let (holds, exist) = (board.revised_cuts_hold(), board.paths_exist());
@@ -663,6 +838,11 @@ fn main() {
     turns_of_two_nets();
     let (lists, twice) = reports_on_trails();
     refusals();
+    pins_left();
+    taken_ill_made_or_out_of_order();
+    taken_too_many();
+    taken_and_nets();
+    let (made, taken) = (boards_made_for_taken_pins(), boards_with_taken_pins());
     pairs();
     refusals_of_pairs();
     pages_by_hand();
@@ -676,7 +856,8 @@ fn main() {
     revised_cuts();
     let odd = odd_boards();
     let boards = convexity();
-    println!("self test: the ring, boards a to i, the refusals, pairs of routings; reports by hand and on {lists} lists, {twice} of them");
+    println!("self test: the ring, boards a to i, the refusals, taken pins by hand, on {made} boards made for an answer and on {taken} others,");
+    println!("pairs of routings; reports by hand and on {lists} lists, {twice} of them");
     println!("with a vertex where one net turns twice; pages by hand and {pages} drawn two ways; odd vertices, pairings and the revised cut test");
     println!("by hand and on {odd} boards; convexity on {boards} boards three ways: passed");
 }

@@ -4,7 +4,8 @@
 //!     sessions SEED s CASE     one case again
 //!
 //! The call paths asks for a routing. Which one is handed back is left open, so its words are judged for the nets that the calls before leave,
-//! returns to nets kept under a name among them. After the calls the nets, the pile and what each name holds are compared.
+//! returns to nets kept under a name among them. After the calls the nets, the pile and what each name holds are compared. Rows and taken pins come
+//! in any order, and each of them starts the session afresh.
 //! The first difference ends the run with status 1 and prints seed, case, the text and both outputs. So does a run whose texts reach too little.
 //! With SESSIONS_COUNTS set in the environment, all that was reached is printed with its count.
 
@@ -19,7 +20,7 @@ use std::collections::{BTreeMap, VecDeque};
 use std::time::Instant;
 
 const PROGRAM: &str = "target/bin/replay";
-const CASES: u64 = 3_000;
+const CASES: u64 = 3_500;
 /// The longest text that the program reads.
 const MOST_BYTES: usize = 65_536;
 /// The most changes on a pile.
@@ -51,8 +52,9 @@ struct Machine {
     board: Board,
     pile: VecDeque<Change>,
     names: [Option<Vec<Net>>; NAMES],
-    /// What makes the board unsound, once it was looked for.
+    /// What makes the board unsound, once it was looked for, and whether it was taken pins when last looked for.
     flaw: Option<Option<&'static str>>,
+    wrongly_taken: bool,
     /// How many changes full piles have lost.
     lost: u64,
     output: String,
@@ -62,13 +64,16 @@ struct Machine {
     past: Past,
 }
 
-/// What the counts go by besides the session: the last return since the last row, the names returned to since they were kept, and the names
-/// that lost their nets to a row.
+/// What the counts go by besides the session: the last return since the session was started afresh, the names returned to since they were kept,
+/// and the names that lost their nets to a row or to taken pins, by the word that did it. Besides, whether there were taken pins on a sound board,
+/// and a net that was refused by 25 for them alone.
 #[derive(Clone, Default)]
 struct Past {
     returned: Option<Returned>,
     returned_to: [bool; NAMES],
-    forgotten: [bool; NAMES],
+    forgotten: [Option<&'static str>; NAMES],
+    taken: bool,
+    refused_for_taken: bool,
 }
 
 /// What a return did.
@@ -84,8 +89,9 @@ struct Returned {
     calls: u64,
 }
 
-/// What keeps a session on these rows from being sound.
-fn flaw(rows: &[(usize, usize)]) -> Option<&'static str> {
+/// What keeps a session on this board from being sound.
+fn flaw(board: &Board) -> Option<&'static str> {
+    let rows = &board.rows;
     if rows.is_empty() {
         return Some("no rows");
     }
@@ -99,11 +105,18 @@ fn flaw(rows: &[(usize, usize)]) -> Option<&'static str> {
     if rows.iter().any(|row| row.0 >= row.1 || row.1 > 31) {
         return Some("a row out of bounds");
     }
-    if !Board::bare(rows).convex() {
+    if !board.convex() {
         return Some("not convex");
     }
-    None
+    let wrong = board.taken.iter().find(|(&v, &count)| !board.can_take(v, count));
+    wrong.map(|(&v, _)| match board.all_pins(v) {
+        _ if !board.vertex(v) => TAKEN_FLAWS[0],
+        0 => TAKEN_FLAWS[1],
+        _ => TAKEN_FLAWS[2],
+    })
 }
+
+const TAKEN_FLAWS: [&str; 3] = ["pins taken at no vertex", "pins taken where there are none", "more pins taken than there are"];
 
 /// The refusal that an add of this net gets on a sound session: the table's lines in their order, at each the first terminal before the second.
 fn add_refused(board: &Board, net: &Net) -> Option<Refused> {
@@ -144,6 +157,7 @@ impl Machine {
             pile: VecDeque::new(),
             names: Default::default(),
             flaw: None,
+            wrongly_taken: false,
             lost: 0,
             output: String::new(),
             routed: Vec::new(),
@@ -154,11 +168,27 @@ impl Machine {
 
     /// A row more; the session starts afresh.
     fn row(&mut self, left: usize, right: usize) {
-        if !self.pile.is_empty() {
-            self.count("a row dropped a session with changes");
-        }
-        self.count_forgotten();
         self.board.rows.push((left, right));
+        self.afresh("row");
+    }
+
+    /// So many pins of a vertex are taken, in place of what was said of it before; the session starts afresh. A vertex beyond line or column 31 is
+    /// passed over.
+    fn taken(&mut self, v: Vertex, count: usize) {
+        self.count_taken(v, count);
+        if v.0 <= 31 && v.1 <= 31 {
+            self.board.taken.insert(v, count);
+            self.board.taken.retain(|_, count| *count > 0);
+        }
+        self.afresh("taken");
+    }
+
+    /// No nets, an empty pile and nothing kept; rows and taken pins stay.
+    fn afresh(&mut self, word: &'static str) {
+        if !self.pile.is_empty() {
+            self.count(&format!("{word}: a session with changes dropped"));
+        }
+        self.count_forgotten(word);
         self.board.nets.clear();
         self.pile.clear();
         self.names = Default::default();
@@ -168,12 +198,13 @@ impl Machine {
     /// 20 where the session is not sound. From a fresh session on, calls keep nets, pile and names sound (see `lifts`), so the board decides.
     fn unsound(&mut self) -> Result<(), Refused> {
         if self.flaw.is_none() {
-            let found = flaw(&self.board.rows);
+            let found = flaw(&self.board);
             let rows = self.board.rows.len();
             self.count(&format!("session: {}", found.unwrap_or("sound")));
             if found.is_none() && (rows == 1 || rows == 31) {
                 self.count(&format!("session: sound, rows: {rows}"));
             }
+            self.count_sound_taken(found);
             self.flaw = Some(found);
         }
         match self.flaw {
@@ -256,7 +287,7 @@ impl Machine {
 
     /// The bare board with these nets added one by one, where each of them is accepted.
     fn with_all(&self, nets: &[Net]) -> Option<Board> {
-        let mut board = Board::bare(&self.board.rows);
+        let mut board = Board { nets: Vec::new(), ..self.board.clone() };
         for net in nets {
             if add_refused(&board, net).is_some() {
                 return None;
@@ -288,7 +319,7 @@ impl Machine {
 // ---------------------------------------------------------------- the text and its answers
 
 /// The words that tell a call.
-const CALLS: [&str; 8] = ["row", "add", "adds", "withdraw", "back", "paths", "keep", "return"];
+const CALLS: [&str; 9] = ["row", "add", "adds", "withdraw", "back", "paths", "keep", "return", "taken"];
 
 /// A word in decimal; above 249 it is read as 255.
 fn number(word: &str) -> usize {
@@ -323,13 +354,15 @@ impl Machine {
             return self.count_passed_over(call);
         }
         let numbers: Vec<usize> = words.map(number).collect();
-        if call != "row" {
+        if call != "row" && call != "taken" {
             self.count_call();
         }
         self.count_numbers(call, &numbers);
         let lost = self.lost;
+        let n = |i: usize| numbers.get(i).copied().unwrap_or(0);
         match call {
-            "row" => self.row(numbers.first().copied().unwrap_or(0), numbers.get(1).copied().unwrap_or(0)),
+            "row" => self.row(n(0), n(1)),
+            "taken" => self.taken((n(0), n(1)), n(2)),
             "adds" => self.list(&numbers),
             "paths" => self.paths(),
             _ => self.single(call, &numbers),
@@ -350,6 +383,9 @@ impl Machine {
             _ => self.take_back(),
         };
         self.count_result(call, result);
+        if call == "add" {
+            self.count_refused_for_taken(call, &net_of(numbers), result);
+        }
         self.output += &match result {
             Ok(()) => "accepted\n".to_string(),
             Err((number, place)) => format!("refused {number} {place}\n"),
@@ -384,6 +420,9 @@ impl Machine {
         let (count, result) = self.adds(&nets);
         self.count_result("adds", result);
         self.count_list(&nets, count, result);
+        if count < nets.len() {
+            self.count_refused_for_taken("adds", &nets[count], result);
+        }
         self.output += &match result {
             Ok(()) => format!("accepted {count}\n"),
             Err((number, place)) => format!("refused {number} {place} after {count}\n"),
@@ -413,6 +452,8 @@ impl Machine {
     fn finish(&mut self) {
         assert!(self.lifts(), "the machine's own session became unsound");
         self.count_held();
+        let (taken, refused) = (self.past.taken, self.past.refused_for_taken);
+        self.count_all(&[("text: pins taken, sound", taken), ("text: a net refused 25, accepted with no pins taken", refused)]);
         self.output += &nets_text(&self.board.nets);
         for change in self.pile.iter().rev() {
             self.output += &match change {
@@ -537,6 +578,9 @@ impl Machine {
         if word.starts_with("keep") || word.starts_with("return") {
             self.count("line passed over that begins as keep or return does");
         }
+        if word.starts_with("taken") {
+            self.count("line passed over that begins as taken does");
+        }
         self.count(match word {
             "" => "line without a word",
             _ if like_a_call => "line passed over that begins as a call does",
@@ -550,6 +594,7 @@ impl Machine {
         }
         let missing = match call {
             "row" => numbers.len() < 2,
+            "taken" => numbers.len() < 3,
             "add" => numbers.len() < 5,
             "adds" => numbers.len() % 5 > 0,
             "withdraw" | "keep" | "return" => numbers.is_empty(),
@@ -588,6 +633,63 @@ impl Machine {
         }
         if count == 64 {
             self.count("list: stopped at the 65th");
+        }
+    }
+}
+
+// ---------------------------------------------------------------- what was reached of taken pins
+
+impl Machine {
+    /// A line of taken pins, before it is followed.
+    fn count_taken(&mut self, v: Vertex, count: usize) {
+        let held = self.board.taken.get(&v).copied();
+        let reached = [
+            ("taken: beyond line 31", v.0 > 31),
+            ("taken: beyond column 31", v.1 > 31),
+            ("taken: beyond line or column 31, changes on the pile", (v.0 > 31 || v.1 > 31) && !self.pile.is_empty()),
+            ("taken: at line or column 31", v.0.max(v.1) == 31),
+            ("taken: before any row", self.board.rows.is_empty()),
+            ("taken: at no vertex so far", count > 0 && !self.board.vertex(v)),
+            ("taken: a count of 0", count == 0),
+            ("taken: a count of 0 in place of another", count == 0 && held.is_some()),
+            ("taken: a count in place of another", count > 0 && held.is_some_and(|held| held != count)),
+            ("taken: the same count again", held == Some(count)),
+            ("taken: at more than 128 vertices so far", self.board.taken.len() > 128),
+            ("taken: in the middle of a session", !self.board.nets.is_empty()),
+        ];
+        self.count_all(&reached);
+    }
+
+    /// What taken pins make of the board: `found` is its flaw.
+    fn count_sound_taken(&mut self, found: Option<&'static str>) {
+        let sound = found.is_none() && !self.board.taken.is_empty();
+        let reached = [
+            ("session: sound, pins taken", sound),
+            ("session: sound, pins taken at 30 vertices or more", sound && self.board.taken.len() >= 30),
+            ("session: sound since taken pins were told again", found.is_none() && self.wrongly_taken),
+        ];
+        self.count_all(&reached);
+        self.past.taken |= sound;
+        self.wrongly_taken = found.is_some_and(|found| TAKEN_FLAWS.contains(&found));
+    }
+
+    /// An add that was refused, by itself or in a list, and how it would be with no pins taken.
+    fn count_refused_for_taken(&mut self, call: &str, net: &Net, result: Result<(), Refused>) {
+        let Err((25, place)) = result else { return };
+        if self.board.taken.is_empty() {
+            return;
+        }
+        match add_refused(&Board { taken: BTreeMap::new(), ..self.board.clone() }, net) {
+            None => {
+                self.past.refused_for_taken = true;
+                self.count_since(&format!("{call} refused 25 at {place}, accepted with no pins taken"));
+                let end = if place == 0 { net.first } else { net.second };
+                if self.board.terminals(end) > 0 {
+                    self.count(&format!("{call} refused 25 at {place}, one pin taken and one used"));
+                }
+            }
+            Some(other) if other != (25, place) => self.count(&format!("{call} refused 25 at {place}, at 1 with no pins taken")),
+            _ => {}
         }
     }
 }
@@ -652,8 +754,8 @@ impl Machine {
         if number != 20 && !self.pile.is_empty() {
             self.count(&format!("{call} refused {number} at 0, changes on the pile"));
         }
-        if number == 36 && self.past.forgotten[name] {
-            self.count("return refused 36 at 0, kept before a row");
+        if let Some(word) = self.past.forgotten.get(name).copied().flatten().filter(|_| number == 36) {
+            self.count(&format!("return refused 36 at 0, kept before {word}"));
         }
     }
 
@@ -672,13 +774,14 @@ impl Machine {
         self.count_all(&reached);
     }
 
-    /// A row makes the session forget its names.
-    fn count_forgotten(&mut self) {
+    /// A row or taken pins make the session forget its names.
+    fn count_forgotten(&mut self, word: &'static str) {
         if self.names.iter().any(Option::is_some) {
-            self.count("a row dropped what names held");
+            self.count(&format!("{word}: what names held dropped"));
         }
-        let forgotten = std::array::from_fn(|name| self.past.forgotten[name] || self.names[name].is_some());
-        self.past = Past { forgotten, ..Past::default() };
+        let forgotten = std::array::from_fn(|name| self.names[name].as_ref().map(|_| word).or(self.past.forgotten[name]));
+        let Past { taken, refused_for_taken, .. } = self.past;
+        self.past = Past { forgotten, taken, refused_for_taken, ..Past::default() };
     }
 
     /// What the names hold at the end.
@@ -698,7 +801,7 @@ impl Machine {
 // ---------------------------------------------------------------- what has to be reached
 
 /// What has to be reached in a whole run, and how often at least. Each bound is two thirds or less of what each of the seeds 1985, 1 to 5 reaches.
-const FLOORS: [(&str, u64); 144] = [
+const FLOORS: [(&str, u64); 184] = [
     ("call", 150_000),
     ("add accepted", 20_000),
     ("add refused 20 at 0", 2_000),
@@ -729,7 +832,7 @@ const FLOORS: [(&str, u64); 144] = [
     ("add: a pile of 64 lost changes", 4_000),
     ("adds: a number above 249", 500),
     ("adds: a number missing", 350),
-    ("adds: a pile of 64 lost changes", 1_500),
+    ("adds: a pile of 64 lost changes", 1_300),
     ("withdraw: a number above 249", 1_000),
     ("withdraw: a number missing", 650),
     ("withdraw: a pile of 64 lost changes", 10_000),
@@ -758,10 +861,10 @@ const FLOORS: [(&str, u64); 144] = [
     ("session: sound, rows: 31", 200),
     ("row: a number above 249", 15),
     ("row: a number missing", 10),
-    ("a row dropped a session with changes", 100),
+    ("row: a session with changes dropped", 100),
     ("paths refused 20", 750),
     ("paths refused 32", 2_600),
-    ("paths refused 33", 5_700),
+    ("paths refused 33", 4_900),
     ("paths refused 34", 38),
     ("paths: a routing", 2_200),
     ("paths: a routing, 16 nets or more", 70),
@@ -796,12 +899,12 @@ const FLOORS: [(&str, u64); 144] = [
     ("return refused 35 at 0, the number 8", 85),
     ("return refused 36 at 0", 1_100),
     ("return refused 36 at 0, changes on the pile", 700),
-    ("return refused 36 at 0, kept before a row", 45),
-    ("return: 64 changes dropped", 45),
+    ("return refused 36 at 0, kept before row", 38),
+    ("return: 64 changes dropped", 40),
     ("return: 64 nets", 40),
     ("return: a number above 249", 55),
     ("return: a number missing", 150),
-    ("return: a number with other terminals", 450),
+    ("return: a number with other terminals", 440),
     ("return: changes dropped", 1_800),
     ("return: fewer nets than before", 1_200),
     ("return: more nets than before", 550),
@@ -812,37 +915,77 @@ const FLOORS: [(&str, u64); 144] = [
     ("return: right after a return", 200),
     ("return: the name 7", 300),
     ("return: to a name returned to before", 1_200),
-    ("add accepted, since a return", 9_000),
-    ("add refused 22 at 0, since a return", 750),
-    ("add refused 25 at 0, since a return", 1_900),
+    ("add accepted, since a return", 8_600),
+    ("add refused 22 at 0, since a return", 690),
+    ("add refused 25 at 0, since a return", 1_400),
     ("add refused 25 at 1, since a return", 250),
     ("add: a pile of 64 lost changes, since a return", 700),
-    ("adds accepted, since a return", 2_500),
-    ("adds refused 22 at 0, since a return", 1_300),
-    ("adds refused 25 at 0, since a return", 1_100),
+    ("adds accepted, since a return", 2_400),
+    ("adds refused 22 at 0, since a return", 1_200),
+    ("adds refused 25 at 0, since a return", 990),
     ("adds refused 25 at 1, since a return", 500),
-    ("adds: a pile of 64 lost changes, since a return", 200),
-    ("withdraw accepted, since a return", 13_500),
+    ("adds: a pile of 64 lost changes, since a return", 190),
+    ("withdraw accepted, since a return", 12_500),
     ("withdraw refused 26 at 0, since a return", 4_400),
-    ("withdraw: a pile of 64 lost changes, since a return", 1_200),
-    ("back accepted, since a return", 8_500),
+    ("withdraw: a pile of 64 lost changes, since a return", 1_100),
+    ("back accepted, since a return", 7_900),
     ("back refused 27 right after a return", 1_100),
-    ("back refused 27 right after a return that dropped 64 changes", 20),
+    ("back refused 27 right after a return that dropped 64 changes", 18),
     ("back refused 27 right after a return that dropped changes", 850),
     ("paths refused 32, since a return", 1_100),
-    ("paths refused 33, since a return", 2_300),
-    ("paths refused 34, since a return", 20),
+    ("paths refused 33, since a return", 1_600),
+    ("paths refused 34, since a return", 19),
     ("paths: a routing of nets that came back", 150),
     ("paths: a routing of nets that came back for others", 100),
     ("paths: a routing, changes since a return", 650),
     ("paths: a routing, since a return", 1_000),
-    ("paths: refused for nets that came back for others", 600),
-    ("a row dropped what names held", 85),
+    ("paths: refused for nets that came back for others", 530),
+    ("row: what names held dropped", 85),
     ("end: all eight names held", 70),
-    ("end: names held, changes on the pile", 600),
+    ("end: names held, changes on the pile", 590),
     ("end: names held, since a return", 500),
-    ("end: nets kept", 600),
+    ("end: nets kept", 580),
     ("end: no nets kept under a name", 250),
+    ("text: a net refused 25, accepted with no pins taken", 560),
+    ("text: pins taken, sound", 860),
+    ("session: more pins taken than there are", 90),
+    ("session: pins taken at no vertex", 110),
+    ("session: pins taken where there are none", 100),
+    ("session: sound since taken pins were told again", 95),
+    ("session: sound, pins taken", 1_400),
+    ("session: sound, pins taken at 30 vertices or more", 65),
+    ("taken: a count in place of another", 150),
+    ("taken: a count of 0", 1_500),
+    ("taken: a count of 0 in place of another", 630),
+    ("taken: a number above 249", 170),
+    ("taken: a number missing", 220),
+    ("taken: a session with changes dropped", 680),
+    ("taken: at line or column 31", 700),
+    ("taken: at more than 128 vertices so far", 9_000),
+    ("taken: at no vertex so far", 4_300),
+    ("taken: before any row", 3_400),
+    ("taken: beyond column 31", 230),
+    ("taken: beyond line 31", 250),
+    ("taken: beyond line or column 31, changes on the pile", 40),
+    ("taken: in the middle of a session", 650),
+    ("taken: the same count again", 95),
+    ("taken: what names held dropped", 260),
+    ("add refused 25 at 0, accepted with no pins taken", 680),
+    ("add refused 25 at 0, accepted with no pins taken, since a return", 170),
+    ("add refused 25 at 0, at 1 with no pins taken", 130),
+    ("add refused 25 at 0, one pin taken and one used", 370),
+    ("add refused 25 at 1, accepted with no pins taken", 690),
+    ("add refused 25 at 1, accepted with no pins taken, since a return", 200),
+    ("add refused 25 at 1, one pin taken and one used", 410),
+    ("adds refused 25 at 0, accepted with no pins taken", 480),
+    ("adds refused 25 at 0, accepted with no pins taken, since a return", 150),
+    ("adds refused 25 at 0, at 1 with no pins taken", 60),
+    ("adds refused 25 at 0, one pin taken and one used", 100),
+    ("adds refused 25 at 1, accepted with no pins taken", 420),
+    ("adds refused 25 at 1, accepted with no pins taken, since a return", 120),
+    ("adds refused 25 at 1, one pin taken and one used", 85),
+    ("line passed over that begins as taken does", 880),
+    ("return refused 36 at 0, kept before taken", 120),
 ];
 
 fn too_little(counts: &Counts) -> Vec<String> {
@@ -950,11 +1093,11 @@ const LARGE: [&str; 16] = [
 const NO_NAMES: [usize; 12] = [8, 8, 8, 9, 10, 15, 16, 64, 128, 249, 255, 255];
 
 /// Lines that are passed over, whatever numbers follow.
-const PASSED_OVER: [&str; 54] = [
+const PASSED_OVER: [&str; 64] = [
     "", "", "#", "a", "ad", "addsx", "addx", "adds1", "add1", "added", "addadd", "addss", "Add", "ADDS", "xadd", "r", "ro", "rows", "row0", "Row",
     "b", "bac", "backs", "back1", "Back", "backback", "w", "withdra", "withdraws", "withdrawn", "net", "path", "Paths", "pathss", "accepted", "7",
     "k", "kee", "keeps", "keep8", "keep0", "keepkeep", "Keep", "kept", "re", "ret", "retur", "returns", "return1", "returned", "returnrow",
-    "rowreturn", "Return", "RETURN",
+    "rowreturn", "Return", "RETURN", "t", "take", "takens", "taken0", "taken1", "takentaken", "takenrow", "takenx", "Taken", "TAKEN",
 ];
 
 /// Writes a text line by line. Its own machine tells what would be right or wrong next.
@@ -963,9 +1106,11 @@ struct Writer {
     machine: Machine,
     text: String,
     calls: usize,
-    /// The board's vertices with a pin, in reading order and each as often as it has pins, and those without.
+    /// The board's vertices with a pin that is not taken, in reading order and each as often as it has such, and those without; of the last those
+    /// whose pins are all taken.
     pins: Vec<Vertex>,
     inner: Vec<Vertex>,
+    spent: Vec<Vertex>,
     /// Net numbers up to this one come first.
     low: usize,
 }
@@ -973,7 +1118,8 @@ struct Writer {
 impl Writer {
     fn new(mut random: Random) -> Writer {
         let low = random.pick(&[4, 12, 64]);
-        Writer { random, machine: Machine::new(), text: String::new(), calls: 0, pins: Vec::new(), inner: Vec::new(), low }
+        let (machine, text) = (Machine::new(), String::new());
+        Writer { random, machine, text, calls: 0, pins: Vec::new(), inner: Vec::new(), spent: Vec::new(), low }
     }
 
     /// Whether there is room for another line, however long.
@@ -1015,19 +1161,123 @@ impl Writer {
         number.to_string()
     }
 
-    /// More rows; looks up the pins of the board so far.
-    fn rows(&mut self, rows: &[(usize, usize)]) {
-        for &(left, right) in rows {
-            // A 0 at the end may be left out, for a number that is missing is 0.
-            let missing = if right > 0 || self.random.one_in(4) { 0 } else { 1 + (left == 0) as usize };
-            let numbers = [self.numeral(left), self.numeral(right)];
-            self.line(&format!("row {}", numbers[..2 - missing].join(" ")));
+    /// More rows, with taken pins in between or none.
+    fn rows(&mut self, rows: &[(usize, usize)], taken: &[[usize; 3]]) {
+        // All taken pins before the rows, all after them, or anywhere.
+        let (from, to) = self.random.pick(&[(0, 0), (rows.len(), rows.len()), (rows.len(), rows.len()), (0, rows.len())]);
+        let mut places: Vec<usize> = taken.iter().map(|_| from + self.random.below(to - from + 1)).collect();
+        places.sort();
+        let many = taken.len() > 100;
+        let mut taken = places.into_iter().zip(taken).peekable();
+        for place in 0..=rows.len() {
+            while let Some((_, numbers)) = taken.next_if(|t| t.0 == place) {
+                // Of very many, none may go wrong.
+                match many {
+                    true => self.line(&format!("taken {} {} {}", numbers[0], numbers[1], numbers[2])),
+                    false => self.say("taken", numbers),
+                }
+            }
+            if let Some(&(left, right)) = rows.get(place) {
+                // A 0 at the end may be left out, for a number that is missing is 0.
+                let missing = if right > 0 || self.random.one_in(4) { 0 } else { 1 + (left == 0) as usize };
+                let numbers = [self.numeral(left), self.numeral(right)];
+                self.line(&format!("row {}", numbers[..2 - missing].join(" ")));
+            }
         }
-        let bare = Board::bare(&self.machine.board.rows);
-        let (pins, inner) = bare.vertices().into_iter().partition(|&v| bare.pins(v) > 0);
-        self.inner = inner;
-        let pins: Vec<Vertex> = pins;
+        self.look_up();
+    }
+
+    /// Looks up the pins of the board so far.
+    fn look_up(&mut self) {
+        let bare = Board { nets: Vec::new(), ..self.machine.board.clone() };
+        let (pins, inner): (Vec<Vertex>, Vec<Vertex>) = bare.vertices().into_iter().partition(|&v| bare.pins(v) > 0);
         self.pins = pins.into_iter().flat_map(|v| vec![v; bare.pins(v)]).collect();
+        self.spent = inner.iter().copied().filter(|&v| bare.all_pins(v) > 0).collect();
+        self.inner = inner;
+    }
+}
+
+// ---------------------------------------------------------------- taken pins, right and wrong
+
+impl Writer {
+    /// Numbers for lines of taken pins on these rows: right ones at some vertices, at times with others before them; seldom wrong ones among them.
+    fn some_taken(&mut self, rows: &[(usize, usize)]) -> Vec<[usize; 3]> {
+        let bare = Board::bare(rows);
+        let mut vertices: Vec<Vertex> = bare.vertices().into_iter().filter(|&v| v.0 <= 31 && bare.all_pins(v) > 0).collect();
+        self.random.shuffle(&mut vertices);
+        let most = self.random.pick(&[2, 5, 12, 40, 128]);
+        vertices.truncate(1 + self.random.below(most));
+        let mut last: Vec<[usize; 3]> = Vec::new();
+        for v in vertices {
+            let count = self.random.pick(&[1, bare.all_pins(v)]);
+            last.push([v.0, v.1, count]);
+        }
+        let mut all = Vec::new();
+        let (others, many) = (self.random.one_in(3), self.random.one_in(20));
+        if others || many {
+            // What is said of a vertex last holds. At times there are more vertices than a board has pins.
+            let count = if many { 150 + self.random.below(150) } else { 1 + self.random.below(4) };
+            for _ in 0..count {
+                let other = if many { [self.random.below(32), self.random.below(32), 1] } else { self.any_taken(&bare) };
+                all.push(other);
+                if !last.iter().any(|l| l[..2] == other[..2]) {
+                    last.push([other[0], other[1], 0]);
+                }
+            }
+        }
+        all.extend(last);
+        if self.random.one_in(9) {
+            all.push(self.any_taken(&bare));
+        }
+        all
+    }
+
+    /// Numbers for a line of taken pins, right or wrong.
+    fn any_taken(&mut self, board: &Board) -> [usize; 3] {
+        let vertices = board.vertices();
+        let on = if vertices.is_empty() { (0, 0) } else { self.random.pick(&vertices) };
+        let far = self.random.pick(&[32, 32, 33, 63, 64, 128, 249, 255]);
+        let (line, column) = match self.random.below(9) {
+            0 => (far, on.1),
+            1 => (on.0, far),
+            2 => (self.random.below(32), self.random.below(32)),
+            3 => (on.0 + 1, on.1 + 1),
+            4 => self.random.pick(&[(31, on.1), (on.0, 31), (31, 31)]),
+            _ => on,
+        };
+        [line, column, self.random.pick(&[0, 1, 1, 1, 2, 2, 3, 4, 5, 249, 255])]
+    }
+
+    /// Lines of taken pins in the middle: the session starts afresh. A wrong one is mostly told again after a few calls.
+    fn say_taken(&mut self) {
+        let board = self.machine.board.clone();
+        let numbers = if self.random.below(3) > 0 { self.right_taken(&board) } else { self.any_taken(&board) };
+        self.say("taken", &numbers);
+        self.look_up();
+        if flaw(&board).is_none() && self.machine.unsound().is_err() && self.random.below(4) > 0 {
+            (0..self.random.below(4)).for_each(|_| self.say_change());
+            self.say_taken_again();
+        }
+    }
+
+    /// Numbers for a line of taken pins that is right, where there is one.
+    fn right_taken(&mut self, board: &Board) -> [usize; 3] {
+        let vertices: Vec<Vertex> = board.vertices().into_iter().filter(|&v| v.0 <= 31 && board.all_pins(v) > 0).collect();
+        if vertices.is_empty() {
+            return [0, 0, 0];
+        }
+        let v = self.random.pick(&vertices);
+        [v.0, v.1, self.random.below(board.all_pins(v) + 1)]
+    }
+
+    /// Every vertex with wrongly taken pins is told again, with as many as there are or none.
+    fn say_taken_again(&mut self) {
+        let board = self.machine.board.clone();
+        for (&v, _) in board.taken.iter().filter(|(&v, &count)| !board.can_take(v, count)) {
+            let count = if board.vertex(v) && self.random.one_in(2) { board.all_pins(v) } else { 0 };
+            self.line(&format!("taken {} {} {count}", v.0, v.1));
+        }
+        self.look_up();
     }
 }
 
@@ -1125,8 +1375,11 @@ impl Writer {
         }
     }
 
-    /// A vertex without pins or one where a net ends.
+    /// A vertex without pins, one whose pins are all taken, or one where a net ends.
     fn full_vertex(&mut self, board: &Board) -> Vertex {
+        if !self.spent.is_empty() && self.random.one_in(2) {
+            return self.random.pick(&self.spent);
+        }
         if !self.inner.is_empty() && (board.nets.is_empty() || self.random.one_in(2)) {
             return self.random.pick(&self.inner);
         }
@@ -1324,8 +1577,9 @@ impl Writer {
     fn mixture(&mut self, count: usize) {
         let weights: Vec<usize> = (0..4).map(|_| self.random.pick(&[1, 2, 4, 8])).collect();
         let kinds: Vec<usize> = (0..4).flat_map(|kind| vec![kind; weights[kind]]).collect();
-        // How seldom names are used; 0 for never.
+        // How seldom names are used, and how seldom pins are taken in the middle; 0 for never.
         let seldom = self.random.pick(&[0, 0, 0, 0, 0, 6, 15, 40]);
+        let seldom_taken = self.random.pick(&[0, 0, 0, 0, 0, 0, 0, 20, 60]);
         for _ in 0..count {
             if !self.room() {
                 return;
@@ -1335,6 +1589,9 @@ impl Writer {
             }
             if seldom > 0 && self.random.one_in(seldom) {
                 self.say_keep_or_return();
+            }
+            if seldom_taken > 0 && self.random.one_in(seldom_taken) {
+                self.say_taken();
             }
             if self.random.one_in(12) {
                 self.say_paths();
@@ -1468,7 +1725,7 @@ impl Writer {
         }
     }
 
-    /// Calls between rows: each row starts the session afresh.
+    /// Calls between rows and taken pins: each of them starts the session afresh.
     fn restarts(&mut self) {
         if self.random.one_in(2) {
             self.mixture(5);
@@ -1481,9 +1738,15 @@ impl Writer {
             if self.random.one_in(2) {
                 self.say("keep", &[name]);
             }
-            self.rows(&rows[from..to]);
+            self.rows(&rows[from..to], &[]);
             from = to;
             if self.random.one_in(2) {
+                self.say("return", &[name]);
+            }
+            if self.random.one_in(3) {
+                (0..self.random.below(6)).for_each(|_| self.say_change());
+                self.say("keep", &[name]);
+                self.say_taken();
                 self.say("return", &[name]);
             }
             let count = 5 + self.random.below(20);
@@ -1525,7 +1788,9 @@ fn text(random: Random) -> String {
         14 => Vec::new(),
         _ => shape(&mut writer.random),
     };
-    writer.rows(&rows);
+    // Few of the texts that are to have 64 nets get taken pins.
+    let taken = if writer.random.one_in(if kind == 10 || kind == 11 { 8 } else { 2 }) { writer.some_taken(&rows) } else { Vec::new() };
+    writer.rows(&rows, &taken);
     match kind {
         5 | 6 => {
             writer.trials(count / 2);
@@ -1680,6 +1945,70 @@ const NAMES_BY_HAND: [(&str, &str); 10] = [
     ),
 ];
 
+/// The same with taken pins.
+const TAKEN_BY_HAND: [(&str, &str); 13] = [
+    // The one pin of (0,1), for either terminal; given back, with nothing left of the session.
+    (
+        "row 0 2\ntaken 0 1 1\nadd 1 0 1 1 0\nadd 1 1 0 0 1\nadd 1 0 0 1 0\ntaken 0 1 0\nback\nadd 1 0 1 1 0\n",
+        "refused 25 0\nrefused 25 1\naccepted\nrefused 27 0\naccepted\nnet 1 0 1 1 0\nadded 1 0 1 1 0\n",
+    ),
+    // One of the two pins of (0,0): one net there, no second one, by itself or in a list; another once the first has left, and the first once more.
+    (
+        "row 0 1\ntaken 0 0 1\nadd 1 0 0 1 1\nadd 2 0 0 0 1\nadds 2 0 1 1 0 3 1 1 0 0\nwithdraw 1\nadd 4 1 0 0 0\nback\nback\nadd 4 0 0 1 0\n",
+        "accepted\nrefused 25 0\nrefused 25 1 after 1\naccepted\naccepted\naccepted\naccepted\nrefused 25 0\n\
+         net 1 0 0 1 1\nnet 2 0 1 1 0\nadded 2 0 1 1 0\nadded 1 0 0 1 1\n",
+    ),
+    // Both pins of (0,0).
+    ("row 0 1\ntaken 0 0 2\nadd 1 0 0 1 1\nadds 1 1 1 0 0\nadds\n", "refused 25 0\nrefused 25 1 after 0\naccepted 0\n"),
+    // Two taken of one: every call is refused, until one alone is taken.
+    (
+        "row 0 2\ntaken 0 1 2\nadd 1 0 0 1 1\nadds\nwithdraw 1\nback\nkeep 0\nreturn 9\npaths\ntaken 0 1 1\nback\npaths\n",
+        "refused 20 0\nrefused 20 0 after 0\nrefused 20 0\nrefused 20 0\nrefused 20 0\nrefused 20 0\nrefused 20 0\nrefused 27 0\n\
+         a routing of the nets on the board\n",
+    ),
+    // Rows and taken pins in any order: (1,0) has two pins below one row, one between two; (2,0) comes with the second row.
+    (
+        "taken 1 0 2\nback\nrow 0 1\nback\ntaken 2 0 1\nback\nrow 0 1\nback\ntaken 1 0 1\nback\nadd 1 1 0 0 1\nadd 1 2 0 0 1\nadd 2 0 0 2 0\n",
+        "refused 20 0\nrefused 27 0\nrefused 20 0\nrefused 20 0\nrefused 27 0\nrefused 25 0\naccepted\nrefused 25 1\nnet 1 2 0 0 1\n\
+         added 1 2 0 0 1\n",
+    ),
+    // Board h: the concave corner (1,1) has no pin to take, the outer corner (1,0) two. Inside a square there is none.
+    (
+        "row 1 2\nrow 0 3\nrow 1 2\ntaken 1 1 1\nback\ntaken 1 1 0\nback\ntaken 1 0 2\nadd 1 1 0 2 3\nadd 1 2 0 2 3\n",
+        "refused 20 0\nrefused 27 0\nrefused 25 0\naccepted\nnet 1 2 0 2 3\nadded 1 2 0 2 3\n",
+    ),
+    ("row 0 2\nrow 0 2\ntaken 1 1 1\nback\ntaken 1 1 0\nback\n", "refused 20 0\nrefused 27 0\n"),
+    // Nets, pile and names are forgotten, though the pins are those that were taken before.
+    (
+        "row 0 1\nadd 1 0 0 1 1\nkeep 4\ntaken 0 1 1\nreturn 4\nback\nwithdraw 1\nadd 1 0 1 1 0\nkeep 4\ntaken 0 1 1\nreturn 4\npaths\n",
+        "accepted\naccepted\nrefused 36 0\nrefused 27 0\nrefused 26 0\naccepted\naccepted\nrefused 36 0\na routing of the nets on the board\n",
+    ),
+    // A vertex beyond line or column 31 is passed over, but the session starts afresh; (31,31) is not beyond.
+    (
+        "row 0 1\nadd 1 0 0 1 1\ntaken 32 0 1\nback\nadd 1 0 0 1 1\ntaken 0 255 9\nback\ntaken 31 31 1\nback\ntaken 31 31\nback\n",
+        "accepted\nrefused 27 0\naccepted\nrefused 27 0\nrefused 20 0\nrefused 27 0\n",
+    ),
+    // Numbers missing and too large; only the whole word.
+    (
+        "row 0 1\ntaken\nback\ntaken 0 0 256\nback\ntaken 0 0 3\nback\ntaken 0 0 2\nback\nadd 1 0 0 1 1\ntaken 0\nadd 1 0 0 1 1\ntakens 0 0 2\n\
+         taken1 0 2\ntake 0 0 2\nTaken 0 0 2\nback\n",
+        "refused 27 0\nrefused 20 0\nrefused 20 0\nrefused 27 0\nrefused 25 0\naccepted\naccepted\n",
+    ),
+    // Nets that come back use the pin that is left.
+    (
+        "row 0 1\ntaken 0 0 1\nadd 1 0 0 1 1\nkeep 0\nwithdraw 1\nadd 2 1 0 0 0\nreturn 0\nadd 3 0 0 0 1\nwithdraw 1\nadd 3 0 0 0 1\nreturn 0\n",
+        "accepted\naccepted\naccepted\naccepted\naccepted\nrefused 25 0\naccepted\naccepted\naccepted\nnet 1 0 0 1 1\n\
+         kept 0 1\nnet 1 0 0 1 1\n",
+    ),
+    // Taken pins leave odd vertices and cuts as they are: two odd ones between full columns; 14.
+    (
+        "row 0 2\ntaken 0 1 1\ntaken 1 1 1\npaths\nadds 1 0 0 1 2 2 0 0 1 2\npaths\n",
+        "a routing of the nets on the board\naccepted 2\na routing of the nets on the board\nnet 1 0 0 1 2\nnet 2 0 0 1 2\n\
+         added 2 0 0 1 2\nadded 1 0 0 1 2\n",
+    ),
+    ("row 0 8\ntaken 0 1 1\ntaken 1 7 1\npaths\n", "refused 32 0 1\n"),
+];
+
 /// A net that comes and goes: of 65 changes the first is lost, and when 64 are taken back the net is there still.
 fn lost_by_hand() -> (String, String) {
     let comes_and_goes = "add 1 0 0 1 1\nwithdraw 1\n".repeat(32);
@@ -1705,7 +2034,7 @@ fn emptied_by_hand() -> (String, String) {
 
 /// The machine's answers, and the program's, to the texts above.
 fn by_hand() {
-    let texts = BY_HAND.iter().chain(&NAMES_BY_HAND);
+    let texts = BY_HAND.iter().chain(&NAMES_BY_HAND).chain(&TAKEN_BY_HAND);
     let mut all: Vec<(String, String)> = texts.map(|(text, answers)| (text.to_string(), answers.to_string())).collect();
     all.push(lost_by_hand());
     all.push(emptied_by_hand());
@@ -1772,6 +2101,11 @@ fn whole(seed: u64) {
         seen("list: whole"),
     );
     println!("{} keeps and {} returns,", seen("keep accepted"), seen("return accepted"));
+    println!(
+        "{} texts with taken pins, {} of them with a net refused for these alone,",
+        seen("text: pins taken, sound"),
+        seen("text: a net refused 25, accepted with no pins taken"),
+    );
     println!("{} routings and {} refused by 34; {time:.1} s; no difference", seen("paths: a routing"), seen("paths refused 34"));
 }
 

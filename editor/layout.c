@@ -13,8 +13,8 @@
  *   3  the routing does not pass the judge.
  * What belongs to 2 and 3 is told on standard error.
  *
- * In the picture "+" is a vertex and "o" one with terminals. An edge that a net uses shows the net's sign: 1 to 9, A to Z, a to z, then #, @ and &
- * for nets 1 to 64; an edge that no net uses is drawn thin. */
+ * In the picture "+" is a vertex, "o" one with terminals, "x" one with taken pins, "*" one with both. An edge that a net uses shows the net's sign:
+ * 1 to 9, A to Z, a to z, then #, @ and & for nets 1 to 64; an edge that no net uses is drawn thin. */
 #include <stdint.h>
 #include <stdio.h>
 #include <stdlib.h>
@@ -29,7 +29,7 @@ static const char signs[] = "?123456789ABCDEFGHIJKLMNOPQRSTUVWXYZabcdefghijklmno
 struct picture {
     char across[LINES][LINES]; /* the sign of the edge from a vertex to the right, '-' if it is unused, 0 if there is none */
     char down[LINES][LINES];   /* the same downwards, with '|' */
-    char vertex[LINES][LINES]; /* '+' or 'o', or 0 */
+    char vertex[LINES][LINES]; /* '+', 'o', 'x' or '*', or 0 */
 };
 
 static uint32_t word_at(const uint8_t *bytes, size_t index) {
@@ -48,6 +48,13 @@ static void draw_row(struct picture *p, int line, uint32_t word) {
     }
 }
 
+/* A terminal at a vertex. */
+static void draw_terminal(struct picture *p, int line, int column) {
+    char *v = &p->vertex[line][column];
+    *v = *v == 'x' || *v == '*' ? '*' : 'o';
+}
+
+/* Words of taken pins come before those of nets. */
 static void draw_board(struct picture *p, const uint8_t *board, size_t words) {
     int line = 0;
     for (size_t i = 0; i < words; i++) {
@@ -56,7 +63,11 @@ static void draw_board(struct picture *p, const uint8_t *board, size_t words) {
     }
     for (size_t i = 0; i < words; i++) {
         uint32_t w = word_at(board, i);
-        if (w >> 28 == 2) p->vertex[w >> 15 & 31][w >> 10 & 31] = p->vertex[w >> 5 & 31][w & 31] = 'o';
+        if (w >> 28 == 3) p->vertex[w >> 5 & 31][w & 31] = 'x';
+        if (w >> 28 == 2) {
+            draw_terminal(p, w >> 15 & 31, w >> 10 & 31);
+            draw_terminal(p, w >> 5 & 31, w & 31);
+        }
     }
 }
 

@@ -1,3 +1,8 @@
 pub mod Block
+pub mod Taken
 pub mod View
 pub mod Pins
+pub mod Promise
+pub mod ViewLaws
+pub mod There
+pub mod TakenLaws

@@ -1,24 +1,129 @@
-// A block: a board with what belongs to it besides its cells, and the pins that nets may use.
+// A block: a board with the pins that the package has taken, and the pins that nets may use.
 use board::Board;
 use board::Vertex;
+use numbers::wide;
 ghost use mathlib.Core.Path.{_≡_};
+ghost use Prim.Native.Nat.{_<_};
+ghost use Rattle.board.specs.View.{boardOf};
 ghost use Rattle.board_block.specs.Block.{pinsOf};
-ghost use Rattle.board_block.specs.View.{blockOf, plainOf};
+ghost use Rattle.board_block.specs.Taken.{comesBefore, overTaken, takenFine?};
+ghost use Rattle.board_block.specs.View.{vertexAt, blockOf, entryOf, thereAt, withTaken, plainOf};
+ghost use Rattle.board_block.specs.Promise.{TakesPins};
 
-pub struct Block {
-    pub board: Board,
+// So many pins of the vertex are taken.
+pub struct TakenPins {
+    pub vertex: Vertex,
+    pub count: u8,
 }
 
-// A board by itself.
+// How many pins are taken at each vertex, that of line l and column c at place l * 32 + c.
+pub struct Block {
+    pub board: Board,
+    pub taken: [u8; 1024],
+}
+
+// A board by itself, of which no pin is taken.
 pub fn plain(board: Board) -> Block
     ensures { λ r. ⌜ r ≡ plainOf board ⌝ }
 {
-    Block { board }
+    Block {
+        board,
+        taken: [0u8; 1024],
+    }
+}
+
+// How many pins of v are taken. Outside lines and columns 0 to 31 there are none.
+fn taken_at(pins: &[u8; 1024], v: Vertex) -> u8
+    ensures { λ r. ⌜ r ≡ entryOf (now (pins .entry)) v ⌝ }
+{
+    if v.line < 32 {
+        if v.column < 32 {
+            let at = wide(v.line) * 32 + wide(v.column);
+            return pins[at];
+        }
+    }
+    0
 }
 
 // The count of pins at v that nets may use.
 pub fn pins_of(b: Block, v: Vertex) -> u8
     ensures { λ r. ⌜ r ≡ pinsOf (blockOf b) v ⌝ }
 {
-    board_degree::pins_of(b.board, v)
+    let all = board_degree::pins_of(b.board, v);
+    let gone = taken_at(&b.taken, v);
+    if gone < all { all - gone } else { 0 }
+}
+
+// Does u come before v in reading order?
+pub fn comes_before(u: Vertex, v: Vertex) -> bool
+    ensures { λ r. ⌜ r ≡ comesBefore u v ⌝ }
+{
+    (u.line < v.line) | ((u.line == v.line) & (u.column < v.column))
+}
+
+// Is the vertex missing, or has it fewer pins than are taken?
+pub fn over_taken(b: Board, t: TakenPins) -> bool
+    ensures { λ r. ⌜ r ≡ overTaken (boardOf b) t ⌝ }
+{
+    let v = t.vertex;
+    !board::is_vertex(b, v) | (board_degree::pins_of(b, v) < t.count)
+}
+
+// Puts taken pins into the array, in place of what it had of the vertex; outside lines and columns 0 to 31 nothing is put.
+pub fn put_taken(t: TakenPins, pins: &mut [u8; 1024])
+    ensures { λ _. ⌜ now (pins .exit) ≡ withTaken (now (pins .entry)) t ⌝ }
+{
+    let v = t.vertex;
+    if v.line < 32 {
+        if v.column < 32 {
+            let at = wide(v.line) * 32 + wide(v.column);
+            pins[at] = t.count;
+        }
+    }
+}
+
+// The block with so many pins of a vertex taken, in place of what was taken of it; outside lines and columns 0 to 31 nothing is.
+pub fn with_taken(b: Block, t: TakenPins) -> Block
+    ensures { λ r. ⌜ TakesPins b t r ⌝ }
+{
+    let board = b.board;
+    let mut taken = b.taken;
+    put_taken(t, &mut taken);
+    Block { board, taken }
+}
+
+// The vertex of a place.
+pub fn vertex_at(place: usize) -> Vertex
+    requires { ⌜ place < 1024 ⌝ }
+    ensures { λ r. ⌜ r ≡ vertexAt place ⌝ }
+{
+    Vertex {
+        line: (place / 32) as u8,
+        column: (place % 32) as u8,
+    }
+}
+
+// Are so many pins of the vertex of a place there to be taken? Where none are taken, yes.
+fn is_there(b: Board, place: usize, count: u8) -> bool
+    requires { ⌜ place < 1024 ⌝ }
+    ensures { λ r. ⌜ r ≡ thereAt (boardOf b) (vertexAt place) count ⌝ }
+{
+    if count == 0 {
+        return true;
+    }
+    let vertex = vertex_at(place);
+    (count <= 2) & !over_taken(b, TakenPins { vertex, count })
+}
+
+// Are the taken pins there: one or two of a vertex that has as many?
+pub fn is_fine(b: Block) -> bool
+    ensures { λ r. ⌜ r ≡ takenFine? (blockOf b) ⌝ }
+{
+    let board = b.board;
+    let pins = b.taken;
+    let mut ok = true;
+    for i in 0..1024 {
+        ok = ok & is_there(board, i, pins[i]);
+    }
+    ok
 }

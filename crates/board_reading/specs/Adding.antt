@@ -27,6 +27,7 @@ addedNet (some r) n ps = record { number = r .number; nets = ps }
 
 unfoldable pub addedWord : Block → List Place → BoardWord → Added
 addedWord b ps (word.Net n) = addedNet (addRefused b (netsOf ps) n) n ps
+addedWord b ps (word.Taken p) = record { number = 0; nets = ps }
 addedWord b ps (word.Row r) = record { number = 0; nets = ps }
 addedWord b ps (word.End c) = record { number = 0; nets = ps }
 addedWord b ps word.Unknown = record { number = 0; nets = ps }

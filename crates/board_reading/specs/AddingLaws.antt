@@ -97,6 +97,7 @@ module _ (b : Block) (ps : List Place) (size : length ps ≡ 64) (i : ℕ) (ls :
   unfolding addedWord
   word-added (word.Net n) z = list-added n (addRefused b (netsOf ps) n) refl z
   word-added (word.Row r) z = refl
+  word-added (word.Taken p) z = refl
   word-added (word.End c) z = refl
   word-added word.Unknown z = refl
 
@@ -104,6 +105,7 @@ module _ (b : Block) (ps : List Place) (size : length ps ≡ 64) (i : ℕ) (ls :
   unfolding addedWord
   word-refused (word.Net n) k z = list-refused n (addRefused b (netsOf ps) n) k refl z
   word-refused (word.Row r) k z = absurd (omega arith)
+  word-refused (word.Taken p) k z = absurd (omega arith)
   word-refused (word.End c) k z = absurd (omega arith)
   word-refused word.Unknown k z = absurd (omega arith)
 
@@ -120,6 +122,7 @@ pub word-size : (b : Block) (ps : List Place) (w : BoardWord) → length (addedW
 unfolding addedWord
 word-size b ps (word.Net n) = net-size (addRefused b (netsOf ps) n) n ps
 word-size b ps (word.Row r) = refl
+word-size b ps (word.Taken p) = refl
 word-size b ps (word.End c) = refl
 word-size b ps word.Unknown = refl
 

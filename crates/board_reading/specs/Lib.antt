@@ -2,6 +2,8 @@ pub mod Value
 pub mod ValueLaws
 pub mod Listed
 pub mod ListedLaws
+pub mod Pins
+pub mod PinsLaws
 pub mod Adding
 pub mod AddingLaws
 pub mod Promise

@@ -10,6 +10,7 @@ use Rattle.call_rules.specs.Reading.{Listed}
 -- a net word's net at index i, before the others
 abbrev pub listThen : ℕ → BoardWord → List Listed → List Listed
 listThen i (word.Row r) ls = ls
+listThen i (word.Taken p) ls = ls
 listThen i (word.Net n) ls = record { index = i; net = n } ∷ ls
 listThen i (word.End c) ls = ls
 listThen i word.Unknown ls = ls

@@ -14,7 +14,7 @@ use Rattle.words.specs.declared.BoardWord.{BoardWord}
 use Rattle.words.specs.declared.BoardWord.the-variants as word
 use Rattle.call_rules.specs.Result.{yes}
 use Rattle.call_rules.specs.Results.{passed, yes-same}
-use Rattle.call_rules.specs.Reading.{Listed, Taken, wordLines, take, takeWords, reverse}
+use Rattle.call_rules.specs.Reading.{Listed, Parsed, wordLines, take, takeWords, reverse}
 use Rattle.board_reading.specs.Listed.{listThen, listed}
 
 pub listed-more : (ws : List ℕ) (i : ℕ) → i < length ws
@@ -32,8 +32,9 @@ reverse-append [] ys = refl
 reverse-append (x ∷ xs) ys =
     reverse-append xs (x ∷ ys) ∙ sym (ap (λ (l : List Listed). l ++ ys) (reverse-append xs (x ∷ [])) ∙ append-assoc (reverse xs []) (x ∷ []) ys)
 
-take-nets : (i : ℕ) (t : Taken) (w : BoardWord) (ls : List Listed) → reverse (take i t w .nets) [] ++ ls ≡ reverse (t .nets) [] ++ listThen i w ls
+take-nets : (i : ℕ) (t : Parsed) (w : BoardWord) (ls : List Listed) → reverse (take i t w .nets) [] ++ ls ≡ reverse (t .nets) [] ++ listThen i w ls
 take-nets i t (word.Row r) ls = refl
+take-nets i t (word.Taken p) ls = refl
 take-nets i t (word.Net n) ls =
     ap (λ (l : List Listed). l ++ ls) (reverse-append (t .nets) (record { index = i; net = n } ∷ []))
     ∙ append-assoc (reverse (t .nets) []) (record { index = i; net = n } ∷ []) ls
@@ -44,7 +45,7 @@ append-none : (xs : List Listed) → xs ++ [] ≡ xs
 append-none [] = refl
 append-none (x ∷ xs) = ap (λ (l : List Listed). x ∷ l) (append-none xs)
 
-pub taken-nets : (ws : List ℕ) (i : ℕ) (t u : Taken) → takeWords i t ws ≡ yes u → reverse (u .nets) [] ≡ reverse (t .nets) [] ++ listed i ws
+pub taken-nets : (ws : List ℕ) (i : ℕ) (t u : Parsed) → takeWords i t ws ≡ yes u → reverse (u .nets) [] ≡ reverse (t .nets) [] ++ listed i ws
 unfolding takeWords listed
 taken-nets [] i t u e =
     let k = passed (firstRefusal (line (not (t .ended)) 13 i ∷ [])) (yes t) u e in

@@ -8,7 +8,7 @@ use Rattle.board.specs.Board.{noRow}
 use Rattle.board.specs.declared.Row.{Row}
 use Rattle.board.specs.declared.Board as code-board
 use Rattle.board_block.specs.Block.{Block}
-use Rattle.board_block.specs.View.{plainOf}
+use Rattle.board_block.specs.View.{noneTaken, withAll, plainOf}
 use Rattle.board_block.specs.declared.Block as code-block
 use Rattle.net.specs.View.{nothing}
 use Rattle.net.specs.declared.Net.{Net}
@@ -32,7 +32,7 @@ unfoldable pub placesFor : List Net → List Place
 placesFor ns = map (λ i. placeFor (netOf (suc i) ns)) (upTo 64)
 
 abbrev pub blockValue : Block → code-block.Block
-blockValue b = plainOf (boardValue (b .board .rows))
+blockValue b = record { board = boardValue (b .board .rows); taken = withAll noneTaken (b .taken) }
 
 -- a fresh session on the block, with these nets
 unfoldable pub valueFor : Session → code.Session

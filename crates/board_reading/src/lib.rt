@@ -1,9 +1,12 @@
 // Reading a board from words and from bytes: a session with an empty pile, or a refusal and the blank session.
 ghost use mathlib.Core.Path.{_≡_};
+ghost use Rattle.board.specs.View.{boardOf};
 ghost use Rattle.board_block.specs.View.{blockOf};
 ghost use Rattle.call_rules.specs.Reading.{readWords, readBytes};
+ghost use Rattle.board_reading.specs.Pins.{PutsWord, PinsPromise};
 ghost use Rattle.board_reading.specs.Adding.{addedWord, AllPromise};
 ghost use Rattle.board_reading.specs.Promise.{RefusedPromise, ReadPromise};
+use board::Board;
 use board_block::Block;
 use net::Held;
 use net::Place;
@@ -24,6 +27,13 @@ pub struct AfterRead {
     pub session: Session,
 }
 
+// The taken pins of all words, at each vertex's place; or `over`, and the index of the first word that takes more pins than its vertex has.
+pub struct TakenAll {
+    pub over: bool,
+    pub index: usize,
+    pub pins: [u8; 1024],
+}
+
 // The nets so far with one word more; number 0, or that of the refusal.
 pub struct Added {
     pub number: u8,
@@ -35,6 +45,47 @@ pub struct AddedAll {
     pub number: u8,
     pub index: usize,
     pub nets: [Place; 64],
+}
+
+// The taken pins of a word are put into the array, any other word is passed over. True where 38 is due; then nothing is put.
+fn put_word(b: Board, w: BoardWord, pins: &mut [u8; 1024]) -> bool
+    ensures { λ r. ⌜ PutsWord (boardOf b) w (now (pins .entry)) r (now (pins .exit)) ⌝ }
+{
+    match w {
+        BoardWord::Taken(p) => {
+            if board_block::over_taken(b, p) {
+                return true;
+            }
+            board_block::put_taken(p, pins);
+            false
+        }
+        BoardWord::Row(_) => false,
+        BoardWord::Net(_) => false,
+        BoardWord::End(_) => false,
+        BoardWord::Unknown => false,
+    }
+}
+
+// The taken pins of the words, put into an array with none.
+fn put_words(b: Board, words: &[u32]) -> TakenAll
+    ensures { λ r. ⌜ PinsPromise (boardOf b) (now (words .entry)) r ⌝ }
+{
+    let mut pins = [0u8; 1024];
+    let n = words.len();
+    for i in 0..n {
+        if put_word(b, words::board_word(words[i]), &mut pins) {
+            return TakenAll {
+                over: true,
+                index: i,
+                pins,
+            };
+        }
+    }
+    TakenAll {
+        over: false,
+        index: n,
+        pins,
+    }
 }
 
 // The net of a word is added, any other word is passed over.
@@ -64,6 +115,7 @@ fn add_word(b: Block, nets: [Place; 64], w: BoardWord) -> Added
             }
         }
         BoardWord::Row(_) => Added { number: 0, nets },
+        BoardWord::Taken(_) => Added { number: 0, nets },
         BoardWord::End(_) => Added { number: 0, nets },
         BoardWord::Unknown => Added { number: 0, nets },
     }
@@ -120,7 +172,12 @@ pub fn read_words(words: &[u32]) -> AfterRead
     if bent {
         return refused(16, 0);
     }
-    let block = board_block::plain(board);
+    let put = put_words(board, words);
+    if put.over {
+        return refused(38, put.index);
+    }
+    let taken = put.pins;
+    let block = Block { board, taken };
     let added = add_words(block, words);
     if added.number != 0 {
         return refused(added.number, added.index);

@@ -5,25 +5,27 @@ use mathlib.Core.Path.{_≡_, refl}
 use mathlib.Core.List.{List, [], _∷_, _++_, map}
 use Prim.Native.Nat.{ℕ, _+_, _*_, _/_, _%_, _^_, _<_}
 use native.Mathlib.Omega.{arith}
-use lib.Dec.{eqb}
+use lib.Dec.{eqb, leb}
 use lib.ListN.{length}
-use borrow.Author.Tests.{eqb-true, eq-eqb, not-false}
+use borrow.Author.Tests.{leb-true, eqb-true, eq-eqb, not-false}
+use Rattle.count.specs.TruthLaws.{and-true}
 use Rattle.count.specs.Each.{each-append}
 use Rattle.board.specs.declared.Row.{Row}
+use Rattle.board_block.specs.declared.TakenPins.{TakenPins}
 use Rattle.net.specs.declared.Net.{Net}
 use Rattle.session_rules.specs.Refusal.{line, firstRefusal}
 use Rattle.session_rules.specs.Session.{Session}
 use Rattle.session_rules.specs.Sound.{Sound}
 use Rattle.session_laws.specs.Stays.{sound-fine}
-use Rattle.words.specs.BoardWord.{rowWord, netWord, endWord}
+use Rattle.words.specs.BoardWord.{rowWord, takenWord, netWord, endWord}
 use Rattle.words.specs.Bytes.{wordsIn, uneven, bytesOf}
 use Rattle.call_rules.specs.Result.{yes}
 use Rattle.call_rules.specs.Reading.{readWords, readBytes}
 use Rattle.call_rules.specs.Writing.{boardWords}
-use Rattle.board_roundtrip.specs.Parts.{RowsFit, NetsFit, Words, Bytes}
+use Rattle.board_roundtrip.specs.Parts.{RowsFit, PinsFit, NetsFit, Words, Bytes}
 use Rattle.call_rules.specs.Results.{passed, line-passed}
 use Rattle.session_laws.specs.Few.{few-nets}
-use Rattle.board_roundtrip.specs.Fits.{rows-fit, nets-fit}
+use Rattle.board_roundtrip.specs.Fits.{rows-fit, pins-fit, nets-fit}
 
 -- ── from words to bytes and back ──
 -- the lowest byte, and the others
@@ -70,6 +72,13 @@ row-words : (rs : List Row) → RowsFit rs → Words (map rowWord rs)
 row-words [] f = tt
 row-words (r ∷ rs) f = let k = f .0 in (omega arith, row-words rs (f .1))
 
+pin-words : (ts : List TakenPins) → PinsFit ts → Words (map takenWord ts)
+pin-words [] f = tt
+pin-words (t ∷ ts) f =
+    let k = f .0 .1 in
+    let m = leb-true (t .count) 2 (and-true (leb 1 (t .count)) (leb (t .count) 2) (f .0 .0) .1) in
+    (omega arith, pin-words ts (f .1))
+
 net-words : (ns : List Net) → NetsFit ns → Words (map netWord ns)
 net-words [] f = tt
 net-words (n ∷ ns) f = let k = f .0 in (omega arith, net-words ns (f .1))
@@ -77,11 +86,12 @@ net-words (n ∷ ns) f = let k = f .0 in (omega arith, net-words ns (f .1))
 pub sound-words : (s : Session) → Sound s → Words (boardWords s)
 unfolding boardWords
 sound-words s h =
-    let rs = s .block .board .rows in let ns = s .nets in let f = sound-fine s h in let w = h .within in
+    let rs = s .block .board .rows in let ts = s .block .taken in let ns = s .nets in let f = sound-fine s h in let w = h .within in
     let most = w .few in let few = few-nets (s .block) ns (f .rising) (f .good) in
     let word : ℕ → Type 0 = λ (x : ℕ). x < 2 ^ 32 in let end = endWord (length rs) (length ns) ∷ [] in
-    each-append word (map rowWord rs) (map netWord ns ++ end) (row-words rs (rows-fit (s .block .board) w))
-    (each-append word (map netWord ns) end (net-words ns (nets-fit (s .block) ns w (f .good))) (omega arith, tt))
+    each-append word (map rowWord rs) (map takenWord ts ++ (map netWord ns ++ end)) (row-words rs (rows-fit (s .block .board) w))
+    (each-append word (map takenWord ts) (map netWord ns ++ end) (pin-words ts (pins-fit (s .block) w (h .taken)))
+    (each-append word (map netWord ns) end (net-words ns (nets-fit (s .block) ns w (f .good))) (omega arith, tt)))
 
 -- ── reading bytes is reading their words ──
 pub even-read : (bs : List ℕ) → length bs % 4 ≡ 0 → readBytes bs ≡ readWords (wordsIn bs)

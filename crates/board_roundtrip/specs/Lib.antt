@@ -1,5 +1,6 @@
 pub mod RoundTrip
 pub mod Parts
+pub mod Pins
 pub mod Adds
 pub mod Packed
 pub mod Fits

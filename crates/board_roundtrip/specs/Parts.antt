@@ -5,16 +5,17 @@ use mathlib.Core.List.{List, [], _∷_, _++_, map}
 use Prim.Native.Nat.{ℕ, suc, _≤_, _<_, _^_}
 use Rattle.count.specs.Each.{Each}
 use Rattle.board.specs.declared.Row.{Row}
+use Rattle.board_block.specs.declared.TakenPins.{TakenPins}
 use Rattle.net.specs.declared.Net.{Net}
 use Rattle.session_rules.specs.Session.{Session, withNets}
 use Rattle.session_rules.specs.Sound.{bare}
-use Rattle.words.specs.BoardWord.{rowWord, netWord}
-use Rattle.words.specs.Inverse.{NetFits}
-use Rattle.call_rules.specs.Reading.{Listed, Taken, notAbove}
+use Rattle.words.specs.BoardWord.{rowWord, takenWord, netWord}
+use Rattle.words.specs.Inverse.{TakenFits, NetFits}
+use Rattle.call_rules.specs.Reading.{Listed, Parsed, notAbove}
 
 -- ── what was taken ──
-abbrev pub taken : List Row → List Listed → Bool → Taken
-taken rs ls e = record { rows = rs; nets = ls; ended = e }
+abbrev pub taken : List Row → List TakenPins → List Listed → Bool → Parsed
+taken rs ts ls e = record { rows = rs; pins = ts; nets = ls; ended = e }
 
 abbrev pub listing : ℕ → Net → Listed
 listing i n = record { index = i; net = n }
@@ -38,8 +39,8 @@ abbrev pub netsThen : List Listed → List ℕ → List ℕ
 netsThen [] ws = ws
 netsThen (l ∷ ls) ws = netsThen ls (netWord (l .net) ∷ ws)
 
-abbrev pub said : Taken → List ℕ → List ℕ
-said t ws = map rowWord (t .rows) ++ netsThen (t .nets) ws
+abbrev pub said : Parsed → List ℕ → List ℕ
+said t ws = map rowWord (t .rows) ++ (map takenWord (t .pins) ++ netsThen (t .nets) ws)
 
 -- ── numbers ──
 -- the last net first: each number is above the one before it
@@ -54,6 +55,9 @@ Below k ns = Each (λ (n : Net). n .number < k) ns
 -- ── fields that fit ──
 abbrev pub RowsFit : List Row → Type 0
 RowsFit rs = Each (λ (r : Row). (r .left < r .right) × (r .right ≤ 31)) rs
+
+abbrev pub PinsFit : List TakenPins → Type 0
+PinsFit ts = Each TakenFits ts
 
 abbrev pub NetsFit : List Net → Type 0
 NetsFit ns = Each NetFits ns

@@ -17,7 +17,7 @@ use Rattle.board.specs.declared.Row.{Row}
 use Rattle.session_rules.specs.Refusal.{Refusal, refusal, line, firstRefusal}
 use Rattle.words.specs.BoardWord.{boardWord}
 use Rattle.call_rules.specs.Result.{Result, no, yes, unless}
-use Rattle.call_rules.specs.Reading.{Taken, nothingTaken, wordLines, take, takeWords, badLength, boardIn}
+use Rattle.call_rules.specs.Reading.{Parsed, nothingParsed, wordLines, take, takeWords, badLength, boardIn}
 use Rattle.board_scan.specs.Scan.{wordRefused}
 use Rattle.board_scan.specs.Promise.{takeAll, scanFor, scanned, ScanPromise}
 use Rattle.board_scan.specs.OneWord.{numbered, refused-same}
@@ -28,7 +28,7 @@ use Rattle.board_scan.specs.declared.Scanned.{Scanned}
 abbrev Plain : Refusal → Type 0
 Plain r = (k : ℕ) × (i : ℕ) × (r ≡ refusal (suc k) i)
 
-unless-plain : (o : Option Refusal) (x : Result Taken) → ((r : Refusal) → o ≡ some r → Plain r) → ((r : Refusal) → x ≡ no r → Plain r)
+unless-plain : (o : Option Refusal) (x : Result Parsed) → ((r : Refusal) → o ≡ some r → Plain r) → ((r : Refusal) → x ≡ no r → Plain r)
     → (r : Refusal) → unless o x ≡ no r → Plain r
 unless-plain none x f g r e = g r e
 unless-plain (some q) x f g r e = f r (let h : q ≡ r = cc in ap some h)
@@ -43,10 +43,10 @@ numbered-plain i (suc k) r e =
     let f : some (refusal (suc k) i) ≡ some r = rw (ne-eqb (suc k) 0 (λ z. omega arith)) at e in
     (k, i, cc)
 
-none-refused : (t : Taken) (r : Refusal) → yes t ≡ no r → Plain r
+none-refused : (t : Parsed) (r : Refusal) → yes t ≡ no r → Plain r
 none-refused t r e = absurd (let z : _≡_ {A = ℕ} 0 1 = cc in omega arith)
 
-words-plain : (ws : List ℕ) (i : ℕ) (t : Taken) (r : Refusal) → takeWords i t ws ≡ no r → Plain r
+words-plain : (ws : List ℕ) (i : ℕ) (t : Parsed) (r : Refusal) → takeWords i t ws ≡ no r → Plain r
 unfolding takeWords
 words-plain [] i t r e = unless-plain (firstRefusal (line (not (t .ended)) 13 i ∷ [])) (yes t) (line-plain (not (t .ended)) 12 i) (none-refused t) r e
 words-plain (w ∷ ws) i t r e =
@@ -56,8 +56,8 @@ words-plain (w ∷ ws) i t r e =
 
 all-plain : (ws : List ℕ) (r : Refusal) → takeAll ws ≡ no r → Plain r
 all-plain ws =
-    unless-plain (firstRefusal (line (badLength ws) 11 0 ∷ [])) (takeWords 0 nothingTaken ws) (line-plain (badLength ws) 10 0)
-    (words-plain ws 0 nothingTaken)
+    unless-plain (firstRefusal (line (badLength ws) 11 0 ∷ [])) (takeWords 0 nothingParsed ws) (line-plain (badLength ws) 10 0)
+    (words-plain ws 0 nothingParsed)
 
 pub nonzero : (n : ℕ) → (n ≡ 0 → ⊥) → (k : ℕ) × (n ≡ suc k)
 nonzero zero h = absurd (h refl)
@@ -77,12 +77,12 @@ module _ (rs zs : List Row) where
   rows-first = ext-getD noRow (map row (upTo (length rs))) rs (length-rising row 0 (length rs)) row-at
 
 -- DEFINITION: the scan s holds the board that t has taken, its array too
-pub record Follows (t : Taken) (s : Scan) : Type 0 where
+pub record Follows (t : Parsed) (s : Scan) : Type 0 where
   pub board-is : boardOf (s .board) ≡ boardIn t
   pub count-is : s .board .count ≡ length (t .rows)
   pub array-is : s .board .rows ≡ t .rows ++ replicate (31 - length (t .rows)) noRow
 
-follows : (t : Taken) → Follows t (scanFor t)
+follows : (t : Parsed) → Follows t (scanFor t)
 unfolding boardOf
 follows t = record {
   board-is = ap (λ (rs : List Row). record { rows = rs }) (rows-first (t .rows) (replicate (31 - length (t .rows)) noRow));
@@ -95,17 +95,17 @@ module _ (ws : List ℕ) (r : Scanned) (P : ScanPromise ws r) where
   pub refused-scan : (r .number ≡ 0 → ⊥) → takeAll ws ≡ no (refusal (r .number) (r .index))
   refused-scan z = go (takeAll ws) refl
     where
-      go : (x : Result Taken) → takeAll ws ≡ x → takeAll ws ≡ no (refusal (r .number) (r .index))
+      go : (x : Result Parsed) → takeAll ws ≡ x → takeAll ws ≡ no (refusal (r .number) (r .index))
       go (yes t) e = absurd (z (ap (λ (y : Scanned). y .number) (P ∙ ap scanned e)))
       go (no q) e = plain q e (all-plain ws q e)
         where
           plain : (q : Refusal) → takeAll ws ≡ no q → Plain q → takeAll ws ≡ no (refusal (r .number) (r .index))
           plain q e (k, i, f) = rw (P, e, f) refl
 
-  pub taken-scan : r .number ≡ 0 → (t : Taken) × (takeAll ws ≡ yes t) × Follows t (r .scan)
+  pub taken-scan : r .number ≡ 0 → (t : Parsed) × (takeAll ws ≡ yes t) × Follows t (r .scan)
   taken-scan z = go (takeAll ws) refl
     where
-      go : (x : Result Taken) → takeAll ws ≡ x → (t : Taken) × (takeAll ws ≡ yes t) × Follows t (r .scan)
+      go : (x : Result Parsed) → takeAll ws ≡ x → (t : Parsed) × (takeAll ws ≡ yes t) × Follows t (r .scan)
       go (yes t) e = (t, e, rw (P, e) (follows t))
       go (no q) e = absurd (above (all-plain ws q e))
         where

@@ -17,7 +17,7 @@ use Rattle.words.specs.BoardWord.{boardWord}
 use Rattle.words.specs.declared.BoardWord.{BoardWord}
 use Rattle.words.specs.declared.BoardWord.the-variants as word
 use Rattle.call_rules.specs.Result.{no, yes, unless}
-use Rattle.call_rules.specs.Reading.{boardLimit, Taken, nothingTaken, wordLines, take, takeWords, badLength}
+use Rattle.call_rules.specs.Reading.{boardLimit, Parsed, nothingParsed, wordLines, take, takeWords, badLength}
 use Rattle.board_scan.specs.Scan.{wordRefused, withRow, withNet, withWord, start}
 use Rattle.board_scan.specs.Promise.{takeAll, scanFor, scanned, ScanPromise}
 use Rattle.board_scan.specs.OneWord.{numbered, refused-same, taken-same}
@@ -26,27 +26,27 @@ use Rattle.board_scan.specs.declared.Scanned.{Scanned}
 
 -- DEFINITION: the scan s holds what the first i words say
 pub record Here (ws : List ℕ) (i : ℕ) (s : Scan) : Type 0 where
-  pub taken : Taken
-  pub rest : takeWords 0 nothingTaken ws ≡ takeWords i taken (drop i ws)
+  pub taken : Parsed
+  pub rest : takeWords 0 nothingParsed ws ≡ takeWords i taken (drop i ws)
   pub holds : s ≡ scanFor taken
 
 pub here-start : (ws : List ℕ) → Here ws 0 start
-here-start ws = record { taken = nothingTaken; rest = refl; holds = refl }
+here-start ws = record { taken = nothingParsed; rest = refl; holds = refl }
 
-take-more : (i : ℕ) (t : Taken) (w : ℕ) (ws : List ℕ) → takeWords i t (w ∷ ws)
+take-more : (i : ℕ) (t : Parsed) (w : ℕ) (ws : List ℕ) → takeWords i t (w ∷ ws)
     ≡ unless (firstRefusal (wordLines i t (boardWord w))) (takeWords (suc i) (take i t (boardWord w)) ws)
 unfolding takeWords
 take-more i t w ws = refl
 
 module _ (ws : List ℕ) (i : ℕ) (s : Scan) (h : i < length ws) (H : Here ws i s) where
-  one-word : takeWords 0 nothingTaken ws
+  one-word : takeWords 0 nothingParsed ws
       ≡ unless (numbered i (wordRefused s (eqb i 0) (boardWord (getD ws i 0))))
       (takeWords (suc i) (take i (H .taken) (boardWord (getD ws i 0))) (drop (suc i) ws))
   one-word =
       H .rest ∙ (rw (drop-cons ws i 0 h, H .holds, ← refused-same (H .taken) i (boardWord (getD ws i 0)))
       (take-more i (H .taken) (getD ws i 0) (drop (suc i) ws)))
 
-  pub here-refused : (k : ℕ) → wordRefused s (eqb i 0) (boardWord (getD ws i 0)) ≡ k → (k ≡ 0 → ⊥) → takeWords 0 nothingTaken ws ≡ no (refusal k i)
+  pub here-refused : (k : ℕ) → wordRefused s (eqb i 0) (boardWord (getD ws i 0)) ≡ k → (k ≡ 0 → ⊥) → takeWords 0 nothingParsed ws ≡ no (refusal k i)
   here-refused k e z = one-word ∙ rw (e, ne-eqb k 0 z) refl
 
   pub here-more : wordRefused s (eqb i 0) (boardWord (getD ws i 0)) ≡ 0 → s .nets < 255 → Here ws (i + 1) (withWord s (boardWord (getD ws i 0)))
@@ -59,7 +59,7 @@ module _ (ws : List ℕ) (i : ℕ) (s : Scan) (h : i < length ws) (H : Here ws i
 
 -- ── after the last word ──
 here-last : (ws : List ℕ) (s : Scan) (H : Here ws (length ws) s)
-    → takeWords 0 nothingTaken ws ≡ unless (firstRefusal (line (not (s .ended)) 13 (length ws) ∷ [])) (yes (H .taken))
+    → takeWords 0 nothingParsed ws ≡ unless (firstRefusal (line (not (s .ended)) 13 (length ws) ∷ [])) (yes (H .taken))
 unfolding takeWords
 here-last ws s H = H .rest ∙ rw (drop-length ws, H .holds) refl
 
@@ -71,12 +71,13 @@ one-net false s t h = omega arith
 pub word-nets : (s : Scan) (w : BoardWord) → withWord s w .nets ≤ s .nets + 1
 unfolding withWord withRow withNet
 word-nets s (word.Row r) = one-net (ltb (s .board .count) 31) s _ (omega arith)
+word-nets s (word.Taken p) = omega arith
 word-nets s (word.Net n) = one-net (ltb (s .nets) 255) s _ (omega arith)
 word-nets s (word.End c) = omega arith
 word-nets s word.Unknown = omega arith
 
 -- ── the length ──
-all-taken : (ws : List ℕ) → badLength ws ≡ false → takeAll ws ≡ takeWords 0 nothingTaken ws
+all-taken : (ws : List ℕ) → badLength ws ≡ false → takeAll ws ≡ takeWords 0 nothingParsed ws
 all-taken ws e = rw e refl
 
 pub length-small : (n : ℕ) → eqb n 0 || ltb boardLimit n ≡ false → n ≤ boardLimit

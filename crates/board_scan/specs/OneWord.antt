@@ -1,4 +1,4 @@
--- The scan keeps of the words what their refusals need: one word is refused, or taken, as the definition does it with its `Taken`.
+-- The scan keeps of the words what their refusals need: one word is refused, or taken, as the definition does it with its `Parsed`.
 -- Assumes nothing.
 use mathlib.Core.Path.{_≡_, refl, sym}
 use mathlib.Core.Bool.{Bool, true, false, not, cond, _&&_, _||_}
@@ -15,12 +15,15 @@ use borrow.Author.Tests.{lt-ltb, leb-false}
 use Rattle.count.specs.TruthLaws.{bool, clash}
 use Rattle.board.specs.Board.{noRow}
 use Rattle.board.specs.declared.Row.{Row}
+use Rattle.board.specs.declared.Vertex.{Vertex}
+use Rattle.board_block.specs.Taken.{comesBefore}
+use Rattle.board_block.specs.declared.TakenPins.{TakenPins}
 use Rattle.session_rules.specs.Refusal.{Refusal, refusal, firstRefusal}
 use Rattle.words.specs.declared.BoardWord.{BoardWord}
 use Rattle.words.specs.declared.BoardWord.the-variants as word
-use Rattle.call_rules.specs.Reading.{Listed, Taken, some?, notAbove, wordLines, take}
-use Rattle.board_scan.specs.Scan.{rowRefused, netRefused, endRefused, wordRefused, withRow, withNet, withWord}
-use Rattle.board_scan.specs.Promise.{lastOf, scanFor}
+use Rattle.call_rules.specs.Reading.{Listed, Parsed, some?, notAbove, notAfter, wordLines, take}
+use Rattle.board_scan.specs.Scan.{rowRefused, takenRefused, netRefused, endRefused, wordRefused, withRow, withNet, withWord}
+use Rattle.board_scan.specs.Promise.{lastOf, lastVertex, scanFor}
 
 -- DEFINITION: the refusal of this number at index i, none for 0
 abbrev pub numbered : ℕ → ℕ → Option Refusal
@@ -34,10 +37,25 @@ above-last : (k : ℕ) (ns : List Listed) → notAbove k ns ≡ ltb 0 (length ns
 above-last k [] = refl
 above-last k (n ∷ ns) = rw (lt-ltb 0 (suc (length ns)) (omega arith)) refl
 
+-- ── the last vertex of taken pins ──
+after-last : (v : Vertex) (ps : List TakenPins) → notAfter v ps ≡ some? ps && not (comesBefore (lastVertex ps) v)
+after-last v [] = refl
+after-last v (p ∷ []) = refl
+after-last v (p ∷ (q ∷ qs)) = after-last v (q ∷ qs)
+
+last-of : (ps : List TakenPins) (p : TakenPins) → lastVertex (ps ++ (p ∷ [])) ≡ p .vertex
+last-of [] p = refl
+last-of (q ∷ []) p = refl
+last-of (q ∷ (r ∷ rs)) p = last-of (r ∷ rs) p
+
+some-of : (ps : List TakenPins) (p : TakenPins) → some? (ps ++ (p ∷ [])) ≡ true
+some-of [] p = refl
+some-of (q ∷ qs) p = refl
+
 -- ── the refusals of a word, by its kind, over plain truth values ──
-row-lines : (first nets ended bad : Bool) (i : ℕ)
-    → cond ((first && false) || (nets || ended)) (some (refusal 13 i)) (cond bad (some (refusal 14 i)) none)
-    ≡ numbered i (cond (nets || ended) 13 (cond bad 14 0))
+row-lines : (first after ended bad : Bool) (i : ℕ)
+    → cond ((first && false) || (after || ended)) (some (refusal 13 i)) (cond bad (some (refusal 14 i)) none)
+    ≡ numbered i (cond (after || ended) 13 (cond bad 14 0))
 row-lines true true ended bad i = refl
 row-lines true false true bad i = refl
 row-lines true false false true i = refl
@@ -47,6 +65,7 @@ row-lines false false true bad i = refl
 row-lines false false false true i = refl
 row-lines false false false false i = refl
 
+-- of taken pins, and of a net
 net-lines : (first above ended : Bool) (i : ℕ)
     → cond ((first && true) || (above || ended)) (some (refusal 13 i)) none ≡ numbered i (cond (first || (above || ended)) 13 0)
 net-lines true above ended i = refl
@@ -63,11 +82,14 @@ end-lines false false true i = refl
 end-lines false false false i = refl
 
 -- the code's refusal of a word is the definition's
-pub refused-same : (t : Taken) (i : ℕ) (w : BoardWord) → firstRefusal (wordLines i t w) ≡ numbered i (wordRefused (scanFor t) (eqb i 0) w)
-unfolding wordLines wordRefused rowRefused netRefused endRefused
+pub refused-same : (t : Parsed) (i : ℕ) (w : BoardWord) → firstRefusal (wordLines i t w) ≡ numbered i (wordRefused (scanFor t) (eqb i 0) w)
+unfolding wordLines wordRefused rowRefused takenRefused netRefused endRefused
 refused-same t i (word.Row r) =
     rw (some-nets (t .nets))
-    (row-lines (eqb i 0) (ltb 0 (length (t .nets))) (t .ended) (not (ltb (r .left) (r .right)) || leb 31 (length (t .rows))) i)
+    (row-lines (eqb i 0) (some? (t .pins) || ltb 0 (length (t .nets))) (t .ended) (not (ltb (r .left) (r .right)) || leb 31 (length (t .rows))) i)
+refused-same t i (word.Taken p) =
+    rw (some-nets (t .nets), after-last (p .vertex) (t .pins))
+    (net-lines (eqb i 0) (ltb 0 (length (t .nets)) || (some? (t .pins) && not (comesBefore (lastVertex (t .pins)) (p .vertex)))) (t .ended) i)
 refused-same t i (word.Net n) =
     rw (above-last (n .number) (t .nets))
     (net-lines (eqb i 0) (ltb 0 (length (t .nets)) && leb (n .number) (lastOf (t .nets))) (t .ended) i)
@@ -97,18 +119,22 @@ array-more rs r h =
     rw (n, m, append-assoc rs (r ∷ []) (replicate (31 - suc (length rs)) noRow))
     (set-append-seam rs noRow (replicate (31 - suc (length rs)) noRow) r)
 
-pub taken-same : (t : Taken) (i : ℕ) (first : Bool) → length (t .nets) < 255 → (w : BoardWord) → wordRefused (scanFor t) first w ≡ 0
+pub taken-same : (t : Parsed) (i : ℕ) (first : Bool) → length (t .nets) < 255 → (w : BoardWord) → wordRefused (scanFor t) first w ≡ 0
     → withWord (scanFor t) w ≡ scanFor (take i t w)
 unfolding wordRefused rowRefused withWord withRow withNet
 taken-same t i first m (word.Row r) e =
-    let h : length (t .rows) < 31 = few-rows (length (t .rows)) (ltb 0 (length (t .nets)) || t .ended) (not (ltb (r .left) (r .right))) e in
+    let after = (some? (t .pins) || ltb 0 (length (t .nets))) || t .ended in
+    let h : length (t .rows) < 31 = few-rows (length (t .rows)) after (not (ltb (r .left) (r .right))) e in
     let c : length (t .rows) + 1 ≡ length (t .rows ++ (r ∷ [])) = omega (arith, length-append (t .rows) (r ∷ [])) in
     rw (lt-ltb (length (t .rows)) 31 h) (λ j. record {
       board = record { count = c j; rows = array-more (t .rows) r h j };
+      pins = some? (t .pins);
+      vertex = lastVertex (t .pins);
       nets = length (t .nets);
       last = lastOf (t .nets);
       ended = t .ended;
     })
+taken-same t i first m (word.Taken p) e = rw (some-of (t .pins) p, last-of (t .pins) p) refl
 taken-same t i first m (word.Net n) e =
     let c : length (t .nets) + 1 ≡ suc (length (t .nets)) = add-one (length (t .nets)) in
     rw (lt-ltb (length (t .nets)) 255 m, c) refl

@@ -6,10 +6,12 @@ ghost use Rattle.board_scan.specs.Promise.{scanned, ScanPromise};
 ghost use Rattle.board_scan.specs.Scan.{
   firstOf,
   rowRefused,
+  takenRefused,
   netRefused,
   endRefused,
   wordRefused,
   withRow,
+  withTaken,
   withNet,
   withEnd,
   withWord,
@@ -17,15 +19,20 @@ ghost use Rattle.board_scan.specs.Scan.{
 };
 use board::Board;
 use board::Row;
+use board::Vertex;
+use board_block::TakenPins;
 use net::Net;
 use numbers::wide;
 use words::BOARD_WORDS;
 use words::BoardWord;
 use words::Counts;
 
-// What the words so far have said: the board's rows, how many nets, the last net's number, and whether the end word has been.
+// What the words so far have said: the board's rows, whether pins are taken and the last vertex of them, how many nets, the last net's number, and
+// whether the end word has been.
 pub struct Scan {
     pub board: Board,
+    pub pins: bool,
+    pub vertex: Vertex,
     pub nets: u8,
     pub last: u8,
     pub ended: bool,
@@ -62,7 +69,21 @@ fn row_refused(s: Scan, r: Row) -> u8
 {
     let board = s.board;
     let bad = !(r.left < r.right) | (31 <= board.count);
-    first_of(false, (0 < s.nets) | s.ended, bad, false)
+    first_of(false, (s.pins | (0 < s.nets)) | s.ended, bad, false)
+}
+
+fn taken_refused(s: Scan, first: bool, p: TakenPins) -> u8
+    ensures { λ r. ⌜ r ≡ takenRefused s first p ⌝ }
+{
+    let last = s.vertex;
+    let vertex = p.vertex;
+    let again = s.pins & !board_block::comes_before(last, vertex);
+    first_of(
+        false,
+        first | (((0 < s.nets) | again) | s.ended),
+        false,
+        false,
+    )
 }
 
 fn net_refused(s: Scan, first: bool, n: Net) -> u8
@@ -86,6 +107,7 @@ fn word_refused(s: Scan, first: bool, w: BoardWord) -> u8
 {
     match w {
         BoardWord::Row(r) => row_refused(s, r),
+        BoardWord::Taken(p) => taken_refused(s, first, p),
         BoardWord::Net(n) => net_refused(s, first, n),
         BoardWord::End(c) => end_refused(s, first, c),
         BoardWord::Unknown => first_of(true, first | s.ended, false, false),
@@ -98,6 +120,7 @@ fn with_row(s: Scan, r: Row) -> Scan
     let board = s.board;
     let count = board.count;
     let at = wide(count);
+    let vertex = s.vertex;
     if count < 31 {
         let mut rows = board.rows;
         rows[at] = r;
@@ -106,6 +129,8 @@ fn with_row(s: Scan, r: Row) -> Scan
                 count: count + 1,
                 rows,
             },
+            pins: s.pins,
+            vertex,
             nets: s.nets,
             last: s.last,
             ended: s.ended,
@@ -115,14 +140,32 @@ fn with_row(s: Scan, r: Row) -> Scan
     }
 }
 
+fn with_taken(s: Scan, p: TakenPins) -> Scan
+    ensures { λ t. ⌜ t ≡ withTaken s p ⌝ }
+{
+    let board = s.board;
+    let vertex = p.vertex;
+    Scan {
+        board,
+        pins: true,
+        vertex,
+        nets: s.nets,
+        last: s.last,
+        ended: s.ended,
+    }
+}
+
 fn with_net(s: Scan, n: Net) -> Scan
     ensures { λ t. ⌜ t ≡ withNet s n ⌝ }
 {
     let board = s.board;
+    let vertex = s.vertex;
     let nets = s.nets;
     if nets < 255 {
         Scan {
             board,
+            pins: s.pins,
+            vertex,
             nets: nets + 1,
             last: n.number,
             ended: s.ended,
@@ -136,8 +179,11 @@ fn with_end(s: Scan) -> Scan
     ensures { λ t. ⌜ t ≡ withEnd s ⌝ }
 {
     let board = s.board;
+    let vertex = s.vertex;
     Scan {
         board,
+        pins: s.pins,
+        vertex,
         nets: s.nets,
         last: s.last,
         ended: true,
@@ -150,6 +196,7 @@ fn with_word(s: Scan, w: BoardWord) -> Scan
 {
     match w {
         BoardWord::Row(r) => with_row(s, r),
+        BoardWord::Taken(p) => with_taken(s, p),
         BoardWord::Net(n) => with_net(s, n),
         BoardWord::End(_) => with_end(s),
         BoardWord::Unknown => s,
@@ -166,6 +213,8 @@ fn before_words() -> Scan
             count: 0,
             rows: [row; 31],
         },
+        pins: false,
+        vertex: Vertex { line: 0, column: 0 },
         nets: 0,
         last: 0,
         ended: false,

@@ -7,7 +7,7 @@ use native.Mathlib.Omega.{arith}
 use lib.ListN.{length, drop, set, length-append, length-drop, length-set}
 use Rattle.call_rules.specs.Writing.{writtenInto}
 use Rattle.call_rules.specs.WritingLaws.{store-next}
-use Rattle.board_writing.specs.Buffer.{Continues}
+use Rattle.board_writing.specs.Buffer.{Continues, Remains}
 
 pub continues-none : (before : List ℕ) (from : ℕ) → Continues [] before before from from
 continues-none before from = record {
@@ -33,3 +33,11 @@ continues-more vs us a b c f g h X Y = record {
       Y .buffer (ws ++ vs) first l (X .buffer ws first e z) ∙ ap (λ (k : List ℕ). writtenInto first k) (append-assoc ws vs us);
   size = Y .size ∙ X .size;
 }
+
+-- ── in a loop, by what is still to be written ──
+pub remains-next : (vs us all before a b : List ℕ) (from f g : ℕ) → Remains (vs ++ us) all before a from f → Continues vs a b f g
+    → Remains us all before b from g
+remains-next vs us all before a b from f g R X after r Y = R after r (continues-more vs us a b after f g r X Y)
+
+pub remains-none : (all before a : List ℕ) (from at : ℕ) → Remains [] all before a from at → Continues all before a from at
+remains-none all before a from at R = R a at (continues-none a at)

@@ -1,6 +1,6 @@
--- The words of rows, nets and end make up the definition's; and so does the whole call.
+-- The words of rows, taken pins, nets and end make up the definition's; and so does the whole call.
 -- Assumes nothing.
-use mathlib.Core.Path.{_≡_, refl, ap, sym, _∙_}
+use mathlib.Core.Path.{_≡_, refl, ap, _∙_}
 use mathlib.Core.Bool.{true, false}
 use mathlib.Core.List.{List, [], _∷_, _++_, map, append-assoc}
 use Prim.Native.Nat.{ℕ, _+_, _-_, _%_, _≤_, _<_}
@@ -8,58 +8,60 @@ use native.Mathlib.Omega.{arith}
 use lib.ListN.{length, set, length-append, length-map}
 use borrow.Author.Tests.{lt-ltb, le-ltb}
 use Rattle.board.specs.ViewLaws.{height-of}
+use Rattle.board_block.specs.View.{takenOf}
 use Rattle.session_rules.specs.Refusal.{refusal}
 use Rattle.session_rules.specs.Session.{Session}
 use Rattle.session_rules.specs.Sound.{sound?}
 use Rattle.net_places.specs.Places.{netsOf}
 use Rattle.session.specs.View.{sessionOf}
 use Rattle.session.specs.declared.Session as code
-use Rattle.words.specs.BoardWord.{netWord, endWord}
+use Rattle.words.specs.BoardWord.{takenWord, netWord, endWord}
 use Rattle.call_rules.specs.Result.{no, yes}
 use Rattle.call_rules.specs.Reading.{boardLimit}
 use Rattle.call_rules.specs.Writing.{boardWords, writtenInto, writeBoard}
+use Rattle.call_rules.specs.WritingLaws.{store-next}
 use Rattle.board_writing.specs.Buffer.{Continues}
-use Rattle.call_rules.specs.WritingLaws.{store-next, stored-length}
+use Rattle.board_writing.specs.BufferLaws.{continues-more}
 use Rattle.board_writing.specs.Words.{rowWords, netWords}
 use Rattle.board_writing.specs.WordsLaws.{row-words-length, row-words-all, net-words-all, net-words-le}
 use Rattle.board_writing.specs.Promise.{WritePromise, WrittenWords}
 use Rattle.board_writing.specs.declared.WriteAnswer.the-variants as answer
 
--- ── rows, nets and end ──
+-- ── rows, taken pins, nets and end ──
 parts : (s : code.Session) → length (s .nets) ≡ 64
-    → boardWords (sessionOf s) ≡ (rowWords (s .block .board .rows) (s .block .board .count) ++ netWords (s .nets) 64)
+    → boardWords (sessionOf s) ≡ (rowWords (s .block .board .rows) (s .block .board .count)
+    ++ (map takenWord (takenOf (s .block .taken)) ++ netWords (s .nets) 64))
     ++ (endWord (s .block .board .count) (length (netWords (s .nets) 64)) ∷ [])
 unfolding boardWords
 parts s e =
     let n : netWords (s .nets) 64 ≡ map netWord (netsOf (s .nets)) = rw e at (net-words-all (s .nets)) in
     let l : length (netWords (s .nets) 64) ≡ length (netsOf (s .nets)) = ap length n ∙ length-map (netsOf (s .nets)) netWord in
-    rw (← row-words-all (s .block .board), ← n, height-of (s .block .board), ← l)
-    (sym (append-assoc (rowWords (s .block .board .rows) (s .block .board .count)) (netWords (s .nets) 64)
-    (endWord (s .block .board .count) (length (netWords (s .nets) 64)) ∷ [])))
+    rw (← row-words-all (s .block .board), ← n, height-of (s .block .board), ← l) (simp append-assoc)
 
-pub all-written : (s : code.Session) (before mid after : List ℕ) (rows at w : ℕ) → length (s .nets) ≡ 64 → s .block .board .count ≤ 31
-    → boardLimit ≤ length before → rows ≡ s .block .board .count
-    → mid ≡ writtenInto before (rowWords (s .block .board .rows) (s .block .board .count))
-    → Continues (netWords (s .nets) 64) mid after rows at
-    → w ≡ endWord (s .block .board .count) ((at - rows) % 256)
-    → (at < length before) × (length after ≡ length before) × WrittenWords (boardWords (sessionOf s)) before (set after at w) (at + 1)
-all-written s before mid after rows at w e h r q m C f =
-    let R = rowWords (s .block .board .rows) (s .block .board .count) in let N = netWords (s .nets) 64 in
+pub all-written : (s : code.Session) (before rowed pinned after : List ℕ) (rows from at w : ℕ) → length (s .nets) ≡ 64
+    → s .block .board .count ≤ 31 → length (takenOf (s .block .taken)) ≤ 128 → boardLimit ≤ length before → rows ≡ s .block .board .count
+    → rowed ≡ writtenInto before (rowWords (s .block .board .rows) (s .block .board .count))
+    → Continues (map takenWord (takenOf (s .block .taken))) rowed pinned rows from
+    → Continues (netWords (s .nets) 64) pinned after from at
+    → w ≡ endWord (s .block .board .count) ((at - from) % 256)
+    → WrittenWords (boardWords (sessionOf s)) before (set after at w) (at + 1)
+all-written s before rowed pinned after rows from at w e h t r q m C D f =
+    let R = rowWords (s .block .board .rows) (s .block .board .count) in
+    let T = map takenWord (takenOf (s .block .taken)) in let N = netWords (s .nets) 64 in
+    let B = continues-more T N rowed pinned after rows from at C D in
     let lr : length R ≡ s .block .board .count = row-words-length (s .block .board .rows) (s .block .board .count) in
+    let lt : length T ≤ 128 = omega (arith, length-map (takenOf (s .block .taken)) takenWord) in
     let ln : length N ≤ 64 = net-words-le (s .nets) 64 (omega arith) in
-    let i : at ≡ rows + length N = C .index in
-    let c : (at - rows) % 256 ≡ length N = omega arith in
-    let b : after ≡ writtenInto before (R ++ N) = C .buffer R before (omega arith) m in
-    let l : length (R ++ N) ≡ at = omega (arith, length-append R N) in
+    let i : at ≡ from + length N = D .index in
+    let j : from ≡ rows + length T = C .index in
+    let c : (at - from) % 256 ≡ length N = omega arith in
+    let b : after ≡ writtenInto before (R ++ (T ++ N)) = B .buffer R before (omega arith) m in
+    let l : length (R ++ (T ++ N)) ≡ at = omega (arith, length-append R (T ++ N), length-append T N) in
     let x : w ≡ endWord (s .block .board .count) (length N) = rw c at f in
-    let p = parts s e in (
-      omega arith,
-      stored-length (R ++ N) after before (omega arith) b,
-      rw p (record {
-        count = omega (arith, length-append (R ++ N) (endWord (s .block .board .count) (length N) ∷ []));
-        buffer = rw x (store-next (R ++ N) after before at (endWord (s .block .board .count) (length N)) l (omega arith) b);
-      }),
-    )
+    rw (parts s e) (record {
+      count = omega (arith, length-append (R ++ (T ++ N)) (endWord (s .block .board .count) (length N) ∷ []));
+      buffer = rw x (store-next (R ++ (T ++ N)) after before at (endWord (s .block .board .count) (length N)) l (omega arith) b);
+    })
 
 -- ── the whole call ──
 pub unsound-write : (s : Session) (before : List ℕ) → sound? s ≡ false → WritePromise s before answer.Unsound before

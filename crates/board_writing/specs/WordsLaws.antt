@@ -1,25 +1,27 @@
--- One row's or place's words more; and all of them are the words of document 01's board and nets.
+-- One row's or place's words more; and all of them are the words of the documents' board, taken pins and nets.
 -- Assumes nothing.
 use mathlib.Core.Path.{_≡_, refl, ap}
-use mathlib.Core.List.{List, [], _∷_, _++_, map}
+use mathlib.Core.List.{List, [], _∷_, _++_, map, map-append}
 use Prim.Native.Nat.{ℕ, zero, suc, _+_, _<_, _≤_}
 use native.Mathlib.Numerals.{add-one}
 use native.Mathlib.Omega.{arith}
-use lib.ListN.{length, getD, take, length-append, length-take}
-use lib.Seq.{take-suc, take-length}
+use lib.ListN.{length, getD, take, drop, length-append, length-take}
+use lib.Seq.{take-suc, take-length, drop-cons, drop-length}
 use Rattle.count.specs.Lists.{rising, rising-snoc, length-rising}
 use Rattle.board.specs.Board.{noRow}
 use Rattle.board.specs.View.{boardOf}
 use Rattle.board.specs.declared.Row.{Row}
 use Rattle.board.specs.declared.Board as code
+use Rattle.board_block.specs.View.{vertexAt, takenThen, takenFrom}
+use Rattle.board_block.specs.declared.TakenPins.{TakenPins}
 use Rattle.net.specs.View.{nothing}
 use Rattle.net.specs.declared.Net.{Net}
 use Rattle.net.specs.declared.Held.{Held}
 use Rattle.net.specs.declared.Held.the-variants.{Nothing, Ends}
 use Rattle.net.specs.declared.Place.{Place}
 use Rattle.net_places.specs.Places.{heldNet, netsFrom, netsOf}
-use Rattle.words.specs.BoardWord.{rowWord, netWord}
-use Rattle.board_writing.specs.Words.{rowWords, netWords, heldWord}
+use Rattle.words.specs.BoardWord.{rowWord, takenWord, netWord}
+use Rattle.board_writing.specs.Words.{rowWords, pinWord, pinWordsFrom, netWords, heldWord}
 
 pub row-words-length : (rs : List Row) (n : ℕ) → length (rowWords rs n) ≡ n
 unfolding rowWords
@@ -40,6 +42,23 @@ pub row-words-all : (b : code.Board) → rowWords (b .rows) (b .count) ≡ map r
 unfolding rowWords boardOf
 row-words-all b = row-words-from (b .rows) 0 (b .count)
 
+-- ── the pins taken at place i and at those after it, and their words ──
+pub pin-word : (i k : ℕ) → (k ≡ 0 → ⊥) → pinWord i k ≡ takenWord (record { vertex = vertexAt i; count = k }) ∷ []
+pin-word i zero h = absurd (h refl)
+pin-word i (suc k) h = refl
+
+pub pin-words-next : (a : List ℕ) (i : ℕ) → i < length a → pinWordsFrom a i ≡ pinWord i (getD a i 0) ++ pinWordsFrom a (i + 1)
+unfolding pinWordsFrom takenFrom
+pin-words-next a i h = rw (add-one i, drop-cons a i 0 h) (pin-then (getD a i 0) (takenFrom (suc i) (drop (suc i) a)))
+  where
+    pin-then : (k : ℕ) (ts : List TakenPins) → map takenWord (takenThen (vertexAt i) k ts) ≡ pinWord i k ++ map takenWord ts
+    pin-then zero ts = refl
+    pin-then (suc k) ts = refl
+
+pub pin-words-none : (a : List ℕ) → pinWordsFrom a (length a) ≡ []
+unfolding pinWordsFrom takenFrom
+pin-words-none a = rw (drop-length a) refl
+
 -- ── the nets of the first n places, and their words ──
 snoc-from : (k : ℕ) (ps : List Place) (p : Place) → netsFrom k (ps ++ (p ∷ [])) ≡ netsFrom k ps ++ heldNet (k + length ps) (p .held) []
 unfolding netsFrom
@@ -56,10 +75,6 @@ held-word : (k : ℕ) (h : Held) → map netWord (heldNet k h []) ≡ heldWord k
 held-word k Nothing = refl
 held-word k (Ends e) = refl
 
-map-append : (xs ys : List Net) → map netWord (xs ++ ys) ≡ map netWord xs ++ map netWord ys
-map-append [] ys = refl
-map-append (x ∷ xs) ys = ap (λ (ws : List ℕ). netWord x ∷ ws) (map-append xs ys)
-
 pub net-words-more : (ps : List Place) (n : ℕ) → n < length ps → netWords ps (n + 1) ≡ netWords ps n ++ heldWord (n + 1) (getD ps n nothing .held)
 unfolding netWords netsOf
 net-words-more ps n h =
@@ -69,7 +84,7 @@ net-words-more ps n h =
       take-suc ps n nothing h,
       snoc-from 1 (take n ps) (getD ps n nothing),
       l,
-      map-append (netsFrom 1 (take n ps)) (heldNet (suc n) (getD ps n nothing .held) []),
+      map-append netWord (netsFrom 1 (take n ps)) (heldNet (suc n) (getD ps n nothing .held) []),
     )
     (ap (λ (ws : List ℕ). map netWord (netsFrom 1 (take n ps)) ++ ws) (held-word (suc n) (getD ps n nothing .held)))
 

@@ -1,14 +1,18 @@
 // Writing a session's board and nets as words into a lent buffer.
 ghost use mathlib.Core.Path.{_≡_};
+ghost use mathlib.Core.List.{map};
 ghost use Prim.Native.Nat.{_+_, _≤_, _<_};
 ghost use lib.ListN.{length};
-ghost use Rattle.board_writing.specs.Buffer.{Continues};
+ghost use Rattle.board_block.specs.View.{takenOf};
 ghost use Rattle.session.specs.View.{sessionOf};
+ghost use Rattle.words.specs.BoardWord.{takenWord};
 ghost use Rattle.call_rules.specs.Reading.{boardLimit};
 ghost use Rattle.call_rules.specs.Writing.{boardWords, writtenInto};
-ghost use Rattle.board_writing.specs.Words.{rowWords, heldWord, netWords};
+ghost use Rattle.board_writing.specs.Buffer.{Continues};
+ghost use Rattle.board_writing.specs.Words.{rowWords, pinWord, heldWord, netWords};
 ghost use Rattle.board_writing.specs.Promise.{WrittenWords, WritePromise};
 use board::Board;
+use board_block::TakenPins;
 use net::Held;
 use net::Net;
 use net::Place;
@@ -35,6 +39,32 @@ fn write_rows(b: Board, out: &mut [u32])
     for i in 0..n {
         out[i] = words::pack_row(rows[i]);
     }
+}
+
+// The word of the pins that are taken at a place, if any are, at this index of the buffer; answers with the next index.
+fn write_pin(place: usize, count: u8, out: &mut [u32], at: usize) -> usize
+    requires { ⌜ place < 1024 ⌝ }
+    requires { ⌜ at + length (pinWord place count) ≤ length (now out) ⌝ }
+    ensures { λ r. ⌜ Continues (pinWord place count) (now (out .entry)) (now (out .exit)) at r ⌝ }
+{
+    if count == 0 {
+        return at;
+    }
+    let vertex = board_block::vertex_at(place);
+    out[at] = words::pack_taken(TakenPins { vertex, count });
+    at + 1
+}
+
+// The words of taken pins, from this index of the buffer on; answers with the index after them.
+fn write_pins(pins: [u8; 1024], out: &mut [u32], from: usize) -> usize
+    requires { ⌜ from + length (takenOf pins) ≤ length (now out) ⌝ }
+    ensures { λ r. ⌜ Continues (map takenWord (takenOf pins)) (now (out .entry)) (now (out .exit)) from r ⌝ }
+{
+    let mut at = from;
+    for i in 0..1024 {
+        at = write_pin(i, pins[i], out, at);
+    }
+    at
 }
 
 // The word of what a place holds, at this index of the buffer; answers with the next index.
@@ -66,18 +96,21 @@ fn write_nets(nets: [Place; 64], out: &mut [u32], from: usize) -> usize
     at
 }
 
-// The board and the nets of a sound session, from the start of the buffer.
+// The board, its taken pins and the nets of a sound session, from the start of the buffer.
 fn write_sound(s: Session, out: &mut [u32]) -> usize
     requires { ⌜ s .block .board .count ≤ 31 ⌝ }
+    requires { ⌜ length (takenOf (s .block .taken)) ≤ 128 ⌝ }
     requires { ⌜ boardLimit ≤ length (now out) ⌝ }
     ensures { λ r. ⌜ WrittenWords (boardWords (sessionOf s)) (now (out .entry)) (now (out .exit)) r ⌝ }
 {
     let board = s.block.board;
+    let pins = s.block.taken;
     let nets = s.nets;
     let rows = wide(board.count);
     write_rows(board, out);
-    let at = write_nets(nets, out, rows);
-    let count = ((at - rows) % 256) as u8;
+    let from = write_pins(pins, out, rows);
+    let at = write_nets(nets, out, from);
+    let count = ((at - from) % 256) as u8;
     out[at] = words::pack_end(Counts {
         rows: board.count,
         nets: count,

@@ -16,6 +16,7 @@ use Rattle.board.specs.Board.{Board, Within, Edge, IsEdge}
 use Rattle.board.specs.Path.{Convex}
 use Rattle.board.specs.View.{boardOf}
 use Rattle.board.specs.declared.Board as code-board
+use Rattle.board_block.specs.Taken.{takenFine?}
 use Rattle.board_block.specs.View.{blockOf}
 use Rattle.board_block.specs.declared.Block as code-block
 use Rattle.board.specs.declared.Vertex.{Vertex}
@@ -27,7 +28,7 @@ use Rattle.session_rules.specs.Refusal.{Refusal, refusal}
 use Rattle.session_rules.specs.Machine as calls
 use Rattle.session_rules.specs.Machine.{accepted, wentOn}
 use Rattle.session_rules.specs.Session as machine
-use Rattle.session_rules.specs.Session.{lastName, nothingKept, withNets, keptUnder, pairs}
+use Rattle.session_rules.specs.Session.{lastName, nothingKept, withNets, untaken, keptUnder, pairs}
 use Rattle.session_rules.specs.Sound.{Sound, Fresh, bare, blank, call}
 use Rattle.session_rules.specs.OneByOne.{singly, OneByOne}
 use Rattle.session_rules.specs.Names.{Keeps, Returns, ChangesName, Untouched}
@@ -42,11 +43,11 @@ use Rattle.session.specs.View.{sessionOf}
 use Rattle.session.specs.Value.{addAllOf}
 use Rattle.session_answers.specs.Answers.{addAnswer, addAllAnswer, withdrawAnswer, takeBackAnswer, keepAnswer, returnAnswer}
 use Rattle.session.specs.Promise.{AddPromise, AddAllPromise, WithdrawPromise, TakeBackPromise, KeepPromise, ReturnPromise, FreshPromise, BlankPromise}
-use Rattle.words.specs.Bytes.{wordsIn}
+use Rattle.words.specs.Bytes.{wordsIn, bytesOf}
 use Rattle.words.specs.RoutingWord.{routingWords}
 use Rattle.call_rules.specs.Result.{Result, no, yes}
 use Rattle.call_rules.specs.Reading.{boardLimit, readWords, readBytes}
-use Rattle.call_rules.specs.Writing.{writeBoard, countOf, bufferAfter, writtenInto}
+use Rattle.call_rules.specs.Writing.{boardWords, writeBoard, countOf, bufferAfter, writtenInto}
 use Rattle.call_rules.specs.Report.{Report, reportOf, edgesUsed, turnsMade, turnsOfEach, turnsOccurring, knockKnee, knockKnees, TwoTurns}
 use Rattle.call_rules.specs.Alike.{SameEdges, Alike, equallyMany}
 use Rattle.call_rules.specs.Judge.{judged, judgeWords, ofList, compareWords, judgeBytes, compareBytes}
@@ -55,6 +56,7 @@ use Rattle.call_rules.specs.ReadOff.{ReadsOff}
 use Rattle.call_rules.specs.Route.{routeRoom, routeRefused, HandsBack, HandsBackBytes, Routes, RoutesBytes}
 use Rattle.board_reading.specs.declared.AfterRead.{AfterRead}
 use Rattle.board_reading.specs.Promise.{readAnswer, ReadPromise}
+use Rattle.board_roundtrip.specs.Parts.{Bytes, asRead}
 use Rattle.board_writing.specs.declared.WriteAnswer.{WriteAnswer}
 use Rattle.board_writing.specs.Promise.{writeAnswer, WritePromise}
 use Rattle.judge_call.specs.declared.Judgement.{Judgement}
@@ -167,9 +169,9 @@ OfRouting s ws = (dss : List (List Direction)) × IsRouting s ws dss
 -- ── 1 ──
 -- "Every accepted call .. gives exactly what document 01 lays down for its input, or, for a routing, one of those allowed there. Every refused
 -- call gives its number and place from the table, with the session and each lent buffer the same as before."
--- In each field but `names-stay`, `none-kept`, `two-turns`, `were-alike`, `read-off` and `same-page`, which are laws, and those called rightly: the
--- answer is the definition's, number and place included; what is handed back is the definition's; a refusal changes nothing, but for a list of nets:
--- "for this call alone a refusal leaves that much changed and no more" (document 02, §1).
+-- In each field but `names-stay`, `none-kept`, `two-turns`, `were-alike`, `read-off`, `same-page` and `as-untaken`, which are laws, and those called
+-- rightly: the answer is the definition's, number and place included; what is handed back is the definition's; a refusal changes nothing, but for a
+-- list of nets: "for this call alone a refusal leaves that much changed and no more" (document 02, §1).
 pub record Demand1 : Type 0 where
   pub add : (s : Session) (n : Net) (r : AfterAdd) → AddPromise s n r
       → (addAnswer (r .answer) ≡ call (sessionOf s) (calls.add n) .answer) × (sessionOf (r .session) ≡ call (sessionOf s) (calls.add n) .next)
@@ -269,6 +271,14 @@ pub record Demand1 : Type 0 where
       → RoutesBytes (sessionOf s) before (routeAnswer r) after
       → Sound (sessionOf s) → routeRoom (sessionOf s) ≤ length before / 4
       → history.RightlyBoth (sessionOf s) (routeAnswer r) (HandsBackBytes (sessionOf s) before after)
+  -- 02, §8: "Taken pins don't make a vertex odd or even. .. They limit which nets can stand on a board, and routing such nets is judged as always." A
+  -- sound session is sound with none taken, and then a routing call may answer just the same, and a list is judged the same, in words and in bytes
+  pub as-untaken : (s : machine.Session) → Sound s
+      → Sound (untaken s)
+      × ((before : List ℕ) (x : Result ℕ) (after : List ℕ) → Routes s before x after ↔ Routes (untaken s) before x after)
+      × ((before : List ℕ) (x : Result ℕ) (after : List ℕ) → RoutesBytes s before x after ↔ RoutesBytes (untaken s) before x after)
+      × ((ws : List ℕ) → judgeWords s ws ≡ judgeWords (untaken s) ws)
+      × ((bs : List ℕ) → judgeBytes s bs ≡ judgeBytes (untaken s) bs)
   -- for C: the board's bytes are read first; a refusal is told by its number and place, and leaves the buffer as it was
   pub c-route : (board before : List ℕ) (number first second : ℕ) (after : List ℕ) → RoutePromise board before number first second after
       → ((q : Refusal) → readBytes board ≡ no q → (tell number first second 0 ≡ refusedTold q) × (after ≡ before))
@@ -305,7 +315,8 @@ pub record Demand2 : Type 0 where
   -- and a list of bytes when it is whole words and they do
   pub passes-bytes : (s : Session) (bs : List ℕ) (r : Judgement) → Sound (sessionOf s) → judgementOf r ≡ judgeBytes (sessionOf s) bs
       → Passes r ↔ (WholeWords bs × OfRouting s (wordsIn bs))
-  -- "A session written as words reads back with the same board and nets,
+  -- "A session written as words reads back with the same board and nets," its taken pins among what belongs to the board (02, §8: "They are written
+  -- too, and read back the same"),
   pub reads-back : (s : Session) (before : List ℕ) (w : WriteAnswer) (after : List ℕ) → Sound (sessionOf s) → boardLimit ≤ length before
       → WritePromise (sessionOf s) before w after
       → (n : ℕ) × (writeAnswer w ≡ yes n) × ((r : AfterRead) → ReadPromise (readWords (take n after)) r
@@ -314,15 +325,21 @@ pub record Demand2 : Type 0 where
   pub writes-back : (ws : List ℕ) (r : AfterRead) (before : List ℕ) (w : WriteAnswer) (after : List ℕ) → ReadPromise (readWords ws) r
       → readAnswer (r .answer) ≡ none → boardLimit ≤ length before → WritePromise (sessionOf (r .session)) before w after
       → (writeAnswer w ≡ yes (length ws)) × (after ≡ writtenInto before ws)
+  -- the same in bytes
+  pub bytes-read-back : (m : machine.Session) → Sound m → readBytes (bytesOf (boardWords m)) ≡ yes (asRead m)
+  pub bytes-write-back : (bs : List ℕ) (m : machine.Session) → Bytes bs → readBytes bs ≡ yes m → bytesOf (boardWords m) ≡ bs
+  -- 02, §8: "The limits of 11 and 18 become 224 words", and every sound session keeps within them
+  pub fits : (m : machine.Session) → Sound m → length (boardWords m) ≤ boardLimit
 
 -- ── 3 ──
 -- "For every list of adds, withdrawals, take-backs and routing calls, refused ones included, from a fresh session on any convex board": what then
 -- holds is `Demand3` of crate session_history, file Demand, in the demand's own words. "its lists take in every call that changes a session"
--- (document 02, §5), a list of nets in one call (§1), keeps and returns among them. A session that `fresh` hands back on a convex board is fresh.
+-- (document 02, §5), a list of nets in one call (§1), keeps and returns among them. A session that `fresh` hands back on a convex board,
+-- with pins taken that are there (§8), is fresh.
 pub record Demand3 : Type 0 where
   pub whole : (s : Session) (calls : List Made) → Fresh (sessionOf s) → Chain s calls → history.Demand3 s calls
-  pub start : (b : code-block.Block) (s : Session) → Within (blockOf b .board) → Convex (blockOf b .board) → FreshPromise b s
-      → Fresh (sessionOf s) × (sessionOf s ≡ bare (blockOf b))
+  pub start : (b : code-block.Block) (s : Session) → Within (blockOf b .board) → Convex (blockOf b .board) → takenFine? (blockOf b) ≡ true
+      → FreshPromise b s → Fresh (sessionOf s) × (sessionOf s ≡ bare (blockOf b))
   -- adds, lists of nets, withdrawals, take-backs, keeps and returns that kept their promises are calls of such a list, as the machine is fed them
   pub add-made : (s : Session) (n : Net) (r : AfterAdd) → AddPromise s n r → Meets s (changed (calls.add n) (addAnswer (r .answer)) (r .session))
   pub add-all-made : (s : Session) (ns : List Net) (r : AfterAddAll) → AddAllPromise s ns r
@@ -349,3 +366,8 @@ pub record Demand3 : Type 0 where
       × ((before : List ℕ) (x y : RouteAnswer) (after after′ : List ℕ)
       → (Meets (r .session) (routed before x after) → Meets (last s singles) (routed before y after′) → history.RefusedAlike x y)
       × (Meets (r .session) (routedBytes before x after) → Meets (last s singles) (routedBytes before y after′) → history.RefusedAlike x y))
+  -- 02, §8: two routing calls with the same buffer, one on a session and one on the same with no pin taken, are refused alike, so also given alike
+  pub as-untaken : (s t : Session) → Sound (sessionOf s) → sessionOf t ≡ untaken (sessionOf s)
+      → (before : List ℕ) (x y : RouteAnswer) (after after′ : List ℕ)
+      → (Meets s (routed before x after) → Meets t (routed before y after′) → history.RefusedAlike x y)
+      × (Meets s (routedBytes before x after) → Meets t (routedBytes before y after′) → history.RefusedAlike x y)

@@ -24,6 +24,7 @@ use Rattle.session_laws.specs.Exact.{sound-exact}
 use Rattle.session_laws.specs.OneByOne.{one-by-one}
 use Rattle.session_laws.specs.Names.{keeps, returns, names-stay}
 use Rattle.session_laws.specs.Few.{few-nets}
+use Rattle.session_laws.specs.Untaken.{sound-untaken}
 use Rattle.session_laws.specs.Fine.{AllGood}
 use Rattle.session_laws.specs.Stays.{sound-fine}
 use Rattle.session.specs.View.{sessionOf}
@@ -48,11 +49,20 @@ use Rattle.judge_laws.specs.Alike.{judged-equally-many}
 use Rattle.judge_laws.specs.TwoTurns.{judged-two-turns}
 use Rattle.judge_laws.specs.Pages.{used-edges, reads-off, same-page}
 use Rattle.board_roundtrip.specs.Parts.{asRead}
-use Rattle.board_roundtrip.specs.RoundTrip.{buffer-reads, read-written, read-none-kept, read-bytes-none-kept}
+use Rattle.board_roundtrip.specs.Written.{words-few}
+use Rattle.board_roundtrip.specs.RoundTrip.{
+  buffer-reads,
+  read-written,
+  read-none-kept,
+  read-bytes-none-kept,
+  written-bytes-read,
+  read-bytes-write,
+}
 use Rattle.session_answers.specs.Answers.{addAnswer}
 use Rattle.session_history.specs.Routing as history
 use Rattle.session_history.specs.Listed as history-listed
 use Rattle.session_history.specs.Names as history-names
+use Rattle.session_history.specs.Untaken as history-untaken
 use Rattle.demands.specs.Demands.{Reads, WholeWords, Passes, OfRouting, Demand1, Demand2, Demand3}
 use Rattle.demands.specs.Routing.{words-shown, bytes-shown, itself, differ-itself, c-routed, c-routed-rightly}
 use Rattle.demands.specs.Judging.{
@@ -191,6 +201,13 @@ demand-1 = record {
   were-alike = λ s vs ws dss ess e f h. judged-equally-many s vs ws dss ess e f h;
   route-rightly = λ s before r after R S long. history.words-both (sessionOf s) S long R;
   route-bytes-rightly = λ s before r after R S long. history.bytes-both (sessionOf s) S long R;
+  as-untaken = λ s S. (
+    sound-untaken s S,
+    history-untaken.untaken-routes s S,
+    history-untaken.untaken-routes-bytes s S,
+    history-untaken.untaken-judged s S,
+    history-untaken.untaken-judged-bytes s S,
+  );
   c-route = λ board before number first second after P. c-routed board before after (P .result) (tell number first second 0) (P .told) (P .routes);
   c-route-rightly = λ board before number first second after P s e long.
       c-routed-rightly board before after (P .result) (tell number first second 0) (P .told) (P .routes) s e long;
@@ -271,13 +288,16 @@ demand-2 = record {
       let m = sessionOf (r .session) in
       let f = read-written ws m (length before) l (accepted-as (readWords ws) r P e) in
       (W .answers ∙ ap countOf f, W .buffer ∙ ap (bufferAfter before) f);
+  bytes-read-back = written-bytes-read;
+  bytes-write-back = read-bytes-write;
+  fits = words-few;
 }
 
 -- ── 3 ──
 pub demand-3 : Demand3
 demand-3 = record {
   whole = λ s calls F k. history.demand-3 s calls F k;
-  start = λ b s W C P. (P .fresh W C, P .bare);
+  start = λ b s W C T P. (P .fresh W C T, P .bare);
   add-made = λ s n r P. P .call;
   add-all-made = λ s ns r P. P .call;
   withdraw-made = λ s k r P. P .call;
@@ -291,4 +311,5 @@ demand-3 = record {
         history-listed.as-singly s (r .session) ns (r .answer .count) why singles (P .call) k e,
         history-listed.routed-as-singly s (r .session) ns (r .answer .count) why singles (P .call) k e,
       );
+  as-untaken = history-untaken.untaken-alike;
 }

@@ -5,6 +5,7 @@ ghost use Rattle.board.specs.Board.{Within};
 ghost use Rattle.board.specs.Path.{Convex};
 ghost use Rattle.board.specs.View.{boardOf};
 ghost use Rattle.board_block.specs.View.{plainOf};
+ghost use Rattle.board_block.specs.Promise.{TakesPins};
 ghost use Rattle.board_convex.specs.Test.{isConvex};
 ghost use Rattle.session.specs.View.{sessionOf};
 ghost use lib.ListN.{take};
@@ -20,6 +21,7 @@ ghost use Rattle.draw_call.specs.Promise.{DrawWordsPromise, DrawBytesPromise};
 ghost use Rattle.route_call.specs.Answers.{routeAnswer};
 use board::Board;
 use board_block::Block;
+use board_block::TakenPins;
 use board_reading::AfterRead;
 use board_writing::WriteAnswer;
 use draw_call::DrawAnswer;
@@ -42,11 +44,18 @@ pub fn is_convex(b: Board) -> bool
     board_convex::is_convex(b)
 }
 
-// A board by itself as a block.
+// A board by itself as a block, of which no pin is taken.
 pub fn plain(b: Board) -> Block
     ensures { λ r. ⌜ r ≡ plainOf b ⌝ }
 {
     board_block::plain(b)
+}
+
+// The block with so many pins of a vertex taken, in place of what was taken of it; outside lines and columns 0 to 31 nothing is.
+pub fn with_taken(b: Block, t: TakenPins) -> Block
+    ensures { λ r. ⌜ TakesPins b t r ⌝ }
+{
+    board_block::with_taken(b, t)
 }
 
 // A session on the block, with no nets, an empty pile and nothing kept.

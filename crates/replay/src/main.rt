@@ -2,6 +2,8 @@
 //
 // Standard input is text, at most 65,536 bytes of it: a line for each row of the board and for each call, told by its first word.
 //     row LEFT RIGHT                        one more row of the board, from the top; starts afresh on the board so far
+//     taken LINE COLUMN COUNT               so many pins of the vertex are taken, in place of what was told of it before, 0 for none; a vertex beyond
+//                                           line or column 31 is passed over; starts afresh on the board so far
 //     add NUMBER LINE COLUMN LINE COLUMN    the net with its first and its second terminal
 //     adds NUMBER LINE COLUMN LINE COLUMN NUMBER LINE ..
 //                                           a list of nets in one call, as many as begin on the line; of more than 65 the first 65
@@ -25,6 +27,8 @@ ghost use Rattle.replay.specs.Text.{answerLine, toldAnswer};
 use board::Board;
 use board::Row;
 use board::Vertex;
+use board_block::Block;
+use board_block::TakenPins;
 use net::Change;
 use net::Held;
 use net::Net;
@@ -342,7 +346,21 @@ fn row_line(session: Session, s: &[u8], at: usize) -> Session {
         left: left.value,
         right: right.value,
     };
-    session::fresh(board_block::plain(with_row(session.block.board, row)))
+    let block = session.block;
+    let board = with_row(block.board, row);
+    let taken = block.taken;
+    session::fresh(Block { board, taken })
+}
+
+fn taken_line(session: Session, s: &[u8], at: usize) -> Session {
+    let read = vertex(s, at);
+    let count = number(s, read.next);
+    let vertex = read.vertex;
+    let pins = TakenPins {
+        vertex,
+        count: count.value,
+    };
+    session::fresh(board_block::with_taken(session.block, pins))
 }
 
 fn add_line(session: Session, s: &[u8], at: usize) -> Session {
@@ -403,6 +421,9 @@ fn paths_line(session: Session) -> Session {
 fn line(session: Session, s: &[u8], at: usize) -> Session {
     if is_word(s, at, b"row") {
         return row_line(session, s, at);
+    }
+    if is_word(s, at, b"taken") {
+        return taken_line(session, s, at);
     }
     if is_word(s, at, b"add") {
         return add_line(session, s, at);

@@ -11,6 +11,7 @@ use Rattle.session_rules.specs.Refusal.{refusal}
 use Rattle.session_rules.specs.Session.{Session}
 use Rattle.session.specs.View.{sessionOf}
 use Rattle.call_rules.specs.Result.{Result, no, yes}
+use Rattle.call_rules.specs.Reading.{boardLimit}
 use Rattle.call_rules.specs.Writing.{writeBoard, countOf}
 use Rattle.board_reading.specs.Promise.{readAnswer, refusalIn, ReadPromise}
 use Rattle.board_reading.specs.declared.AfterRead.{AfterRead}
@@ -28,12 +29,12 @@ refused-line n p e (no q) P =
 refused-line n p e (yes s) P =
     let f : some (refusal n p) ≡ none = sym (ap readAnswer e) ∙ P .answers in absurd (let z : _≡_ {A = ℕ} 0 1 = cc in omega arith)
 
-pub written-back : (a : WriteAnswer) {r : AfterRead} {before after : List ℕ} → r .answer ≡ answer.Accepted → length before ≡ 96
+pub written-back : (a : WriteAnswer) {r : AfterRead} {before after : List ℕ} → r .answer ≡ answer.Accepted → length before ≡ boardLimit
     → WritePromise (sessionOf (r .session)) before a after → (x : Result Session) → ReadPromise x r
     → writtenLine readName (writeAnswer a) ≡ readLine x
 written-back a e l W (no q) P =
     let f : none ≡ some q = sym (ap readAnswer e) ∙ P .answers in absurd (let z : _≡_ {A = ℕ} 0 1 = cc in omega arith)
 written-back a {r} {before} e l W (yes s) P =
     let f : sessionOf (r .session) ≡ s = P .session in
-    let g : writeAnswer a ≡ countOf (writeBoard s 96) = rw (f, l) at (W .answers) in
+    let g : writeAnswer a ≡ countOf (writeBoard s boardLimit) = rw (f, l) at (W .answers) in
     ap (writtenLine readName) g

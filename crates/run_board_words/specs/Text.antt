@@ -4,6 +4,7 @@ use Prim.Native.Nat.{ℕ}
 use Rattle.text.specs.Line.{lineOf, refusedLine}
 use Rattle.session_rules.specs.Session.{Session}
 use Rattle.call_rules.specs.Result.{Result, no, yes}
+use Rattle.call_rules.specs.Reading.{boardLimit}
 use Rattle.call_rules.specs.Writing.{writeBoard, countOf}
 
 -- writing: a name with the count of words, or the refusal
@@ -17,5 +18,5 @@ readName = 114 ∷ 101 ∷ 97 ∷ 100 ∷ []
 
 -- reading: "read" with the count of words that are written back, or the refusal
 abbrev pub readLine : Result Session → List ℕ
-readLine (yes s) = writtenLine readName (countOf (writeBoard s 96))
+readLine (yes s) = writtenLine readName (countOf (writeBoard s boardLimit))
 readLine (no r) = refusedLine (r .number) (r .place)

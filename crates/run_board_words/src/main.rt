@@ -1,9 +1,9 @@
 // Lists of board words and of bytes through reading and writing, and what each answers.
 //
 // Standard input is text, at most 65,536 bytes of it: a list on a line, told by its first letter, with numbers in hexadecimal.
-//     read WORD ..     at most 200 words are read: prints "read" with the count of words that are written back, or the refusal
-//     bytes BYTE ..    the same of at most 388 bytes
-//     write            the blank session is written into buffers of 1, 50, 95 and 96 words: prints "written" with the count, or the refusal
+//     read WORD ..     at most 904 words are read: prints "read" with the count of words that are written back, or the refusal
+//     bytes BYTE ..    the same of at most 904 bytes
+//     write            the blank session is written into buffers of 1, 50, 223 and 224 words: prints "written" with the count, or the refusal
 // Other lines are passed over.
 ghost use mathlib.Core.Path.{_≡_};
 ghost use Prim.Native.Nat.{_≤_};
@@ -20,6 +20,7 @@ use board_reading::AfterRead;
 use board_reading::ReadAnswer;
 use board_writing::WriteAnswer;
 use numbers::wide;
+use words::BOARD_WORDS;
 
 // The line of what writing answers, at the start of the buffer; how many bytes it is.
 fn written_line(name: &[u8], answer: WriteAnswer, out: &mut [u8; 128]) -> usize
@@ -41,7 +42,7 @@ fn read_line(after: AfterRead, out: &mut [u8; 128]) -> usize
     let answer = after.answer;
     match answer {
         ReadAnswer::Accepted => {
-            let mut back = [0u32; 96];
+            let mut back = [0u32; BOARD_WORDS];
             let answer = board_writing::write_board(after.session, &mut back);
             written_line(b"read", answer, out)
         }
@@ -70,7 +71,7 @@ fn print_read(words: &[u32]) {
 }
 
 fn print_bytes(words: &[u32]) {
-    let mut bytes = [0u8; 388];
+    let mut bytes = [0u8; 904];
     let mut out = [0u8; 128];
     let count = vectors::low_bytes(words, &mut bytes);
     let n = bytes_line(&bytes[..count], &mut out);
@@ -85,21 +86,21 @@ fn print_written(buffer: &mut [u32]) {
     io::write_all(1, &out[..n]);
 }
 
-// 18: buffers under 96 words.
+// 18: buffers under 224 words.
 fn buffers() {
     let mut one = [0u32; 1];
     print_written(&mut one);
     let mut fifty = [0u32; 50];
     print_written(&mut fifty);
-    let mut less = [0u32; 95];
+    let mut less = [0u32; 223];
     print_written(&mut less);
-    let mut least = [0u32; 96];
+    let mut least = [0u32; BOARD_WORDS];
     print_written(&mut least);
 }
 
 // One list; where the next line begins.
 fn list(s: &[u8], at: usize) -> usize {
-    let mut words = [0u32; 400];
+    let mut words = [0u32; 904];
     let kind = vectors::letter(s, at);
     let listed = vectors::read_list(s, at, &mut words);
     let count = listed.count;

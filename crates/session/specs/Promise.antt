@@ -2,11 +2,13 @@
 -- Each promise has the value that is handed back, by a definition; `CallPromise`: what that is to the list machine; and that a refused call hands
 -- back the very session that it was given, or of a list of nets what those left that went on.
 use mathlib.Core.Path.{_≡_}
+use mathlib.Core.Bool.{true}
 use mathlib.Core.List.{List}
 use Prim.Native.Nat.{ℕ}
 use lib.ListN.{take}
 use Rattle.board.specs.Board.{Within}
 use Rattle.board.specs.Path.{Convex}
+use Rattle.board_block.specs.Taken.{takenFine?}
 use Rattle.board_block.specs.View.{blockOf, plainOf}
 use Rattle.board_block.specs.declared.Block as code
 use Rattle.net.specs.declared.Net.{Net}
@@ -61,11 +63,11 @@ pub record ReturnPromise (s : Session) (k : ℕ) (r : AfterReturn) : Type 0 wher
   pub call : CallPromise s (returnTo k) (returnAnswer (r .answer)) (r .session)
   pub kept : (returnAnswer (r .answer) ≡ accepted → ⊥) → r .session ≡ s
 
--- a session on a block, fresh if its board is convex
+-- a session on a block, fresh if its board is convex and its taken pins are there
 pub record FreshPromise (b : code.Block) (r : Session) : Type 0 where
   pub value : r ≡ freshOf b
   pub bare : sessionOf r ≡ machine.bare (blockOf b)
-  pub fresh : Within (blockOf b .board) → Convex (blockOf b .board) → machine.Fresh (sessionOf r)
+  pub fresh : Within (blockOf b .board) → Convex (blockOf b .board) → takenFine? (blockOf b) ≡ true → machine.Fresh (sessionOf r)
 
 pub record BlankPromise (r : Session) : Type 0 where
   pub value : r ≡ freshOf (plainOf blankBoard)

@@ -3,7 +3,9 @@
 use mathlib.Core.Path.{_≡_, refl, _∙_}
 use mathlib.Core.Bool.{true}
 use Rattle.board.specs.View.{boardOf}
+use Rattle.board_block.specs.Taken.{inOrder?, allThere?, takenFine?}
 use Rattle.board_block.specs.View.{blockOf, plainOf}
+use Rattle.board_block.specs.ViewLaws.{none-taken}
 use Rattle.board_block.specs.declared.Block as code
 use Rattle.board_convex.specs.Test.{isConvex, inLimits, rowsFit, peels, contains?}
 use Rattle.board_convex.specs.Exact.{is-convex}
@@ -23,18 +25,22 @@ fresh-is-bare b = rw (no-nets 64) refl
 
 pub fresh-promise : (b : code.Block) (r : Session) → r ≡ freshOf b → FreshPromise b r
 fresh-promise b r e =
-    rw e (record { value = refl; bare = fresh-is-bare b; fresh = λ w c. rw (fresh-is-bare b) (fresh-bare (blockOf b) w c) })
+    rw e (record { value = refl; bare = fresh-is-bare b; fresh = λ w c t. rw (fresh-is-bare b) (fresh-bare (blockOf b) w c t) })
 
 blank-board : bare (blockOf (plainOf blankBoard)) ≡ blank
 unfolding boardOf
-blank-board = refl
+blank-board = rw none-taken refl
 
 blank-convex : isConvex (blank .block .board) ≡ true
 unfolding isConvex inLimits rowsFit peels contains?
 blank-convex = refl
 
+blank-taken : takenFine? (blank .block) ≡ true
+unfolding inOrder? allThere?
+blank-taken = refl
+
 blank-fresh : Fresh blank
-blank-fresh = let c = is-convex (blank .block .board) .0 blank-convex in fresh-bare (blank .block) (c .0) (c .1)
+blank-fresh = let c = is-convex (blank .block .board) .0 blank-convex in fresh-bare (blank .block) (c .0) (c .1) blank-taken
 
 pub blank-promise : (r : Session) → r ≡ freshOf (plainOf blankBoard) → BlankPromise r
 blank-promise r e =

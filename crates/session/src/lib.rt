@@ -102,7 +102,7 @@ impl Session {
         let nets = self.nets;
         let pile = self.pile;
         let names = self.names;
-        board_convex::is_convex(b.board)
+        (board_convex::is_convex(b.board) & board_block::is_fine(b))
             & (session_sound::is_addable(b, nets)
                 & ((pile.is_short() & session_sound::lifts(b, nets, pile))
                     & session_sound::all_fine(b, names)))

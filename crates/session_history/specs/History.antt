@@ -2,9 +2,11 @@
 -- the session handed back last is the list machine's, and each answer is the machine's.
 -- Assumes of each call only its promise.
 use mathlib.Core.Path.{_≡_, refl, ap, subst}
+use mathlib.Core.Bool.{true}
 use mathlib.Core.List.{List, [], _∷_, _++_}
 use Rattle.board.specs.Board.{Within}
 use Rattle.board.specs.Path.{Convex}
+use Rattle.board_block.specs.Taken.{takenFine?}
 use Rattle.board_block.specs.View.{blockOf}
 use Rattle.board_block.specs.declared.Block as code
 use Rattle.session_rules.specs.Session as machine
@@ -63,14 +65,15 @@ from-sound s (m ∷ ms) h k =
 pub as-the-machine : (s : Session) (ms : List Made) → Fresh (sessionOf s) → Chain s ms → AsTheMachine s ms
 as-the-machine s ms f k = from-sound s ms (f .sound) k
 
--- From the session that `fresh` hands back on any convex board: the machine starts with that board, no nets, an empty pile and
--- nothing kept.
-pub history : (b : code.Block) (s : Session) (ms : List Made) → Within (blockOf b .board) → Convex (blockOf b .board) → FreshPromise b s → Chain s ms
+-- From the session that `fresh` hands back on any convex board, with pins taken that are there: the machine starts with that board, no nets, an
+-- empty pile and nothing kept.
+pub history : (b : code.Block) (s : Session) (ms : List Made) → Within (blockOf b .board) → Convex (blockOf b .board) → takenFine? (blockOf b) ≡ true
+    → FreshPromise b s → Chain s ms
     → AsTheMachine s ms
     × (sessionOf (last s ms) ≡ after (bare (blockOf b)) (callsOf ms))
     × (answersOf ms ≡ answers (bare (blockOf b)) (callsOf ms))
-history b s ms w c p k =
-    let r = as-the-machine s ms (p .fresh w c) k in
+history b s ms w c t p k =
+    let r = as-the-machine s ms (p .fresh w c t) k in
     (r, rw (← p .bare) (r .session), rw (← p .bare) (r .answer))
 
 -- What holds of every call that is made on a sound session and meets its promise, holds of each call of the list, and of the session that

@@ -5,3 +5,4 @@ pub mod Demand
 pub mod Routing
 pub mod Listed
 pub mod Names
+pub mod Untaken

@@ -47,7 +47,7 @@ unsound-chain s (routedBytes before r after ∷ ms) e k = unsound-chain s ms e (
 
 -- ── a routing call is refused exactly where the definition refuses it ──
 -- DEFINITION: an answer is a refusal exactly where it is the definition's
-abbrev Refuses : machine.Session → ℕ → Result ℕ → Type 0
+abbrev pub Refuses : machine.Session → ℕ → Result ℕ → Type 0
 Refuses m n a = (q : Refusal) → (a ≡ no q) ↔ WhyRefused m n q
 
 when-refused : (m : machine.Session) (n : ℕ) {r : Refusal} → WhyRefused m n r → Refuses m n (no r)
@@ -63,15 +63,15 @@ when-given m n k paths e R q = (
   λ w. absurd (not-given m n w e paths R),
 )
 
-refuses : (m : machine.Session) {before after : List ℕ} {a : Result ℕ} → Routes m before a after → Refuses m (length before) a
+pub refuses : (m : machine.Session) {before after : List ℕ} {a : Result ℕ} → Routes m before a after → Refuses m (length before) a
 refuses m (refused w) = when-refused m _ w
 refuses m (given {count = k} e H) = when-given m _ k (H .paths) e (H .routing)
 
-refuses-bytes : (m : machine.Session) {before after : List ℕ} {a : Result ℕ} → RoutesBytes m before a after → Refuses m (length before / 4) a
+pub refuses-bytes : (m : machine.Session) {before after : List ℕ} {a : Result ℕ} → RoutesBytes m before a after → Refuses m (length before / 4) a
 refuses-bytes m (refused w) = when-refused m _ w
 refuses-bytes m (given {count = k} e H) = when-given m _ k (H .paths) e (H .routing)
 
-alike : {m : machine.Session} {n : ℕ} {a b : Result ℕ} → Refuses m n a → Refuses m n b → (q : Refusal) → (a ≡ no q) ↔ (b ≡ no q)
+pub alike : {m : machine.Session} {n : ℕ} {a b : Result ℕ} → Refuses m n a → Refuses m n b → (q : Refusal) → (a ≡ no q) ↔ (b ≡ no q)
 alike f g q = (λ e. g q .1 (f q .0 e), λ e. f q .1 (g q .0 e))
 
 -- ── the one call, and the single adds ──

@@ -12,6 +12,7 @@ use lib.ListN.{length, getD}
 use borrow.Author.Tests.{leb-true, le-leb, eqb-true, eq-eqb}
 use Rattle.count.specs.TruthLaws.{and-true, and-yes}
 use Rattle.board_block.specs.Block.{Block}
+use Rattle.board_block.specs.Taken.{takenFine?}
 use Rattle.board_convex.specs.Test.{isConvex}
 use Rattle.board_convex.specs.Exact.{is-convex}
 use Rattle.net.specs.declared.Net.{Net}
@@ -51,16 +52,18 @@ sound-exact s = (
       let nets = fine? (s .block) (s .nets) in
       let pile = leb (length (s .pile)) pileLimit && lifts? (s .block) (s .nets) (s .pile) in
       let names = eqb (length (s .names)) nameCount && allFine? (s .block) (s .names) in
-      let t = and-true (isConvex (s .block .board)) (nets && (pile && names)) e in
+      let t = and-true (isConvex (s .block .board) && takenFine? (s .block)) (nets && (pile && names)) e in
+      let b = and-true (isConvex (s .block .board)) (takenFine? (s .block)) (t .0) in
       let u = and-true nets (pile && names) (t .1) in
       let v = and-true (rising? (s .nets)) (addable? (s .block) [] (s .nets)) (u .0) in
       let w = and-true pile names (u .1) in
       let x = and-true (leb (length (s .pile)) pileLimit) (lifts? (s .block) (s .nets) (s .pile)) (w .0) in
       let y = and-true (eqb (length (s .names)) nameCount) (allFine? (s .block) (s .names)) (w .1) in
-      let k = is-convex (s .block .board) .0 (t .0) in
+      let k = is-convex (s .block .board) .0 (b .0) in
       record {
         within = k .0;
         convex = k .1;
+        taken = b .1;
         rising = v .0;
         addable = v .1;
         short = leb-true (length (s .pile)) pileLimit (x .0);
@@ -71,6 +74,7 @@ sound-exact s = (
       },
   λ h. rw (
     is-convex (s .block .board) .1 (h .within, h .convex),
+    h .taken,
     h .rising,
     h .addable,
     le-leb (length (s .pile)) pileLimit (h .short),

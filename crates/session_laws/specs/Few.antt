@@ -1,5 +1,5 @@
 -- A sound session has at most 64 nets (`few-nets`). So a list of nets has stopped after 65 at the latest: what stands behind them plays no part
--- (`enough`).
+-- (`enough`). And at most 128 vertices of it have taken pins (`few-taken`).
 -- Assumes nothing.
 use mathlib.Core.Path.{_≡_, refl, ap}
 use mathlib.Core.Bool.{Bool, true, false, cond}
@@ -9,7 +9,23 @@ use Prim.Native.Nat.{ℕ, zero, suc, _+_, _≤_}
 use native.Mathlib.Omega.{arith}
 use lib.Dec.{ltb}
 use lib.ListN.{length, take}
-use Rattle.board_block.specs.Block.{Block}
+use Rattle.count.specs.Each.{Each}
+use Rattle.count.specs.TruthLaws.{and-true}
+use Rattle.board.specs.Board.{Board, Within}
+use Rattle.board.specs.Path.{Convex}
+use Rattle.board.specs.Degree.{pins}
+use Rattle.board.specs.Tests.{vertex-exact}
+use Rattle.board.specs.declared.Vertex.{Vertex}
+use Rattle.board_block.specs.Block.{Block, takenAt}
+use Rattle.board_block.specs.Taken.{inOrder?, allThere?, takenFine?}
+use Rattle.board_block.specs.TakenLaws.{There, taken-vertices, taken-most}
+use Rattle.board_block.specs.declared.TakenPins.{TakenPins}
+use Rattle.board_convex.specs.Places.{vertex-in-row}
+use Rattle.board_pins.specs.Pins.{frameSum, allPins}
+use Rattle.board_pins.specs.Frame.{frame-le, frame-add, frame-get}
+use Rattle.board_pins.specs.Law.{pins-few}
+use Rattle.net.specs.Terminals.{same}
+use Rattle.net.specs.Same.{same-self}
 use Rattle.net.specs.declared.Net.{Net}
 use Rattle.session_rules.specs.Refusal.{Refusal}
 use Rattle.session_rules.specs.Session.{Session, insert}
@@ -30,6 +46,30 @@ rising-few b k (n ∷ ns) h f g =
 pub few-nets : (b : Block) (ns : List Net) → From 0 ns → AllGood b ns → length ns ≤ 64
 few-nets b [] f g = omega arith
 few-nets b (n ∷ ns) f g = omega (arith, rising-few b 1 (n ∷ ns) (omega arith) (g .0 .low, f .1) g)
+
+-- ── taken pins ──
+-- all that are taken, over lines and columns 0 to 31, are at least as many as are listed
+listed-taken : (b : Board) (ts : List TakenPins) → Within b → Each (There b) ts → length ts ≤ frameSum (takenAt ts)
+unfolding takenAt
+listed-taken b [] w h = omega arith
+listed-taken b (t ∷ ts) w h =
+    let v = t .vertex in
+    let k = vertex-in-row b v (vertex-exact b v .0 (h .0 .vertex)) in let x = k .1 in
+    let here : Vertex → ℕ = λ u. cond (same v u) (t .count) 0 in
+    let g = frame-get here v (omega (arith, x .row, x .high, w .few)) (omega (arith, x .to, w .fits (k .0) (x .row))) in
+    let m : t .count ≤ frameSum here = rw (same-self v) at g in
+    omega (arith, frame-add here (takenAt ts), listed-taken b ts w (h .1), h .0 .some)
+
+pub few-taken : (b : Block) → Within (b .board) → Convex (b .board) → takenFine? b ≡ true → length (b .taken) ≤ 128
+unfolding allPins
+few-taken b w c e =
+    let k = and-true (inOrder? (b .taken)) (allThere? (b .board) (b .taken)) e in
+    omega (
+      arith,
+      listed-taken (b .board) (b .taken) w (taken-vertices (b .board) (b .taken) (k .1)),
+      frame-le (takenAt (b .taken)) (pins (b .board)) (λ v. taken-most (b .board) (b .taken) v (k .0) (k .1)),
+      pins-few (b .board) w c,
+    )
 
 -- ── a list of nets ──
 length-either : (b : Bool) (n m : Net) (ms ns : List Net) → length ns ≡ suc (length ms)

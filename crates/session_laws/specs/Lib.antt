@@ -8,3 +8,4 @@ pub mod Names
 pub mod Stays
 pub mod OneByOne
 pub mod Few
+pub mod Untaken

@@ -14,6 +14,7 @@ use Rattle.count.specs.TruthLaws.{bool, and-true, and-yes, eq-or-ne, le-or-lt}
 use Rattle.board.specs.Board.{Within}
 use Rattle.board.specs.Path.{Convex}
 use Rattle.board_block.specs.Block.{Block}
+use Rattle.board_block.specs.Taken.{takenFine?}
 use Rattle.net.specs.declared.Net.{Net}
 use Rattle.net.specs.declared.Change.{Change}
 use Rattle.net.specs.declared.Change.the-variants.{Added, Withdrawn}
@@ -64,6 +65,7 @@ fine-sound : (s t : Session) → Sound s → t .block ≡ s .block → t .names 
 fine-sound s t h e n f l k = record {
   within = rw e (h .within);
   convex = rw e (h .convex);
+  taken = rw e (h .taken);
   rising = from-rising (t .nets) (f .rising);
   addable = rw e (fine-addable (s .block) (t .nets) f);
   short = l;
@@ -141,6 +143,7 @@ unfolding stored
 sound-kept s k h l = record {
   within = h .within;
   convex = h .convex;
+  taken = h .taken;
   rising = h .rising;
   addable = h .addable;
   short = h .short;
@@ -156,6 +159,7 @@ unfolding returned lifts?
 sound-returned s k ns h e = record {
   within = h .within;
   convex = h .convex;
+  taken = h .taken;
   rising = h .kept-rising k ns e;
   addable = h .kept-addable k ns e;
   short = omega arith;
@@ -214,13 +218,14 @@ none-kept k = elim (le-or-lt nameCount k) [
   | inr l ↦ getD-replicate nameCount k none none l
 ]
 
--- A bare board that is within the limits and convex is a fresh session.
-pub fresh-bare : (b : Block) → Within (b .board) → Convex (b .board) → Fresh (bare b)
+-- A bare board that is within the limits and convex, with pins taken that are there, is a fresh session.
+pub fresh-bare : (b : Block) → Within (b .board) → Convex (b .board) → takenFine? b ≡ true → Fresh (bare b)
 unfolding rising? addable? lifts?
-fresh-bare b w c = record {
+fresh-bare b w c t = record {
   sound = record {
     within = w;
     convex = c;
+    taken = t;
     rising = refl;
     addable = refl;
     short = omega arith;

@@ -16,7 +16,7 @@ use Rattle.session_rules.specs.Session.{pairs, holds}
 abbrev pub goodNumber : ℕ → Bool
 goodNumber k = leb 1 k && leb k 64
 
--- the pins of v are all taken by terminals of the nets
+-- the pins of v that the package has left are all used by terminals of the nets
 abbrev pub full : Block → List Net → Vertex → Bool
 full b ns v = leb (pinsOf b v) (terminals (pairs ns) v)
 

@@ -1,5 +1,5 @@
--- Definitions only: sound, fresh and blank sessions, and what a call does with any session (document 01, refusal 20; names: document 02, §5).
--- Nothing is proved here.
+-- Definitions only: sound, fresh and blank sessions, and what a call does with any session (document 01, refusal 20; names: document 02, §5; taken
+-- pins: §8). Nothing is proved here.
 use mathlib.Core.Path.{_≡_}
 use mathlib.Core.Bool.{Bool, true, cond, _&&_}
 use mathlib.Core.List.{List, [], _∷_}
@@ -10,6 +10,7 @@ use lib.ListN.{length}
 use Rattle.board.specs.Board.{Within}
 use Rattle.board.specs.Path.{Convex}
 use Rattle.board_block.specs.Block.{Block, plain}
+use Rattle.board_block.specs.Taken.{takenFine?}
 use Rattle.board_convex.specs.Test.{isConvex}
 use Rattle.net.specs.declared.Net.{Net}
 use Rattle.net.specs.declared.Change.{Change}
@@ -73,6 +74,8 @@ pub record Sound (s : Session) : Type 0 where
   -- "its board is within the limits and convex,
   pub within : Within (s .block .board)
   pub convex : Convex (s .block .board)
+  -- 02, §8: "A session is sound only if none of its taken pins would get 38." They come in reading order, one or two of a vertex
+  pub taken : takenFine? (s .block) ≡ true
   -- its nets could all be added to the bare board,
   pub rising : rising? (s .nets) ≡ true
   pub addable : addable? (s .block) [] (s .nets) ≡ true
@@ -87,7 +90,7 @@ pub record Sound (s : Session) : Type 0 where
 -- the test of it: see `sound-exact`
 unfoldable pub sound? : Session → Bool
 sound? s =
-    isConvex (s .block .board)
+    (isConvex (s .block .board) && takenFine? (s .block))
     && (fine? (s .block) (s .nets)
     && ((leb (length (s .pile)) pileLimit && lifts? (s .block) (s .nets) (s .pile))
     && (eqb (length (s .names)) nameCount && allFine? (s .block) (s .names))))

@@ -1,9 +1,11 @@
--- Definitions only: document 01, "Board words", first table. Nothing is proved here.
+-- Definitions only: document 01, "Board words", first table, and document 02, §8, the word of kind 3. Nothing is proved here.
 use mathlib.Core.Bool.{cond}
 use Prim.Native.Nat.{ℕ, _+_}
 use lib.Dec.{eqb}
 use Rattle.board.specs.Board.{at}
 use Rattle.board.specs.declared.Row.{Row}
+use Rattle.board_block.specs.Taken.{oneOrTwo}
+use Rattle.board_block.specs.declared.TakenPins.{TakenPins}
 use Rattle.net.specs.declared.Net.{Net}
 use Rattle.words.specs.Bits.{bits, put, kind}
 use Rattle.words.specs.declared.BoardWord.{BoardWord}
@@ -12,6 +14,10 @@ use Rattle.words.specs.declared.BoardWord.the-variants as word
 -- | row | 31-28 = 1, 9-5 left, 4-0 right |
 abbrev pub rowWord : Row → ℕ
 rowWord r = put 28 1 + put 5 (r .left) + r .right
+
+-- 02, §8: "A board word of kind 3 ..: bits 11-10 how many pins are taken (1 or 2), 9-5 line, 4-0 column, the rest zero"
+abbrev pub takenWord : TakenPins → ℕ
+takenWord t = put 28 3 + put 10 (t .count) + put 5 (t .vertex .line) + t .vertex .column
 
 -- | net | 31-28 = 2, 27-20 number, then line, column, line, column of the terminals, 5 bits each |
 abbrev pub netWord : Net → ℕ
@@ -28,6 +34,9 @@ endWord rows nets = put 28 15 + put 8 rows + nets
 abbrev pub rowIn : ℕ → Row
 rowIn w = record { left = bits 5 5 w; right = bits 0 5 w }
 
+abbrev pub takenIn : ℕ → TakenPins
+takenIn w = record { vertex = at (bits 5 5 w) (bits 0 5 w); count = bits 10 2 w }
+
 abbrev pub netIn : ℕ → Net
 netIn w = record {
   number = bits 20 8 w;
@@ -41,6 +50,10 @@ onlyIf w packed x = cond (eqb packed w) x word.Unknown
 unfoldable pub asRow : ℕ → BoardWord
 asRow w = onlyIf w (rowWord (rowIn w)) (word.Row (rowIn w))
 
+-- "12 covers a count of 0 or 3"
+unfoldable pub asTaken : ℕ → BoardWord
+asTaken w = cond (oneOrTwo (takenIn w .count)) (onlyIf w (takenWord (takenIn w)) (word.Taken (takenIn w))) word.Unknown
+
 unfoldable pub asNet : ℕ → BoardWord
 asNet w = onlyIf w (netWord (netIn w)) (word.Net (netIn w))
 
@@ -49,4 +62,8 @@ asEnd w = onlyIf w (endWord (bits 8 8 w) (bits 0 8 w)) (word.End (record { rows 
 
 -- what a word of a board says, by its kind
 unfoldable pub boardWord : ℕ → BoardWord
-boardWord w = cond (eqb (kind w) 1) (asRow w) (cond (eqb (kind w) 2) (asNet w) (cond (eqb (kind w) 15) (asEnd w) word.Unknown))
+boardWord w =
+    cond (eqb (kind w) 1) (asRow w)
+    (cond (eqb (kind w) 2) (asNet w)
+    (cond (eqb (kind w) 3) (asTaken w)
+    (cond (eqb (kind w) 15) (asEnd w) word.Unknown)))

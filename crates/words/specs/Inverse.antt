@@ -2,21 +2,24 @@
 -- and the packed word of fields that fit says just them.
 -- Assumes nothing.
 use mathlib.Core.Path.{_≡_, refl, sym, _∙_}
+use mathlib.Core.Bool.{true}
 use mathlib.Core.Logic.{inl, inr}
 use Prim.Native.Nat.{ℕ, _<_}
 use native.Mathlib.Omega.{arith}
-use lib.Dec.{eqb}
-use borrow.Author.Tests.{eq-eqb, ne-eqb, eqb-true}
-use Rattle.count.specs.TruthLaws.{bool}
+use lib.Dec.{eqb, leb}
+use borrow.Author.Tests.{eq-eqb, ne-eqb, eqb-true, leb-true}
+use Rattle.count.specs.TruthLaws.{bool, and-true}
 use Rattle.board.specs.Path.{number}
 use Rattle.board.specs.declared.Direction.{Direction}
 use Rattle.board.specs.declared.Direction.the-variants.{Up, Right, Down, Left}
 use Rattle.board.specs.declared.Row.{Row}
 use Rattle.board.specs.declared.Vertex.{Vertex}
+use Rattle.board_block.specs.Taken.{oneOrTwo}
+use Rattle.board_block.specs.declared.TakenPins.{TakenPins}
 use Rattle.net.specs.declared.Net.{Net}
 use Rattle.words.specs.Bits.{bits, kind}
 use Rattle.words.specs.BoardWord as board-word
-use Rattle.words.specs.BoardWord.{rowWord, netWord, endWord, rowIn, netIn, asRow, asNet, asEnd, boardWord}
+use Rattle.words.specs.BoardWord.{rowWord, takenWord, netWord, endWord, rowIn, takenIn, netIn, asRow, asTaken, asNet, asEnd, boardWord}
 use Rattle.words.specs.RoutingWord as routing-word
 use Rattle.words.specs.RoutingWord.{
   pathWord,
@@ -43,6 +46,9 @@ RowFits r = (r .left < 32) × (r .right < 32)
 abbrev pub VertexFits : Vertex → Type 0
 VertexFits v = (v .line < 32) × (v .column < 32)
 
+abbrev pub TakenFits : TakenPins → Type 0
+TakenFits t = (oneOrTwo (t .count) ≡ true) × VertexFits (t .vertex)
+
 abbrev pub NetFits : Net → Type 0
 NetFits n = (n .number < 256) × VertexFits (n .ends .first) × VertexFits (n .ends .second)
 
@@ -54,6 +60,26 @@ row-back r (h, k) =
     let p : bits 5 5 (rowWord r) ≡ r .left = omega arith in
     let q : bits 0 5 (rowWord r) ≡ r .right = omega arith in
     rw (eq-eqb (kind (rowWord r)) 1 t, p, q, eq-eqb (rowWord r) (rowWord r) refl) refl
+
+pub taken-back : (t : TakenPins) → TakenFits t → boardWord (takenWord t) ≡ board.Taken t
+unfolding boardWord asTaken
+taken-back t (h, (a, b)) =
+    let w = takenWord t in
+    let m = leb-true (t .count) 2 (and-true (leb 1 (t .count)) (leb (t .count) 2) h .1) in
+    let k : kind w ≡ 3 = omega arith in
+    let p : bits 10 2 w ≡ t .count = omega arith in
+    let q : bits 5 5 w ≡ t .vertex .line = omega arith in
+    let r : bits 0 5 w ≡ t .vertex .column = omega arith in
+    rw (
+      ne-eqb (kind w) 1 (λ e. omega arith),
+      ne-eqb (kind w) 2 (λ e. omega arith),
+      eq-eqb (kind w) 3 k,
+      p,
+      q,
+      r,
+      h,
+      eq-eqb w w refl,
+    ) refl
 
 pub net-back : (n : Net) → NetFits n → boardWord (netWord n) ≡ board.Net n
 unfolding boardWord asNet
@@ -73,7 +99,15 @@ end-back c h k =
     let t : kind w ≡ 15 = omega arith in
     let p : bits 8 8 w ≡ c .rows = omega arith in
     let q : bits 0 8 w ≡ c .nets = omega arith in
-    rw (ne-eqb (kind w) 1 (λ e. omega arith), ne-eqb (kind w) 2 (λ e. omega arith), eq-eqb (kind w) 15 t, p, q, eq-eqb w w refl) refl
+    rw (
+      ne-eqb (kind w) 1 (λ e. omega arith),
+      ne-eqb (kind w) 2 (λ e. omega arith),
+      ne-eqb (kind w) 3 (λ e. omega arith),
+      eq-eqb (kind w) 15 t,
+      p,
+      q,
+      eq-eqb w w refl,
+    ) refl
 
 pub direction-back : (d : Direction) → direction (number d) ≡ d
 direction-back Up = refl
@@ -117,6 +151,7 @@ routing-end-back n h =
 -- a word that says something is the packed word of what it says, and its fields fit
 pub data SaysBoard (w : ℕ) : Type 0 where
   says-row : (r : Row) → RowFits r → w ≡ rowWord r → boardWord w ≡ board.Row r → SaysBoard w
+  says-taken : (t : TakenPins) → TakenFits t → w ≡ takenWord t → boardWord w ≡ board.Taken t → SaysBoard w
   says-net : (n : Net) → NetFits n → w ≡ netWord n → boardWord w ≡ board.Net n → SaysBoard w
   says-end : (c : Counts) → c .rows < 256 → c .nets < 256 → w ≡ endWord (c .rows) (c .nets) → boardWord w ≡ board.End c → SaysBoard w
   says-nothing : boardWord w ≡ board.Unknown → SaysBoard w
@@ -126,6 +161,16 @@ unfolding asRow
 says-row-or-not w e = elim (bool (eqb (rowWord (rowIn w)) w)) [
   | inl t ↦ says-row (rowIn w) (omega arith, omega arith) (sym (eqb-true (rowWord (rowIn w)) w t)) (e ∙ rw t refl)
   | inr t ↦ says-nothing (e ∙ rw t refl)
+]
+
+says-taken-or-not : (w : ℕ) → boardWord w ≡ asTaken w → SaysBoard w
+unfolding asTaken
+says-taken-or-not w e = elim (bool (oneOrTwo (takenIn w .count))) [
+  | inl f ↦ elim (bool (eqb (takenWord (takenIn w)) w)) [
+    | inl t ↦ says-taken (takenIn w) (f, (omega arith, omega arith)) (sym (eqb-true (takenWord (takenIn w)) w t)) (e ∙ rw (f, t) refl)
+    | inr t ↦ says-nothing (e ∙ rw (f, t) refl)
+  ]
+  | inr f ↦ says-nothing (e ∙ rw f refl)
 ]
 
 says-net-or-not : (w : ℕ) → boardWord w ≡ asNet w → SaysBoard w
@@ -152,9 +197,12 @@ says-board w = elim (bool (eqb (kind w) 1)) [
   | inl e ↦ says-row-or-not w (rw e refl)
   | inr e ↦ elim (bool (eqb (kind w) 2)) [
     | inl f ↦ says-net-or-not w (rw (e, f) refl)
-    | inr f ↦ elim (bool (eqb (kind w) 15)) [
-      | inl g ↦ says-end-or-not w (rw (e, f, g) refl)
-      | inr g ↦ says-nothing (rw (e, f, g) refl)
+    | inr f ↦ elim (bool (eqb (kind w) 3)) [
+      | inl g ↦ says-taken-or-not w (rw (e, f, g) refl)
+      | inr g ↦ elim (bool (eqb (kind w) 15)) [
+        | inl h ↦ says-end-or-not w (rw (e, f, g, h) refl)
+        | inr h ↦ says-nothing (rw (e, f, g, h) refl)
+      ]
     ]
   ]
 ]

@@ -3,7 +3,7 @@ ghost use mathlib.Core.Path.{_≡_};
 ghost use Prim.Native.Nat.{_≤_};
 ghost use Rattle.board.specs.Path.{number};
 ghost use Rattle.words.specs.Bits.{kind};
-ghost use Rattle.words.specs.BoardWord.{rowWord, netWord, endWord, asRow, asNet, asEnd, boardWord};
+ghost use Rattle.words.specs.BoardWord.{rowWord, takenWord, netWord, endWord, asRow, asTaken, asNet, asEnd, boardWord};
 ghost use Rattle.words.specs.RoutingWord.{
   pathWord,
   run,
@@ -20,12 +20,13 @@ ghost use Rattle.words.specs.RoutingWord.{
 use board::Direction;
 use board::Row;
 use board::Vertex;
+use board_block::TakenPins;
 use net::Net;
 use net::Pair;
 use numbers::as_word;
 
 // The greatest count of a board's words, and the least buffer to write them into.
-pub const BOARD_WORDS: usize = 96;
+pub const BOARD_WORDS: usize = 224;
 
 // The greatest count of a routing's words: 64 paths, 1,984 runs and the end.
 pub const ROUTING_WORDS: usize = 2049;
@@ -36,9 +37,10 @@ pub struct Counts {
     pub nets: u8,
 }
 
-// A word of a board. Unknown: another kind, or a bit set that has no name.
+// A word of a board. Unknown: another kind, or a bit set that has no name, or 0 or 3 taken pins.
 pub enum BoardWord {
     Row(Row),
+    Taken(TakenPins),
     Net(Net),
     End(Counts),
     Unknown,
@@ -77,6 +79,13 @@ pub fn pack_row(r: Row) -> u32
     268435456 + as_word(r.left) * 32 + as_word(r.right)
 }
 
+pub fn pack_taken(t: TakenPins) -> u32
+    ensures { λ w. ⌜ w ≡ takenWord t ⌝ }
+{
+    let v = t.vertex;
+    805306368 + as_word(t.count) * 1024 + as_word(v.line) * 32 + as_word(v.column)
+}
+
 pub fn pack_net(n: Net) -> u32
     ensures { λ w. ⌜ w ≡ netWord n ⌝ }
 {
@@ -106,6 +115,25 @@ fn as_row(w: u32) -> BoardWord
     };
     if pack_row(row) == w {
         BoardWord::Row(row)
+    } else {
+        BoardWord::Unknown
+    }
+}
+
+fn as_taken(w: u32) -> BoardWord
+    ensures { λ r. ⌜ r ≡ asTaken w ⌝ }
+{
+    let vertex = Vertex {
+        line: (w / 32 % 32) as u8,
+        column: (w / 1 % 32) as u8,
+    };
+    let count = (w / 1024 % 4) as u8;
+    if !((1 <= count) & (count <= 2)) {
+        return BoardWord::Unknown;
+    }
+    let pins = TakenPins { vertex, count };
+    if pack_taken(pins) == w {
+        BoardWord::Taken(pins)
     } else {
         BoardWord::Unknown
     }
@@ -157,6 +185,9 @@ pub fn board_word(w: u32) -> BoardWord
     }
     if kind == 2 {
         return as_net(w);
+    }
+    if kind == 3 {
+        return as_taken(w);
     }
     if kind == 15 {
         return as_end(w);

@@ -7,7 +7,8 @@ use Rattle.count.specs.Sum.{sum, count}
 use Rattle.count.specs.Lists.{select, tally}
 use Rattle.board.specs.Path.{turn, turns}
 use Rattle.board.specs.Degree.{belowRight, belowLeft, aboveRight, aboveLeft, vertex?, edge?, degree, pins}
-use Rattle.board_block.specs.Block.{pinsOf}
+use Rattle.board_block.specs.Block.{takenAt, pinsOf}
+use Rattle.board_block.specs.Taken.{inOrder?, allThere?}
 use Rattle.board_convex.specs.Test.{rowsFit, contains?, peels, inLimits, isConvex}
 use Rattle.net.specs.Terminals.{terminals}
 use Rattle.cut.specs.Cut.{edges, crosses, crossing, margin, overfull?, cuts, overfullCuts}
@@ -18,10 +19,10 @@ use Rattle.session_rules.specs.Session.{holds, insert, remove, netOf, recorded}
 use Rattle.session_rules.specs.Add.{addLines, addRefused, accepts}
 use Rattle.session_rules.specs.Machine.{lay, added, withdrawn, reversed, takenBack, stored, returned, addAllStep, step, after, answers}
 use Rattle.session_rules.specs.Sound.{rising?, addable?, liftable?, lifts?, allFine?, sound?, call}
-use Rattle.words.specs.BoardWord.{boardWord, asRow, asNet, asEnd}
+use Rattle.words.specs.BoardWord.{boardWord, asRow, asTaken, asNet, asEnd}
 use Rattle.words.specs.RoutingWord.{routingWord, asPath, asRun, asRoutingEnd, runsOf, pathWords, pathsWords, routingWords}
 use Rattle.words.specs.Bytes.{wordsIn, bytesOf}
-use Rattle.call_rules.specs.Reading.{wordLines, takeWords, addListed, readNets, readTaken, readWords, readBytes}
+use Rattle.call_rules.specs.Reading.{wordLines, takeWords, addListed, readNets, pinLines, readParsed, readWords, readBytes}
 use Rattle.call_rules.specs.Writing.{boardWords, writeBoard}
 use Rattle.call_rules.specs.Shape.{wordsRefused, runsFrom, pathsFrom}
 use Rattle.call_rules.specs.Walk.{walkSteps, walkRuns, walkPath, walkPaths}
@@ -33,14 +34,14 @@ use Rattle.call_rules.specs.Editor.{editorDraw}
 use Rattle.call_rules.specs.Route.{routeRefused}
 
 unfoldable pub everything : ℕ
-unfolding sum count select turn turns belowRight belowLeft aboveRight aboveLeft vertex? edge? degree pins pinsOf rowsFit contains? peels
-    inLimits isConvex
+unfolding sum count select turn turns belowRight belowLeft aboveRight aboveLeft vertex? edge? degree pins takenAt pinsOf inOrder? allThere? rowsFit
+    contains? peels inLimits isConvex
     terminals edges crosses crossing margin overfull? cuts overfullCuts odd? oddVertices edgesFrom trails uses path? joins? once? routing? holds
     insert remove netOf recorded addLines addRefused accepts lay added withdrawn reversed takenBack stored returned addAllStep step
     rising? addable? liftable? lifts? allFine? sound? call
-    boardWord asRow asNet asEnd routingWord asPath asRun asRoutingEnd runsOf pathWords pathsWords routingWords wordsIn bytesOf wordLines takeWords
-    addListed readNets readTaken readWords readBytes boardWords writeBoard wordsRefused runsFrom pathsFrom walkSteps walkRuns walkPath walkPaths
-    directions edgesUsed turnsMade turnsAt tally turnsOfEach turnsOccurring knockKnee knockKnees knockKneeOfNets among? alike? equallyMany
+    boardWord asRow asTaken asNet asEnd routingWord asPath asRun asRoutingEnd runsOf pathWords pathsWords routingWords wordsIn bytesOf wordLines
+    takeWords addListed readNets pinLines readParsed readWords readBytes boardWords writeBoard wordsRefused runsFrom pathsFrom walkSteps walkRuns
+    walkPath walkPaths directions edgesUsed turnsMade turnsAt tally turnsOfEach turnsOccurring knockKnee knockKnees knockKneeOfNets among? alike? equallyMany
     judged judgeWords compareWords judgeBytes compareBytes onLine belowLine textLine page drawWords drawBytes editorDraw routeRefused
     after answers xor
     flatMap flatten

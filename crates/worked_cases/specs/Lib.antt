@@ -5,4 +5,5 @@ pub mod Reading
 pub mod Judging
 pub mod Sessions
 pub mod Names
+pub mod Taken
 pub mod Pages

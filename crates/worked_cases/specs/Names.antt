@@ -111,7 +111,7 @@ unsound-name : map (λ (c : Call). answerList (call bad c .answer))
 unfolding everything
 unsound-name = refl
 
-unsound-elsewhere : refusalList (routeRefused bad 2049) ∷ why (writeBoard bad 96) ∷ why (judgeWords bad (0xE0000000 ∷ [])) ∷ []
+unsound-elsewhere : refusalList (routeRefused bad 2049) ∷ why (writeBoard bad 224) ∷ why (judgeWords bad (0xE0000000 ∷ [])) ∷ []
     ≡ (20 ∷ 0 ∷ []) ∷ (20 ∷ 0 ∷ []) ∷ (20 ∷ 0 ∷ []) ∷ []
 unfolding everything
 unsound-elsewhere = refl

@@ -25,8 +25,8 @@ three-bytes : why (readBytes (1 ∷ 2 ∷ 3 ∷ [])) ≡ 10 ∷ 0 ∷ []
 unfolding everything
 three-bytes = refl
 
--- 11: 97 words
-too-many : why (readWords (replicate 97 0x10000001)) ≡ 11 ∷ 0 ∷ []
+-- 11: 225 words, but not 224 (02, §8)
+too-many : why (readWords (replicate 225 0x10000001)) ∷ why (readWords (replicate 224 0x10000001)) ∷ [] ≡ (11 ∷ 0 ∷ []) ∷ (14 ∷ 31 ∷ []) ∷ []
 unfolding everything
 too-many = refl
 
@@ -35,7 +35,7 @@ refusals : map (λ ws. why (readWords ws)) (
     -- 11: no words
     []
     ∷  -- 12: another kind
-    (0x30000000 ∷ [])
+    (0x40000000 ∷ [])
     ∷  -- 12: an unnamed bit of a row
     (0x10000401 ∷ [])
     ∷  -- 12: an unnamed bit of the end
@@ -55,7 +55,7 @@ refusals : map (λ ws. why (readWords ws)) (
     ∷  -- 13: word after the end
     (0x10000001 ∷ 0xF0000100 ∷ 0x10000001 ∷ [])
     ∷  -- 12 before 13: a word of another kind after the end
-    (0x10000001 ∷ 0xF0000100 ∷ 0x30000000 ∷ [])
+    (0x10000001 ∷ 0xF0000100 ∷ 0x40000000 ∷ [])
     ∷  -- 13: list over without an end
     (0x10000001 ∷ 0x20100021 ∷ [])
     ∷  -- 14: left not below right

@@ -142,7 +142,7 @@ unfolding everything
 blank-sound = refl
 
 -- ── writing: 20, then 18 ──
-writing : why (writeBoard ring 95) ∷ why (writeBoard ring 96) ∷ why (writeBoard (bare (plain (board []))) 0) ∷ []
+writing : why (writeBoard ring 223) ∷ why (writeBoard ring 224) ∷ why (writeBoard (bare (plain (board []))) 0) ∷ []
     ≡ (18 ∷ 0 ∷ []) ∷ [] ∷ (20 ∷ 0 ∷ []) ∷ []
 unfolding everything
 writing = refl

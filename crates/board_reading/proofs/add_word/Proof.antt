@@ -36,6 +36,9 @@ enum-told-2 c = search needs
 enum-told-3 : tie.Need-enum-told-3
 enum-told-3 c = search needs
 
+enum-told-4 : tie.Need-enum-told-4
+enum-told-4 c = search needs
+
 returns : tie.Need-returns
 returns c =
     let at-if1 = c .before .before in let if1 = at-if1 .if1 in
@@ -67,6 +70,10 @@ returns-5 : tie.Need-returns-5
 unfolding addedWord
 returns-5 c = rw (c .enum-told3 .given .1) refl
 
+returns-6 : tie.Need-returns-6
+unfolding addedWord
+returns-6 c = rw (c .enum-told4 .given .1) refl
+
 pub add-word-spec : {M : Type 1} → statement M
 add-word-spec =
     tie.close
@@ -78,8 +85,10 @@ add-word-spec =
     enum-told
     enum-told-2
     enum-told-3
+    enum-told-4
     returns
     returns-2
     returns-3
     returns-4
-    returns-5)
+    returns-5
+    returns-6)

@@ -59,7 +59,7 @@ returns-2 c =
     let at-args = at-fill-all .before .before .before in let args = at-args .args in
     let (even, long) = told-long (fill-all .ensures) (the-enum-told2 .given .1) in
     refused-read (readBytes (args .bytes .now)) 11 0 _ (c .refused2 .ensures)
-    (bytes-long (args .bytes .now) even (omega (arith, long, length-replicate {A = ℕ} 96 0)))
+    (bytes-long (args .bytes .now) even (omega (arith, long, length-replicate {A = ℕ} 224 0)))
 
 returns-3 : tie.Need-returns-3
 returns-3 c =

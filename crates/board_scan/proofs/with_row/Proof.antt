@@ -18,8 +18,8 @@ mul-rows c = search needs
 array-set-from-rows : tie.Need-array-set-from-rows
 array-set-from-rows c = search needs
 
-add-t12 : tie.Need-add-t12
-add-t12 c = search needs
+add-t13 : tie.Need-add-t13
+add-t13 c = search needs
 
 returns : tie.Need-returns
 unfolding withRow
@@ -27,8 +27,8 @@ returns c = rw (lt-ltb _ _ (c .before .if1 .taken)) (cc)
 
 returns-2 : tie.Need-returns-2
 unfolding withRow
-returns-2 c = rw (le-ltb (c .before .before .before .args .s .board .count) 31 (c .if1 .left)) refl
+returns-2 c = rw (le-ltb (c .before .before .before .before .args .s .board .count) 31 (c .if1 .left)) refl
 
 pub with-row-spec : {M : Type 1} → statement M
 with-row-spec =
-    tie.close (tie.spec wide-requires mul-rows array-set-from-rows add-t12 returns returns-2)
+    tie.close (tie.spec wide-requires mul-rows array-set-from-rows add-t13 returns returns-2)

@@ -2,6 +2,7 @@
 use native.Mathlib.Omega.{arith}
 use Rattle.board_writing.specs.Laws.{unsound-write, short-write, whole-write}
 use Rattle.session.specs.View.{sessionOf}
+use Rattle.session_laws.specs.Few.{few-taken}
 use Rattle.board.specs.ViewLaws.{height-of}
 use borrow.Author.Tests.{not-true, not-false}
 use mathlib.Core.Path.{sym, _∙_}
@@ -27,14 +28,17 @@ returns-2 c =
     let at-if1 = c .before in let if1 = at-if1 .if1 in
     let at-sound = at-if1 .before in let sound = at-sound .sound in
     let at-args = at-sound .before .before in let args = at-args .args in
-    short-write (sessionOf (args .s)) (args .out .now) (sym (sound .ensures .same) ∙ not-false (sound .result) (if1 .left)) (c .if2 .taken)
+    short-write (sessionOf (args .s)) (args .out .now) (sym (sound .ensures .same) ∙ not-false (sound .result) (if1 .left)) (omega arith)
 
 write-sound-requires : tie.Need-write-sound-requires
 write-sound-requires c κs =
     let at-if1 = c .before .before in let if1 = at-if1 .if1 in
     let at-sound = at-if1 .before in let sound = at-sound .sound in
     let at-args = at-sound .before .before in let args = at-args .args in
-    (omega (arith, height-of (args .s .block .board), sound .ensures .exact .0 (not-false (sound .result) (if1 .left)) .within .few), omega arith)
+    let h = sound .ensures .exact .0 (not-false (sound .result) (if1 .left)) in (
+      omega (arith, height-of (args .s .block .board), h .within .few),
+      (few-taken (sessionOf (args .s) .block) (h .within) (h .convex) (h .taken), omega arith),
+    )
 
 same-length : tie.Need-same-length
 same-length c = search needs

@@ -1,8 +1,12 @@
--- `write_sound` writes the words of the board and the nets.
+-- `write_sound` writes the words of the board, its taken pins and the nets. There is room for them: 31 rows, 128 vertices with taken pins, 64 nets
+-- and the end.
 use native.Mathlib.Omega.{arith}
 use Rattle.board_writing.specs.Laws.{all-written}
+use Rattle.board_writing.specs.WordsLaws.{net-words-le}
+use Rattle.board_block.specs.View.{takenOf}
 use Rattle.session_pile.specs.Shift.{length-unmapped-by}
-use lib.ListN.{length, length-set}
+use Rattle.words.specs.BoardWord.{takenWord}
+use lib.ListN.{length, length-map, length-set}
 use mathlib.Core.Path.{_≡_, _∙_}
 use Prim.Native.Nat.{_<_}
 use borrow.Author.Needs.{needs}
@@ -10,10 +14,11 @@ use Rattle.board_writing.proofs.write_sound.Statement.{statement}
 use Rattle.board_writing.proofs.write_sound.Tie as tie
 use Rattle.board_writing.proofs.write_sound.Reads as reads
 use Rattle.board_writing.proofs.write_sound.Lts as lts
-use Rattle.words.proofs.pack_end.Reads as pack-end-reads
-use Rattle.numbers.proofs.wide.Reads as wide-reads
 use Rattle.board_writing.proofs.write_nets.Reads as write-nets-reads
+use Rattle.board_writing.proofs.write_pins.Reads as write-pins-reads
 use Rattle.board_writing.proofs.write_rows.Reads as write-rows-reads
+use Rattle.numbers.proofs.wide.Reads as wide-reads
+use Rattle.words.proofs.pack_end.Reads as pack-end-reads
 
 wide-requires : tie.Need-wide-requires
 wide-requires c κs = search needs
@@ -21,8 +26,14 @@ wide-requires c κs = search needs
 write-rows-requires : tie.Need-write-rows-requires
 write-rows-requires c κs = search needs
 
+write-pins-requires : tie.Need-write-pins-requires
+write-pins-requires c κs = search needs
+
 write-nets-requires : tie.Need-write-nets-requires
-write-nets-requires c κs = search needs
+write-nets-requires c κs =
+    let at-write-pins = c .before .before .before in let write-pins = at-write-pins .write-pins in
+    let s = at-write-pins .before .before .before .before .before .before .before .before .before .before .before .args .s in
+    omega (arith, write-pins .ensures .index, length-map (takenOf (s .block .taken)) takenWord)
 
 sub-count : tie.Need-sub-count
 sub-count c = search needs
@@ -33,86 +44,51 @@ cast-count c = search needs
 pack-end-requires : tie.Need-pack-end-requires
 pack-end-requires c κs = search needs
 
-mul-out : tie.Need-mul-out
-mul-out c =
-    let l : length (c .before .before .before .before .before .before .before .before .before .before .before .before .before .args .s .nets) ≡ 64 =
-    search (needs, length-unmapped-by) in
-    let k = all-written (c .before .before .before .before .before .before .before .before .before .before .before .before .before .args .s)
-    (c .before .before .before .before .before .before .before .before .before .before .before .before .before .args .out .now)
-    (c .before .before .before .before .before .before .before .write-rows .last .1 .0) (c .before .before .before .write-nets .last .1 .0)
-    (c .before .before .before .before .before .before .before .before .before .wide .result) (c .before .before .before .write-nets .result)
-    (c .pack-end .result)
-    l (c .before .before .before .before .before .before .before .before .before .before .before .before .before .pre .0)
-    (c .before .before .before .before .before .before .before .before .before .before .before .before .before .pre .1)
-    (c .before .before .before .before .before .before .before .before .before .wide .ensures .0)
-    (c .before .before .before .before .before .before .before .write-rows .ensures) (c .before .before .before .write-nets .ensures)
-    (c .pack-end .ensures) in
-    omega (arith, k .0)
-
 slice-write-out : tie.Need-slice-write-out
 slice-write-out c =
-    let l : length (c .before .before .before .before .before .before .before .before .before .before .before .before .before .args .s .nets) ≡ 64 =
-    search (needs, length-unmapped-by) in
-    let k = all-written (c .before .before .before .before .before .before .before .before .before .before .before .before .before .args .s)
-    (c .before .before .before .before .before .before .before .before .before .before .before .before .before .args .out .now)
-    (c .before .before .before .before .before .before .before .write-rows .last .1 .0) (c .before .before .before .write-nets .last .1 .0)
-    (c .before .before .before .before .before .before .before .before .before .wide .result) (c .before .before .before .write-nets .result)
-    (c .pack-end .result)
-    l (c .before .before .before .before .before .before .before .before .before .before .before .before .before .pre .0)
-    (c .before .before .before .before .before .before .before .before .before .before .before .before .before .pre .1)
-    (c .before .before .before .before .before .before .before .before .before .wide .ensures .0)
-    (c .before .before .before .before .before .before .before .write-rows .ensures) (c .before .before .before .write-nets .ensures)
-    (c .pack-end .ensures) in
-    let g : c .before .before .before .write-nets .result < length (c .before .before .before .write-nets .last .1 .0) =
-    omega (arith, k .0, k .1) in g
+    let at-write-nets = c .before .before .before in let write-nets = at-write-nets .write-nets in
+    let at-write-pins = at-write-nets .before .before .before .before in let write-pins = at-write-pins .write-pins in
+    let at-args = at-write-pins .before .before .before .before .before .before .before .before .before .before .before in let s = at-args .args .s in
+    let l : length (s .nets) ≡ 64 = search (needs, length-unmapped-by, at-args .good .0) in
+    let at-wide = at-write-pins .before .before .before .before .before .before in let wide = at-wide .wide in
+    let g : write-nets .result < length (write-nets .last .1 .0) =
+    omega (
+      arith,
+      at-args .pre,
+      wide .ensures .0,
+      write-pins .ensures .index,
+      length-map (takenOf (s .block .taken)) takenWord,
+      write-nets .ensures .index,
+      net-words-le (s .nets) 64 (omega arith),
+    ) in g
+
+mul-out : tie.Need-mul-out
+mul-out c =
+    let write-nets = c .before .before .before .write-nets in
+    let g : write-nets .result < length (write-nets .last .1 .0) = slice-write-out c in omega arith
 
 add-result : tie.Need-add-result
 add-result c =
-    let l : length (c .before .before .before .before .before .before .before .before .before .before .before .before .before .args .s .nets) ≡ 64 =
-    search (needs, length-unmapped-by) in
-    let k = all-written (c .before .before .before .before .before .before .before .before .before .before .before .before .before .args .s)
-    (c .before .before .before .before .before .before .before .before .before .before .before .before .before .args .out .now)
-    (c .before .before .before .before .before .before .before .write-rows .last .1 .0) (c .before .before .before .write-nets .last .1 .0)
-    (c .before .before .before .before .before .before .before .before .before .wide .result) (c .before .before .before .write-nets .result)
-    (c .pack-end .result)
-    l (c .before .before .before .before .before .before .before .before .before .before .before .before .before .pre .0)
-    (c .before .before .before .before .before .before .before .before .before .before .before .before .before .pre .1)
-    (c .before .before .before .before .before .before .before .before .before .wide .ensures .0)
-    (c .before .before .before .before .before .before .before .write-rows .ensures) (c .before .before .before .write-nets .ensures)
-    (c .pack-end .ensures) in
-    omega (arith, k .0)
+    let write-nets = c .before .before .before .write-nets in
+    let g : write-nets .result < length (write-nets .last .1 .0) = slice-write-out c in omega arith
 
 same-length : tie.Need-same-length
 same-length c =
-    let l : length (c .before .before .before .before .before .before .before .before .before .before .before .before .before .args .s .nets) ≡ 64 =
-    search (needs, length-unmapped-by) in
-    let k = all-written (c .before .before .before .before .before .before .before .before .before .before .before .before .before .args .s)
-    (c .before .before .before .before .before .before .before .before .before .before .before .before .before .args .out .now)
-    (c .before .before .before .before .before .before .before .write-rows .last .1 .0) (c .before .before .before .write-nets .last .1 .0)
-    (c .before .before .before .before .before .before .before .before .before .wide .result) (c .before .before .before .write-nets .result)
-    (c .pack-end .result)
-    l (c .before .before .before .before .before .before .before .before .before .before .before .before .before .pre .0)
-    (c .before .before .before .before .before .before .before .before .before .before .before .before .before .pre .1)
-    (c .before .before .before .before .before .before .before .before .before .wide .ensures .0)
-    (c .before .before .before .before .before .before .before .write-rows .ensures) (c .before .before .before .write-nets .ensures)
-    (c .pack-end .ensures) in
-    length-set (c .before .before .before .write-nets .last .1 .0) (c .before .before .before .write-nets .result) (c .pack-end .result) ∙ k .1
+    let write-nets = c .before .before .before .write-nets in
+    length-set (write-nets .last .1 .0) (write-nets .result) (c .pack-end .result) ∙ omega arith
 
 returns : tie.Need-returns
 returns c =
-    let l : length (c .before .before .before .before .before .before .before .before .before .before .before .before .before .args .s .nets) ≡ 64 =
-    search (needs, length-unmapped-by) in
-    let k = all-written (c .before .before .before .before .before .before .before .before .before .before .before .before .before .args .s)
-    (c .before .before .before .before .before .before .before .before .before .before .before .before .before .args .out .now)
-    (c .before .before .before .before .before .before .before .write-rows .last .1 .0) (c .before .before .before .write-nets .last .1 .0)
-    (c .before .before .before .before .before .before .before .before .before .wide .result) (c .before .before .before .write-nets .result)
-    (c .pack-end .result)
-    l (c .before .before .before .before .before .before .before .before .before .before .before .before .before .pre .0)
-    (c .before .before .before .before .before .before .before .before .before .before .before .before .before .pre .1)
-    (c .before .before .before .before .before .before .before .before .before .wide .ensures .0)
-    (c .before .before .before .before .before .before .before .write-rows .ensures) (c .before .before .before .write-nets .ensures)
-    (c .pack-end .ensures) in
-    k .2
+    let at-write-nets = c .before .before .before in let write-nets = at-write-nets .write-nets in
+    let at-write-pins = at-write-nets .before .before .before .before in let write-pins = at-write-pins .write-pins in
+    let at-args = at-write-pins .before .before .before .before .before .before .before .before .before .before .before in let s = at-args .args .s in
+    let l : length (s .nets) ≡ 64 = search (needs, length-unmapped-by, at-args .good .0) in
+    let at-write-rows = at-write-pins .before .before .before .before in let write-rows = at-write-rows .write-rows in
+    let at-wide = at-write-rows .before .before in let wide = at-wide .wide in
+    all-written s (at-args .args .out .now) (write-rows .last .1 .0) (write-pins .last .1 .0) (write-nets .last .1 .0)
+    (wide .result) (write-pins .result) (write-nets .result) (c .pack-end .result)
+    l (at-args .pre .0) (at-args .pre .1 .0) (at-args .pre .1 .1)
+    (wide .ensures .0) (write-rows .ensures) (write-pins .ensures) (write-nets .ensures) (c .pack-end .ensures)
 
 pub write-sound-spec : {M : Type 1} → statement M
 write-sound-spec =
@@ -120,6 +96,7 @@ write-sound-spec =
     (tie.spec
     wide-requires
     write-rows-requires
+    write-pins-requires
     write-nets-requires
     sub-count
     cast-count

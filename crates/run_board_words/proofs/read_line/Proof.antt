@@ -53,7 +53,7 @@ returns c =
     let at-enum-told = at-write-board .before .before in let told = at-enum-told .enum-told in (
       written-line .ensures .0,
       λ x P. written-line .ensures .1
-          ∙ written-back (write-board .result) (told .given .1) (length-replicate {A = ℕ} 96 0) (write-board .ensures) x P,
+          ∙ written-back (write-board .result) (told .given .1) (length-replicate {A = ℕ} 224 0) (write-board .ensures) x P,
     )
 
 -- src/main.rt:37:1
