@@ -35,8 +35,12 @@ takenFrom i (k ∷ ks) = takenThen (vertexAt i) k (takenFrom (suc i) ks)
 abbrev pub takenOf : List ℕ → List TakenPins
 takenOf a = takenFrom 0 a
 
+-- a board and an array together
+abbrev pub blockBy : Board → List ℕ → Block
+blockBy b a = record { board = b; taken = takenOf a }
+
 abbrev pub blockOf : code.Block → Block
-blockOf b = record { board = boardOf (b .board); taken = takenOf (b .taken) }
+blockOf b = blockBy (boardOf (b .board)) (b .taken)
 
 -- what the array has of v; outside lines and columns 0 to 31 it has nothing
 abbrev pub entryOf : List ℕ → Vertex → ℕ

@@ -5,23 +5,23 @@ use mathlib.Core.Path.{_≡_, refl, ap, sym, _∙_}
 use mathlib.Core.Bool.{Bool, true, false, cond, _&&_, _||_}
 use mathlib.Core.List.{List, [], _∷_, _++_, append-assoc, append-nil}
 use mathlib.Core.Logic.{inl, inr}
-use Prim.Native.Nat.{ℕ, zero, suc, _+_, _*_, _-_, _/_, _%_, _≤_, _<_}
+use Prim.Native.Nat.{ℕ, zero, suc, _+_, _-_, _/_, _%_, _≤_, _<_}
 use native.Mathlib.Omega.{arith}
-use native.Mathlib.Numerals.{add-one}
 use lib.Dec.{eqb, ltb}
-use lib.ListN.{length, getD, take, drop, set, replicate, length-set, length-append, getD-replicate, length-replicate, List·getD-eq-default}
-use lib.Seq.{drop-cons, getD-set-other}
-use borrow.Author.Tests.{lt-ltb, le-ltb, eq-eqb, ltb-true, ltb-false, eqb-true, leb-true}
-use Rattle.count.specs.TruthLaws.{bool, clash, not-true, and-true, and-yes, or-true, le-or-lt, eq-or-ne}
-use Rattle.board.specs.Board.{at}
+use lib.ListN.{length, getD, set, replicate, getD-replicate, length-replicate, List·getD-eq-default}
+use lib.Seq.{getD-set-other}
+use borrow.Author.Tests.{lt-ltb, le-ltb, eq-eqb, ltb-true, ltb-false, eqb-true}
+use Rattle.count.specs.TruthLaws.{bool, not-true, and-true, and-yes, or-true, le-or-lt}
+use Rattle.board.specs.Board.{Board}
+use Rattle.board.specs.Degree.{pins}
 use Rattle.board.specs.declared.Vertex.{Vertex}
 use Rattle.net.specs.Terminals.{same}
 use Rattle.net.specs.Same.{same-exact}
 use Rattle.net.specs.Grid.{changedAt}
 use Rattle.net.specs.GridLaws.{length-changed, changed-same, changed-other}
-use Rattle.board_block.specs.Block.{takenAt}
+use Rattle.board_block.specs.Block.{takenAt, pinsOf}
 use Rattle.board_block.specs.Taken.{comesBefore, inOrder?}
-use Rattle.board_block.specs.View.{placeOf, vertexAt, takenThen, takenFrom, takenOf, blockOf, entryOf, withTaken, withAll, withPins, noneTaken}
+use Rattle.board_block.specs.View.{placeOf, vertexAt, takenThen, takenFrom, takenOf, blockBy, blockOf, entryOf, withTaken, withAll, withPins, noneTaken}
 use Rattle.board_block.specs.Promise.{TakesPins}
 use Rattle.board_block.specs.declared.Block as code
 use Rattle.board_block.specs.declared.TakenPins.{TakenPins}
@@ -91,6 +91,11 @@ entry-taken a v l = elim (bool (ltb (v .line) 32)) [
   ]
   | inr p ↦ rw p (sym (taken-below a v l (ltb-false (v .line) 32 p)))
 ]
+
+-- the pins that are left by an array's entry are those of the board with that array
+pub left-pins : (b : Board) (a : List ℕ) (v : Vertex) → v .line < 32 → v .column < 32 → pins b v - entryOf a v ≡ pinsOf (blockBy b a) v
+unfolding pinsOf
+left-pins b a v p q = rw (lt-ltb (v .line) 32 p, lt-ltb (v .column) 32 q, taken-here a v q) refl
 
 -- ── reading order ──
 before-later : (i j : ℕ) → i < j → comesBefore (vertexAt i) (vertexAt j) ≡ true

@@ -3,7 +3,8 @@ use board::Board;
 use board::Vertex;
 use numbers::wide;
 ghost use mathlib.Core.Path.{_≡_};
-ghost use Prim.Native.Nat.{_<_};
+ghost use Prim.Native.Nat.{_-_, _<_};
+ghost use Rattle.board.specs.Degree.{pins};
 ghost use Rattle.board.specs.View.{boardOf};
 ghost use Rattle.board_block.specs.Block.{pinsOf};
 ghost use Rattle.board_block.specs.Taken.{comesBefore, overTaken, takenFine?};
@@ -45,13 +46,20 @@ fn taken_at(pins: &[u8; 1024], v: Vertex) -> u8
     0
 }
 
+// The count of pins at v that are left by those that are taken.
+pub fn pins_left(b: Board, taken: &[u8; 1024], v: Vertex) -> u8
+    ensures { λ r. ⌜ r ≡ pins (boardOf b) v - entryOf (now (taken .entry)) v ⌝ }
+{
+    let all = board_degree::pins_of(b, v);
+    let gone = taken_at(taken, v);
+    if gone < all { all - gone } else { 0 }
+}
+
 // The count of pins at v that nets may use.
 pub fn pins_of(b: Block, v: Vertex) -> u8
     ensures { λ r. ⌜ r ≡ pinsOf (blockOf b) v ⌝ }
 {
-    let all = board_degree::pins_of(b.board, v);
-    let gone = taken_at(&b.taken, v);
-    if gone < all { all - gone } else { 0 }
+    pins_left(b.board, &b.taken, v)
 }
 
 // Does u come before v in reading order?

@@ -2,10 +2,9 @@
 -- rows.
 -- Assumes, of the words as a whole, that they were accepted through 12 to 15.
 use mathlib.Core.Path.{_≡_, refl, ap, sym, _∙_}
-use mathlib.Core.Bool.{Bool, true, false, cond, _||_}
+use mathlib.Core.Bool.{true, false}
 use mathlib.Core.List.{List, [], _∷_, _++_, append-assoc, append-nil}
-use mathlib.Core.Logic.{inl, inr}
-use mathlib.Core.Option.{Option, none, some}
+use mathlib.Core.Option.{none, some}
 use Prim.Native.Nat.{ℕ, suc, _+_, _<_}
 use native.Mathlib.Omega.{arith}
 use native.Mathlib.Numerals.{add-one}
@@ -15,9 +14,9 @@ use Rattle.count.specs.TruthLaws.{clash, or-false}
 use Rattle.board.specs.Board.{Board}
 use Rattle.board.specs.declared.Row.{Row}
 use Rattle.board_block.specs.Taken.{overTaken}
-use Rattle.board_block.specs.View.{noneTaken, withTaken, withAll}
+use Rattle.board_block.specs.View.{noneTaken, withAll}
 use Rattle.board_block.specs.declared.TakenPins.{TakenPins}
-use Rattle.session_rules.specs.Refusal.{Refusal, refusal, Line, line, firstRefusal}
+use Rattle.session_rules.specs.Refusal.{refusal, Line, line, firstRefusal}
 use Rattle.words.specs.BoardWord.{boardWord}
 use Rattle.words.specs.Inverse.{says-row, says-taken, says-net, says-end, says-nothing, says-board}
 use Rattle.words.specs.declared.BoardWord.{BoardWord}

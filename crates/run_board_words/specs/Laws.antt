@@ -13,7 +13,7 @@ use Rattle.session.specs.View.{sessionOf}
 use Rattle.call_rules.specs.Result.{Result, no, yes}
 use Rattle.call_rules.specs.Reading.{boardLimit}
 use Rattle.call_rules.specs.Writing.{writeBoard, countOf}
-use Rattle.board_reading.specs.Promise.{readAnswer, refusalIn, ReadPromise}
+use Rattle.board_reading.specs.Promise.{readAnswer, ReadPromise}
 use Rattle.board_reading.specs.declared.AfterRead.{AfterRead}
 use Rattle.board_reading.specs.declared.ReadAnswer.the-variants as answer
 use Rattle.board_writing.specs.Promise.{writeAnswer, WritePromise}

@@ -3,27 +3,24 @@
 -- there are more.
 -- Assumes nothing.
 use mathlib.Core.Path.{_≡_, refl}
-use mathlib.Core.Bool.{true, _&&_}
+use mathlib.Core.Bool.{true}
 use mathlib.Core.List.{List, [], _∷_}
-use mathlib.Core.Option.{some}
-use Prim.Native.Nat.{ℕ, _≤_}
+use Prim.Native.Nat.{_≤_}
 use native.Mathlib.Omega.{arith}
 use Rattle.count.specs.TruthLaws.{and-true, and-yes}
-use Rattle.board.specs.Degree.{vertex?}
 use Rattle.board.specs.declared.Vertex.{Vertex}
 use Rattle.board_block.specs.Block.{Block, plain, takenAt, pinsOf}
 use Rattle.board_block.specs.Taken.{inOrder?, allThere?}
-use Rattle.net.specs.Terminals.{terminals}
 use Rattle.net.specs.declared.Net.{Net}
 use Rattle.net.specs.declared.Change.{Change}
 use Rattle.net.specs.declared.Change.the-variants.{Added, Withdrawn}
-use Rattle.session_rules.specs.Session.{Session, untaken, pairs}
+use Rattle.session_rules.specs.Session.{Session, untaken}
 use Rattle.session_rules.specs.Add.{accepts}
 use Rattle.session_rules.specs.Machine.{reversed}
 use Rattle.session_rules.specs.Sound.{rising?, addable?, liftable?, lifts?, Sound}
 use Rattle.session_laws.specs.Accept.{free-of, free-accepted}
 use Rattle.session_laws.specs.Rising.{rising-from}
-use Rattle.session_laws.specs.Fine.{AllGood, Fine}
+use Rattle.session_laws.specs.Fine.{AllGood}
 use Rattle.session_laws.specs.Addable.{fine-of, fine-addable}
 
 -- two blocks on one board, of which the second has as many pins or more at every vertex

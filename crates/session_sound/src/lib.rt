@@ -1,4 +1,5 @@
 // Does what a session holds stand on its board: could its nets all be added, and those under each name, and can its pile be lifted to the bottom?
+use board::Board;
 use board::Vertex;
 use board_block::Block;
 use net::Change;
@@ -11,7 +12,8 @@ use session_pile::Pile;
 ghost use mathlib.Core.Path.{_≡_};
 ghost use lib.ListN.{length};
 ghost use Rattle.board.specs.Board.{Within};
-ghost use Rattle.board_block.specs.View.{blockOf};
+ghost use Rattle.board.specs.View.{boardOf};
+ghost use Rattle.board_block.specs.View.{blockBy, blockOf};
 ghost use Rattle.session_rules.specs.Session.{nameCount};
 ghost use Rattle.session_rules.specs.Sound.{liftable?, lifts?, keptFine?, allFine?};
 ghost use Rattle.net_places.specs.Places.{netsOf};
@@ -20,21 +22,21 @@ ghost use Rattle.session_names.specs.Names.{keptIn, keptOf};
 ghost use Rattle.session_sound.specs.Room.{countedAt, roomAt, heldRoom, roomy, layoutRoomy, allRoomy};
 
 // Are there pins at v for all the terminals counted there? Outside lines and columns 0 to 31 no place has pins.
-fn has_pins(b: Block, counts: &[u8; 1024], v: Vertex) -> bool
-    ensures { λ r. ⌜ r ≡ roomAt (blockOf b) (countedAt (now (counts .entry)) v) v ⌝ }
+fn has_pins(b: Board, taken: &[u8; 1024], counts: &[u8; 1024], v: Vertex) -> bool
+    ensures { λ r. ⌜ r ≡ roomAt (blockBy (boardOf b) (now (taken .entry))) (countedAt (now (counts .entry)) v) v ⌝ }
 {
     if v.line < 32 {
         if v.column < 32 {
             let at = wide(v.line) * 32 + wide(v.column);
-            return counts[at] <= board_block::pins_of(b, v);
+            return counts[at] <= board_block::pins_left(b, taken, v);
         }
     }
     false
 }
 
 // Do the terminals of what a place holds stand apart, each with pins enough?
-fn has_room(b: Block, counts: &[u8; 1024], place: Place) -> bool
-    ensures { λ r. ⌜ r ≡ heldRoom (blockOf b) (countedAt (now (counts .entry))) (place .held) ⌝ }
+fn has_room(b: Board, taken: &[u8; 1024], counts: &[u8; 1024], place: Place) -> bool
+    ensures { λ r. ⌜ r ≡ heldRoom (blockBy (boardOf b) (now (taken .entry))) (countedAt (now (counts .entry))) (place .held) ⌝ }
 {
     let held = place.held;
     match held {
@@ -43,7 +45,7 @@ fn has_room(b: Block, counts: &[u8; 1024], place: Place) -> bool
             let first = ends.first;
             let second = ends.second;
             !net::same_vertex(first, second)
-                & (has_pins(b, counts, first) & has_pins(b, counts, second))
+                & (has_pins(b, taken, counts, first) & has_pins(b, taken, counts, second))
         }
     }
 }
@@ -53,10 +55,12 @@ fn has_room(b: Block, counts: &[u8; 1024], place: Place) -> bool
 pub fn is_addable(b: Block, nets: [Place; 64]) -> bool
     ensures { λ r. ⌜ (r ≡ roomy (blockOf b) nets) × (length nets ≡ 64) ⌝ }
 {
+    let board = b.board;
+    let taken = b.taken;
     let counts = net_terminals::count_terminals(nets);
     let mut ok = true;
     for i in 0..64 {
-        ok = ok & has_room(b, &counts, nets[i]);
+        ok = ok & has_room(board, &taken, &counts, nets[i]);
     }
     ok
 }

@@ -8,7 +8,7 @@ use Prim.Native.Nat.{_-_, _≤_}
 use lib.ListN.{length, getD}
 use Rattle.board.specs.View.{boardOf}
 use Rattle.words.specs.BoardWord.{boardWord}
-use Rattle.board_reading.specs.Pins.{overWord, withWord}
+use Rattle.board_reading.specs.Pins.{overWord}
 use Rattle.board_reading.specs.PinsLaws.{Pinning, pinning-start, pinning-more, pinning-refused, pinning-end}
 use Rattle.board_reading.proofs.put_words.Statement.{statement}
 use Rattle.board_reading.proofs.put_words.Tie as tie

@@ -1,13 +1,15 @@
 -- `has_pins` compares the terminals that are counted at v with its pins.
-use mathlib.Core.Path.{refl}
+use mathlib.Core.Path.{refl, _∙_}
 use borrow.Author.Tests.{lt-ltb, le-ltb}
+use Rattle.board.specs.View.{boardOf}
+use Rattle.board_block.specs.ViewLaws.{left-pins}
 use Rattle.session_sound.specs.Room.{roomAt}
 use borrow.Author.Needs.{needs}
 use Rattle.session_sound.proofs.has_pins.Statement.{statement}
 use Rattle.session_sound.proofs.has_pins.Tie as tie
 use Rattle.session_sound.proofs.has_pins.Reads as reads
 use Rattle.session_sound.proofs.has_pins.Lts as lts
-use Rattle.board_block.proofs.pins_of.Reads as pins-of-reads
+use Rattle.board_block.proofs.pins_left.Reads as pins-left-reads
 use Rattle.numbers.proofs.wide.Reads as wide-reads
 
 wide-requires : tie.Need-wide-requires
@@ -25,8 +27,8 @@ add-at c = search needs
 element-copy-out-result : tie.Need-element-copy-out-result
 element-copy-out-result c = search needs
 
-pins-of-requires : tie.Need-pins-of-requires
-pins-of-requires c κs = search needs
+pins-left-requires : tie.Need-pins-left-requires
+pins-left-requires c κs = search needs
 
 returns : tie.Need-returns
 unfolding roomAt
@@ -35,10 +37,13 @@ returns c =
     let at-wide = at-wide2 .before in
     let in-columns = at-wide .before in
     let in-lines = in-columns .before .before in
+    let args = in-lines .before .before .args in
+    let line = in-lines .if1 .taken in
+    let column = in-columns .if2 .taken in
     rw (
-      lt-ltb _ _ (in-lines .if1 .taken),
-      lt-ltb _ _ (in-columns .if2 .taken),
-      c .pins-of .ensures,
+      lt-ltb _ _ line,
+      lt-ltb _ _ column,
+      c .pins-left .ensures ∙ left-pins (boardOf (args .b)) (args .taken .now) (args .v) line column,
       at-wide .wide .ensures .0,
       at-wide2 .wide2 .ensures .0,
     ) refl
@@ -60,7 +65,7 @@ has-pins-spec =
     wide-requires-2
     add-at
     element-copy-out-result
-    pins-of-requires
+    pins-left-requires
     returns
     returns-2
     returns-3)

@@ -8,7 +8,8 @@ use mathlib.Core.List.{List}
 use Prim.Native.Nat.{_-_, _≤_}
 use lib.ListN.{length, getD, drop}
 use Rattle.board_block.specs.Block.{Block}
-use Rattle.board_block.specs.View.{blockOf}
+use Rattle.board.specs.View.{boardOf}
+use Rattle.board_block.specs.View.{blockBy, blockOf}
 use Rattle.net.specs.Terminals.{terminals}
 use Rattle.net.specs.View.{nothing, pairsOf}
 use Rattle.net.specs.declared.Place.{Place}
@@ -23,11 +24,12 @@ use Rattle.net_terminals.proofs.count_terminals.Reads as count-terminals-reads
 use Rattle.session_sound.proofs.has_room.Reads as has-room-reads
 
 abbrev Inv-loop : tie.InvT-loop
-Inv-loop b nets counts ok₀ i₀ ok i =
-    (i ≤ 64) × (length nets ≡ 64) × (ok && placesRoom (blockOf b) (terminals (pairsOf nets)) (drop i nets) ≡ roomy (blockOf b) nets)
+Inv-loop nets board taken counts ok₀ i₀ ok i =
+    let b = blockBy (boardOf board) taken in
+    (i ≤ 64) × (length nets ≡ 64) × (ok && placesRoom b (terminals (pairsOf nets)) (drop i nets) ≡ roomy b nets)
 
 abbrev μ-loop : tie.MeasureT-loop
-μ-loop b nets counts ok₀ i₀ ok i = 64 - i
+μ-loop nets board taken counts ok₀ i₀ ok i = 64 - i
 
 count-terminals-requires : tie.Need-count-terminals-requires Inv-loop μ-loop
 count-terminals-requires c κs = search needs
@@ -57,10 +59,10 @@ hasRoom b nets p = heldRoom b (terminals (pairsOf nets)) (p .held)
 loop-again : tie.Need-loop-again Inv-loop μ-loop
 unfolding placesRoom
 loop-again c =
-    let at4 = c .before .before .before .before in
-    let at = at4 .loop in
-    let counted = at4 .before in
-    let args = counted .before .args in
+    let at5 = c .before .before .before .before .before in
+    let at = at5 .loop in
+    let counted = at5 .before in
+    let args = counted .before .before .before .args in
     let b = blockOf (args .b) in
     let nets = args .t2 in
     let has = c .has-room .ensures ∙ counted-room b (pairsOf nets) _ (counted .count-terminals .ensures) (getD nets (at .i) nothing .held) in
@@ -74,7 +76,7 @@ returns : tie.Need-returns Inv-loop μ-loop
 unfolding placesRoom
 returns c =
     let at = c .before .loop in
-    let args = c .before .before .before .args in
+    let args = c .before .before .before .before .before .args in
     let nets = args .t2 in
     let last : at .i ≡ length nets = omega arith in
     let b = blockOf (args .b) in
