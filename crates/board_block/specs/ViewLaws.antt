@@ -21,7 +21,8 @@ use Rattle.net.specs.Grid.{changedAt}
 use Rattle.net.specs.GridLaws.{length-changed, changed-same, changed-other}
 use Rattle.board_block.specs.Block.{takenAt, pinsOf}
 use Rattle.board_block.specs.Taken.{comesBefore, inOrder?}
-use Rattle.board_block.specs.View.{placeOf, vertexAt, takenThen, takenFrom, takenOf, blockBy, blockOf, entryOf, withTaken, withAll, withPins, noneTaken}
+use Rattle.board_block.specs.View.{placeOf, vertexAt, takenThen, takenFrom, takenOf, blockBy, blockOf, entryOf}
+use Rattle.board_block.specs.View.{withTaken, withAll, withPins, noneTaken}
 use Rattle.board_block.specs.Promise.{TakesPins}
 use Rattle.board_block.specs.declared.Block as code
 use Rattle.board_block.specs.declared.TakenPins.{TakenPins}

@@ -169,9 +169,9 @@ OfRouting s ws = (dss : List (List Direction)) × IsRouting s ws dss
 -- ── 1 ──
 -- "Every accepted call .. gives exactly what document 01 lays down for its input, or, for a routing, one of those allowed there. Every refused
 -- call gives its number and place from the table, with the session and each lent buffer the same as before."
--- In each field but `names-stay`, `none-kept`, `two-turns`, `were-alike`, `read-off`, `same-page` and `as-untaken`, which are laws, and those called
--- rightly: the answer is the definition's, number and place included; what is handed back is the definition's; a refusal changes nothing, but for a
--- list of nets: "for this call alone a refusal leaves that much changed and no more" (document 02, §1).
+-- In each field but `board-stays`, `names-stay`, `none-kept`, `two-turns`, `were-alike`, `read-off`, `same-page` and `as-untaken`, which are laws,
+-- and those called rightly: the answer is the definition's, number and place included; what is handed back is the definition's; a refusal changes
+-- nothing, but for a list of nets: "for this call alone a refusal leaves that much changed and no more" (document 02, §1).
 pub record Demand1 : Type 0 where
   pub add : (s : Session) (n : Net) (r : AfterAdd) → AddPromise s n r
       → (addAnswer (r .answer) ≡ call (sessionOf s) (calls.add n) .answer) × (sessionOf (r .session) ≡ call (sessionOf s) (calls.add n) .next)
@@ -203,6 +203,8 @@ pub record Demand1 : Type 0 where
       × (sessionOf (r .session) ≡ call (sessionOf s) (calls.returnTo k) .next)
       × Returns (sessionOf s) k (returnAnswer (r .answer)) (sessionOf (r .session))
       × ((returnAnswer (r .answer) ≡ accepted → ⊥) → r .session ≡ s)
+  -- 02, §8: "Taken pins belong to the board": no call on a session changes either
+  pub board-stays : (s : machine.Session) (c : calls.Call) → call s c .next .block ≡ s .block
   -- what adds, lists of nets, withdrawals, take-backs, returns and keeps under other names do to a name: nothing
   pub names-stay : (s : machine.Session) (c : calls.Call) (k : ℕ) → (ChangesName k c → ⊥) → keptUnder k (call s c .next) ≡ keptUnder k s
   -- "a fresh, read or blank one has nothing kept": the sessions that `fresh`, `blank` and readings hand back, refused readings too

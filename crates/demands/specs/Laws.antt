@@ -24,6 +24,7 @@ use Rattle.session_laws.specs.Exact.{sound-exact}
 use Rattle.session_laws.specs.OneByOne.{one-by-one}
 use Rattle.session_laws.specs.Names.{keeps, returns, names-stay}
 use Rattle.session_laws.specs.Few.{few-nets}
+use Rattle.session_laws.specs.BoardStays.{board-stays}
 use Rattle.session_laws.specs.Untaken.{sound-untaken}
 use Rattle.session_laws.specs.Fine.{AllGood}
 use Rattle.session_laws.specs.Stays.{sound-fine}
@@ -157,6 +158,7 @@ demand-1 = record {
   take-back = λ s r P. (P .call .answers, P .call .next, P .kept);
   keep = λ s k r P. (P .call .answers, P .call .next, kept-by (sessionOf s) k (P .call .answers) (P .call .next), P .kept);
   return-to = λ s k r P. (P .call .answers, P .call .next, returned-by (sessionOf s) k (P .call .answers) (P .call .next), P .kept);
+  board-stays = board-stays;
   names-stay = λ s c k d. names-stay s c k d;
   none-kept = (
     λ b r P. ap (λ (m : machine.Session). m .names) (P .bare),

@@ -8,4 +8,5 @@ pub mod Names
 pub mod Stays
 pub mod OneByOne
 pub mod Few
+pub mod BoardStays
 pub mod Untaken

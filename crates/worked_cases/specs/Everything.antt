@@ -41,8 +41,8 @@ unfolding sum count select turn turns belowRight belowLeft aboveRight aboveLeft 
     rising? addable? liftable? lifts? allFine? sound? call
     boardWord asRow asTaken asNet asEnd routingWord asPath asRun asRoutingEnd runsOf pathWords pathsWords routingWords wordsIn bytesOf wordLines
     takeWords addListed readNets pinLines readParsed readWords readBytes boardWords writeBoard wordsRefused runsFrom pathsFrom walkSteps walkRuns
-    walkPath walkPaths directions edgesUsed turnsMade turnsAt tally turnsOfEach turnsOccurring knockKnee knockKnees knockKneeOfNets among? alike? equallyMany
-    judged judgeWords compareWords judgeBytes compareBytes onLine belowLine textLine page drawWords drawBytes editorDraw routeRefused
+    walkPath walkPaths directions edgesUsed turnsMade turnsAt tally turnsOfEach turnsOccurring knockKnee knockKnees knockKneeOfNets among? alike?
+    equallyMany judged judgeWords compareWords judgeBytes compareBytes onLine belowLine textLine page drawWords drawBytes editorDraw routeRefused
     after answers xor
     flatMap flatten
 everything = 0

@@ -1,0 +1,88 @@
+-- No call on a session changes its block: the board stays, and "Taken pins belong to the board" (document 02, §8).
+-- Assumes nothing.
+use mathlib.Core.Path.{_≡_, refl}
+use mathlib.Core.List.{List, [], _∷_}
+use mathlib.Core.Logic.{inl, inr}
+use mathlib.Core.Option.{Option, none, some}
+use Prim.Native.Nat.{ℕ, _+_}
+use lib.Dec.{leb}
+use Rattle.count.specs.TruthLaws.{bool}
+use Rattle.net.specs.declared.Net.{Net}
+use Rattle.net.specs.declared.Change.{Change}
+use Rattle.session_rules.specs.Refusal.{Refusal}
+use Rattle.session_rules.specs.Session.{lastName, Kept, Session, keptUnder, netOf}
+use Rattle.session_rules.specs.Add.{addRefused}
+use Rattle.session_rules.specs.Machine.{
+  Call,
+  add,
+  addAll,
+  withdraw,
+  takeBack,
+  keep,
+  returnTo,
+  Step,
+  accept,
+  stopOr,
+  addStep,
+  addAllStep,
+  withdrawStep,
+  takeBackStep,
+  ifName,
+  returnStep,
+  step,
+  added,
+  withdrawn,
+  takenBack,
+  stored,
+  returned,
+}
+use Rattle.session_rules.specs.Sound.{sound?, call}
+
+-- DEFINITION: the step leaves the block of s
+abbrev Leaves : Session → Step → Type 0
+Leaves s x = x .next .block ≡ s .block
+
+add-leaves : (r : Option Refusal) (n : Net) (s : Session) → Leaves s (addStep r n s)
+unfolding added
+add-leaves none n s = refl
+add-leaves (some r) n s = refl
+
+stop-leaves : (r : Option Refusal) (k : ℕ) (s : Session) (x : Step) → Leaves s x → Leaves s (stopOr r k s x)
+stop-leaves none k s x e = e
+stop-leaves (some r) k s x e = refl
+
+all-leave : (k : ℕ) (ns : List Net) (s : Session) → Leaves s (addAllStep k ns s)
+unfolding addAllStep added
+all-leave k [] s = refl
+all-leave k (n ∷ ns) s = stop-leaves (addRefused (s .block) (s .nets) n) k s (addAllStep (k + 1) ns (added n s)) (all-leave (k + 1) ns (added n s))
+
+withdraw-leaves : (n : Option Net) (s : Session) → Leaves s (withdrawStep n s)
+unfolding withdrawn
+withdraw-leaves none s = refl
+withdraw-leaves (some n) s = refl
+
+back-leaves : (cs : List Change) (s : Session) → Leaves s (takeBackStep cs s)
+unfolding takenBack
+back-leaves [] s = refl
+back-leaves (c ∷ cs) s = refl
+
+named-leaves : (k : ℕ) (s : Session) (x : Step) → Leaves s x → Leaves s (ifName k s x)
+named-leaves k s x e = elim (bool (leb k lastName)) [ inl f ↦ rw f e | inr f ↦ rw f refl ]
+
+return-leaves : (x : Kept) (s : Session) → Leaves s (returnStep x s)
+unfolding returned
+return-leaves none s = refl
+return-leaves (some ns) s = refl
+
+step-leaves : (s : Session) (c : Call) → Leaves s (step s c)
+unfolding step stored
+step-leaves s (add n) = add-leaves (addRefused (s .block) (s .nets) n) n s
+step-leaves s (addAll ns) = all-leave 0 ns s
+step-leaves s (withdraw k) = withdraw-leaves (netOf k (s .nets)) s
+step-leaves s takeBack = back-leaves (s .pile) s
+step-leaves s (keep k) = named-leaves k s (accept (stored k s)) refl
+step-leaves s (returnTo k) = named-leaves k s (returnStep (keptUnder k s) s) (return-leaves (keptUnder k s) s)
+
+pub board-stays : (s : Session) (c : Call) → call s c .next .block ≡ s .block
+unfolding call
+board-stays s c = elim (bool (sound? s)) [ inl e ↦ rw e (step-leaves s c) | inr e ↦ rw e refl ]
