@@ -2,7 +2,7 @@
 -- Assumes a problem on a convex board.
 use mathlib.Core.Path.{_≡_, ap}
 use mathlib.Core.List.{List, []}
-use Prim.Native.Nat.{_+_, _≤_}
+use Prim.Native.Nat.{ℕ, _+_, _≤_}
 use native.Mathlib.Omega.{arith}
 use Rattle.count.specs.Truth.{one}
 use Rattle.count.specs.TruthLaws.{one-le}
@@ -35,7 +35,7 @@ pub degree-le : (b : Board) (v : Vertex) → degree b v ≤ 4
 unfolding degree
 degree-le b v = omega (arith, one-le (edge? b Up v), one-le (edge? b Right v), one-le (edge? b Down v), one-le (edge? b Left v))
 
-module _ (b : Board) (ps : List Pair) (P : Problem b ps) where
+module _ (b : Board) {p : Vertex → ℕ} (ps : List Pair) (P : Problem b p ps) where
   nested : Nested b
   nested = lemma-1 b (P .within) .0 (P .convex) .0
 
@@ -60,7 +60,9 @@ module _ (b : Board) (ps : List Pair) (P : Problem b ps) where
   problem-loose = record {
     shaped = problem-shaped;
     stand = all-map problem-here ps (P .stand);
-    few = λ l c h. omega (arith, problem-count ps (at l c) h, P .pins (at l c) (problem-vertex (at l c) h), degree-le b (at l c));
+    few = λ l c h.
+        let v = problem-vertex (at l c) h in
+        omega (arith, problem-count ps (at l c) h, P .room (at l c) v, P .never-above (at l c) v, degree-le b (at l c));
   }
 
   -- the cut condition, in the two ways
@@ -78,7 +80,7 @@ module _ (b : Board) (ps : List Pair) (P : Problem b ps) where
   shape-disjoint qs D = record { trails = D .trails; once = λ e. omega (arith, D .once e, ap one (joined-board b (P .within) nested regrow e)) }
 
 -- where no vertex is odd and no cut overfull the problem is good
-pub problem-placed : (b : Board) (ps : List Pair) → Problem b ps → oddVertices b ps ≡ [] → Placed (linesOf b) ps
+pub problem-placed : (b : Board) {p : Vertex → ℕ} (ps : List Pair) → Problem b p ps → oddVertices b ps ≡ [] → Placed (linesOf b) ps
 problem-placed b ps P z = record {
   shaped = L .shaped;
   stand = L .stand;
@@ -91,10 +93,12 @@ problem-placed b ps P z = record {
     L : Loose (linesOf b) ps
     L = problem-loose b ps P
 
-pub problem-good : (b : Board) (ps : List Pair) → Problem b ps → oddVertices b ps ≡ [] → overfullCuts b ps ≡ [] → Good (linesOf b) ps
+pub problem-good : (b : Board) {p : Vertex → ℕ} (ps : List Pair) → Problem b p ps → oddVertices b ps ≡ [] → overfullCuts b ps ≡ []
+    → Good (linesOf b) ps
 problem-good b ps P z e = good (linesOf b) ps (problem-placed b ps P z) (shape-cuts b ps P ps (overfull-none b ps (P .within) (P .stand) e))
 
 -- a routing of the shape is one of the board
-pub shape-routing : (b : Board) (ps : List Pair) → Problem b ps → (R : Routed (joined (linesOf b)) ps) → Routing b ps (pathsOf ps (R .trails))
+pub shape-routing : (b : Board) {p : Vertex → ℕ} (ps : List Pair) → Problem b p ps → (R : Routed (joined (linesOf b)) ps)
+    → Routing b ps (pathsOf ps (R .trails))
 unfolding board-routed
 shape-routing b ps P R = routed-routing b ps (board-routed b ps P ps R)

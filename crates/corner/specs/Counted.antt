@@ -55,7 +55,7 @@ module _ (b : Board) (P : Vertex → ℕ) (few : (v : Vertex) → P v ≤ pins b
     pins-stand ps (λ v. omega (arith, h v)),
   )
 
-  -- and no vertex has more than 4 minus its degree
-  pub pins-room : (ps : List Pair) → ((v : Vertex) → terminals ps v ≤ P v) → (v : Vertex) → IsVertex b v → terminals ps v ≤ 4 - degree b v
+  -- and no vertex has more pins than 4 minus its degree
+  pub pins-never-above : (v : Vertex) → IsVertex b v → P v ≤ 4 - degree b v
   unfolding pins
-  pins-room ps h v k = let e : pins b v ≡ 4 - degree b v = rw (vertex-exact b v .1 k) refl in omega (arith, h v, few v)
+  pins-never-above v k = let e : pins b v ≡ 4 - degree b v = rw (vertex-exact b v .1 k) refl in omega (arith, few v)

@@ -66,12 +66,13 @@ cell-pins : (v : Vertex) → IsVertex cell v → terminals twice v ≤ 4 - degre
 unfolding degree edge? aboveLeft aboveRight belowLeft belowRight terminals
 cell-pins v h = corners (λ u. terminals twice u ≤ 4 - degree cell u) (omega arith) (omega arith) (omega arith) (omega arith) v h
 
-cell-problem : Problem cell twice
+cell-problem : Problem cell (λ v. 4 - degree cell v) twice
 cell-problem = record {
   within = cell-within;
   convex = lemma-1 cell cell-within .1 (cell-nested, cell-regrow);
+  never-above = λ v h. omega arith;
   stand = ((0, 0, only, top-left), (0, 0, only, bottom-right), ((0, 0, only, top-left), (0, 0, only, bottom-right), tt));
-  pins = cell-pins;
+  room = cell-pins;
 }
 
 cell-even : oddVertices cell twice ≡ []

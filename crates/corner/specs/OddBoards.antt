@@ -1,8 +1,9 @@
 -- Boards with odd vertices: nets can be joined exactly when some pairing of the odd vertices by helper pairs leaves no cut overfull.
--- Assumes a problem on a convex board, whose vertices may be odd.
+-- Assumes a problem on a convex board, over any pin count that is never above 4 minus the degree; its vertices may be odd.
 use mathlib.Core.Path.{_≡_, ap, _∙_, sym}
 use mathlib.Core.List.{List, [], _++_}
 use mathlib.Core.Logic.{_↔_}
+use Prim.Native.Nat.{ℕ}
 use native.Mathlib.Omega.{arith}
 use Rattle.count.specs.Truth.{one}
 use Rattle.board.specs.Board.{Board, IsVertex}
@@ -36,7 +37,7 @@ use Rattle.corner.specs.Boards.{
   shape-routing,
 }
 
-module _ (b : Board) (ps : List Pair) (P : Problem b ps) where
+module _ (b : Board) {p : Vertex → ℕ} (ps : List Pair) (P : Problem b p ps) where
   odd-one : (v : Vertex) → Here (linesOf b) v → one (oddAt (linesOf b) ps v) ≡ one (odd? b ps v)
   odd-one v h = ap (λ n. one (oddNumber n)) (problem-count b ps P ps v h) ∙ sym (ap one (odd-at b ps v (problem-vertex b ps P v h)))
 

@@ -2,7 +2,7 @@
 use mathlib.Core.Path.{_≡_}
 use mathlib.Core.List.{List, [], _++_}
 use mathlib.Core.Logic.{_⊎_}
-use Prim.Native.Nat.{_+_, _-_, _≤_}
+use Prim.Native.Nat.{ℕ, _+_, _-_, _≤_}
 use Rattle.count.specs.Truth.{one}
 use Rattle.board.specs.Board.{Board, Within, edge, IsVertex, IsEdge}
 use Rattle.board.specs.Degree.{degree}
@@ -16,14 +16,15 @@ use Rattle.count.specs.Parity.{Even}
 use Rattle.corner.specs.Pairs.{All}
 use Rattle.board.specs.Path.{Convex}
 
--- pairs to be joined on a convex board
-pub record Problem (b : Board) (ps : List Pair) : Type 0 where
+-- pairs to be joined on a convex board, where a vertex v has p v pins: 02, §9, "over the pin count as a parameter, never above 4 minus the degree"
+pub record Problem (b : Board) (p : Vertex → ℕ) (ps : List Pair) : Type 0 where
   -- the board is within the limits and convex
   pub within : Within b
   pub convex : Convex b
-  -- every terminal is a vertex, and a vertex of degree d has at most 4 - d of them
+  pub never-above : (v : Vertex) → IsVertex b v → p v ≤ 4 - degree b v
+  -- every terminal is a vertex, and no vertex has more terminals than pins
   pub stand : All (IsVertex b) ps
-  pub pins : (v : Vertex) → IsVertex b v → terminals ps v ≤ 4 - degree b v
+  pub room : (v : Vertex) → IsVertex b v → terminals ps v ≤ p v
 
 -- ── evenness and the cut condition, in numbers ──
 abbrev pub AllEven : Board → List Pair → Type 0

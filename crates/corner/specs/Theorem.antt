@@ -1,12 +1,15 @@
 -- The theorem of document 004 (Nishizeki, Saito, Suzuki, 1985): on an even convex board the nets can be joined by pairwise
 -- edge-disjoint paths exactly when no row or column is overfull. `Problem` (in Problem) is what is assumed beside evenness: the board is
--- within the limits and convex, every terminal is a vertex, and a vertex of degree d has at most 4 - d terminals.
+-- within the limits and convex, every terminal is a vertex, and no vertex v has more than p v terminals, whatever pin count p gives it, never above
+-- 4 minus its degree.
 use mathlib.Core.Path.{_≡_}
 use mathlib.Core.List.{List, []}
 use mathlib.Core.Logic.{_↔_}
+use Prim.Native.Nat.{ℕ}
 use native.Mathlib.Omega.{arith}
 use Rattle.board.specs.Board.{Board, Within}
 use Rattle.board.specs.declared.Direction.{Direction}
+use Rattle.board.specs.declared.Vertex.{Vertex}
 use Rattle.net.specs.declared.Pair.{Pair}
 use Rattle.cut.specs.declared.Cut.{Cut}
 use Rattle.cut.specs.Cut.{Overfull, overfullCuts}
@@ -24,7 +27,7 @@ use Rattle.corner.specs.Overfull.{overfull-count, not-overfull, none-ove
 use Rattle.corner.specs.Boards.{problem-good, shape-routing}
 
 -- Enough: where no cut is overfull there is a routing, which uses no edge twice.
-pub routing : (b : Board) (ps : List Pair) → Problem b ps → oddVertices b ps ≡ [] → overfullCuts b ps ≡ []
+pub routing : (b : Board) {p : Vertex → ℕ} (ps : List Pair) → Problem b p ps → oddVertices b ps ≡ [] → overfullCuts b ps ≡ []
     → (dss : List (List Direction)) × Routing b ps dss
 routing b ps P z e = let R = good-routed (linesOf b) ps (problem-good b ps P z e) in (pathsOf ps (R .trails), shape-routing b ps P R)
 
@@ -42,5 +45,5 @@ pub needed-cuts : (b : Board) (ps : List Pair) → Within b → Routable b ps �
 needed-cuts b ps W R = none-overfull b ps (λ X. not-overfull b ps X (needed b ps W R X))
 
 -- Exactly when.
-pub routable : (b : Board) (ps : List Pair) → Problem b ps → oddVertices b ps ≡ [] → Routable b ps ↔ (overfullCuts b ps ≡ [])
+pub routable : (b : Board) {p : Vertex → ℕ} (ps : List Pair) → Problem b p ps → oddVertices b ps ≡ [] → Routable b ps ↔ (overfullCuts b ps ≡ [])
 routable b ps P z = (needed-cuts b ps (P .within), λ e. let r = routing b ps P z e in routing-routable b ps (r .0) (r .1))

@@ -4,7 +4,7 @@ use mathlib.Core.Path.{_≡_, ap, _∙_, sym}
 use mathlib.Core.Bool.{false}
 use mathlib.Core.List.{List, [], _∷_}
 use mathlib.Core.Logic.{inl, inr}
-use Prim.Native.Nat.{_+_, _*_, _≤_}
+use Prim.Native.Nat.{ℕ, _+_, _*_, _≤_}
 use native.Mathlib.Omega.{arith}
 use lib.ListN.{length}
 use Rattle.count.specs.Truth.{one}
@@ -55,14 +55,14 @@ none-off b ps a v e = terminals-standing ps v ∙ standing-none (IsVertex b) (sa
     elsewhere u h = not-true (same v u) (λ s. clash (vertex-exact b u .1 h) (ap (vertex? b) (sym (same-exact v u .0 s)) ∙ e))
 
 -- ── each takes a pin ──
-module _ (b : Board) (ps hs : List Pair) (P : Problem b ps) (H : Helpers b ps hs) where
+module _ (b : Board) {p : Vertex → ℕ} (ps hs : List Pair) (P : Problem b p ps) (H : Helpers b ps hs) where
   -- a helper pair ends at odd vertices only, and where degree and terminals together are odd they are not 4: a pin is to spare
   on-pins : (v : Vertex) → terminals ps v + terminals hs v ≤ pins b v
   on-pins v = elim (bool (vertex? b v)) [
     | inr e ↦ omega (arith, none-off b ps (P .stand) v e, none-off b hs (H .stand) v e)
     | inl e ↦
         let k = vertex-exact b v .0 e in
-        let g = degree-range b v k in let t = P .pins v k in let q = pins-degree b v in let x = ap one e in
+        let g = degree-range b v k in let t = P .room v k in let n = P .never-above v k in let q = pins-degree b v in let x = ap one e in
         let y = H .each v k in let z = ap one (odd-at b ps v k) in
         elim (odd-case (degree b v + terminals ps v)) [
           | inl m ↦ omega (arith, ap one (m .2), m .1)

@@ -10,6 +10,7 @@ use native.Mathlib.Omega.{arith}
 use lib.ListN.{length}
 use Rattle.count.specs.TruthLaws.{bool}
 use Rattle.board.specs.Board.{Board, Within}
+use Rattle.board.specs.declared.Vertex.{Vertex}
 use Rattle.net.specs.declared.Pair.{Pair}
 use Rattle.cut.specs.Cut.{overfullCuts}
 use Rattle.cut.specs.Odd.{oddVertices}
@@ -61,7 +62,7 @@ module _ (b : Board) (ps : List Pair) where
         go (some hs) h = absurd (h hs refl)
 
   -- and so the nets can be joined exactly where they are found
-  module _ (P : Problem b ps) where
+  module _ {p : Vertex → ℕ} (P : Problem b p ps) where
     pub routable-some : Routable b ps ↔ ((hs : List Pair) × (helpers b ps ≡ some hs))
     routable-some = (
       λ r. helpers-some (P .within) .1 (odd-routable b ps P .0 r),

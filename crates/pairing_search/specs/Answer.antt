@@ -8,6 +8,7 @@ use Prim.Native.Nat.{ℕ}
 use native.Mathlib.Omega.{arith}
 use lib.ListN.{length, take}
 use Rattle.board.specs.Board.{Board}
+use Rattle.board.specs.declared.Vertex.{Vertex}
 use Rattle.net.specs.declared.Pair.{Pair}
 use Rattle.cut.specs.Cut.{overfullCuts}
 use Rattle.cut.specs.Odd.{oddVertices}
@@ -40,7 +41,7 @@ module _ (b : Board) (ps : List Pair) (roomy : overfullCuts b ps ≡ []) (o : Od
       record { few = omega arith; long = l; exact = rw (e, f) unneeded; whole = w ∙ ap foundOf unneeded }
 
 -- what the answer says
-module _ (b : Board) (ps : List Pair) (P : Problem b ps) (r : FoundPairs) (H : Helps b ps r) where
+module _ (b : Board) {p : Vertex → ℕ} (ps : List Pair) (P : Problem b p ps) (r : FoundPairs) (H : Helps b ps r) where
   pub answer-helpers : r .found ≡ true
       → Helpers b ps (take (r .count) (r .pairs)) × (overfullCuts b (take (r .count) (r .pairs) ++ ps) ≡ [])
   answer-helpers e = helpers-found b ps (P .within) (take (r .count) (r .pairs)) (sym (H .exact) ∙ rw e refl)
