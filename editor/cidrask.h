@@ -2,10 +2,12 @@
  *
  * Boards. A board is 1 to 31 rows of unit cells, row 0 at the top; a row runs from column left to column right, 0 <= left < right <= 31. The corners
  * of its cells are the vertices and their sides the edges. A vertex is written (line, column); line i is the top of row i. A board is convex when of
- * any two rows one contains the other, and widths never shrink and then grow again from top to bottom. A vertex of degree d has 4 - d pins, of which
- * the package may have taken some; it takes as many terminals as pins are left. It is odd when d plus its terminals is odd, whatever pins are taken.
- * A net has a number from 1 to 64 and a first and a second terminal. Row i has the vertical edges of its cells, column j the horizontal edges between
- * columns j and j + 1; a net crosses it when its terminals lie on different sides. Reading order is line by line and column by column.
+ * any two rows one contains the other, and widths never shrink and then grow again from top to bottom. A board has a rule book, 0 the old rule or 1
+ * the new. A vertex of degree d has 4 - d pins, but under the new rule one of degree 2 has one pin. Of these the package may have taken some; it
+ * takes as many terminals as pins are left. It is odd when d plus its terminals is odd, whatever the book and the pins that are taken. Nets that a
+ * board takes are routed, and lists for them judged, compared and drawn, in the same way under both books. A net has a number from 1 to 64 and a
+ * first and a second terminal. Row i has the vertical edges of its cells, column j the horizontal edges between columns j and j + 1; a net crosses
+ * it when its terminals lie on different sides. Reading order is line by line and column by column.
  *
  * Words. A word is four bytes, lowest first; bits not named are 0. A board is a row word for each row from the top, a taken word for each vertex
  * with taken pins, in reading order and no vertex twice, a net word for each net in rising number, and an end word: at most 224 words. A routing is
@@ -14,7 +16,7 @@
  *   row            31-28 = 1, 9-5 left, 4-0 right
  *   taken          31-28 = 3, 11-10 how many pins are taken (1 or 2), 9-5 line and 4-0 column of the vertex
  *   net            31-28 = 2, 27-20 number, 19-15 line and 14-10 column of the first terminal, 9-5 line and 4-0 column of the second
- *   board's end    31-28 = 15, 15-8 count of rows, 7-0 count of nets
+ *   board's end    31-28 = 15, 27-24 rule book (0 or 1), 15-8 count of rows, 7-0 count of nets
  *   path           31-28 = 4, 27-20 net number, 10-0 count of run words that follow
  *   run            31-28 = 5, 27-26 direction (0 up, 1 right, 2 down, 3 left), 4-0 length 1 to 31
  *   routing's end  31-28 = 14, 7-0 count of paths
@@ -36,7 +38,7 @@
  *   10  the count of the board's bytes, or of a list's, is not a multiple of 4        0
  *   11  the board has no words or more than 224                                       0
  *   12  a board word of another kind, or with an unnamed bit set, or a taken word
- *       that takes 0 or 3 pins                                                        its index
+ *       that takes 0 or 3 pins, or an end word whose rule book is 2 to 15             its index
  *   13  the first word is no row, a row comes after a taken word or a net, a taken
  *       word after a net or with a vertex that is not after the last one's in reading
  *       order, a net's number is not above the last one's, or a word comes after the
@@ -45,13 +47,13 @@
  *   14  a row whose left is not below its right, or a 32nd row                        its index
  *   15  a count of the end word differs                                               its index
  *   16  the board is not convex                                                       0
- *   38  a taken word's vertex is missing, or has fewer pins, before any are taken,
- *       than the word takes                                                           its index
+ *   38  a taken word's vertex is missing, or has fewer pins by the board's book,
+ *       before any are taken, than the word takes                                     its index
  *   21  a net's number is not 1 to 64                                                 its word's index
  *   23  a terminal is no vertex                                                       its word's index
  *   24  both terminals are one vertex                                                 its word's index
- *   25  a terminal has no pin, or none that is left by the taken pins and the nets
- *       before                                                                        its word's index
+ *   25  a terminal has no pin by the board's book, or none that is left by the taken
+ *       pins and the nets before                                                      its word's index
  *   31  the buffer has room for fewer than 2,049 words                                0
  *   32  more than 12 vertices are odd: the first in reading order                     its line; its column
  *   33  a row or column is crossed by more nets than it has edges: the first, rows

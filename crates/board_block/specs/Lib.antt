@@ -1,3 +1,4 @@
+pub mod Book
 pub mod Block
 pub mod Taken
 pub mod View

@@ -14,6 +14,7 @@ use Rattle.board_block.specs.declared.TakenPins.{TakenPins}
 pub record TakesPins (b : code.Block) (t : TakenPins) (r : code.Block) : Type 0 where
   pub value : r ≡ withPins b t
   pub board : blockOf r .board ≡ blockOf b .board
+  pub book : blockOf r .book ≡ blockOf b .book
   -- of every other vertex as many as before
   pub pins : t .vertex .line < 32 → t .vertex .column < 32 → (v : Vertex)
       → takenAt (blockOf r .taken) v ≡ cond (same (t .vertex) v) (t .count) (takenAt (blockOf b .taken) v)

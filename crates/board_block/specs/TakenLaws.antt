@@ -12,39 +12,41 @@ use Rattle.count.specs.TruthLaws as truth
 use Rattle.count.specs.TruthLaws.{bool, and-true, or-true, or-false}
 use Rattle.count.specs.Each.{Each}
 use Rattle.board.specs.Board.{Board}
-use Rattle.board.specs.Degree.{vertex?, pins}
+use Rattle.board.specs.Degree.{vertex?}
 use Rattle.board.specs.declared.Vertex.{Vertex}
 use Rattle.net.specs.Terminals.{same}
 use Rattle.net.specs.Same.{same-exact}
+use Rattle.board_block.specs.Book.{pinsBy}
 use Rattle.board_block.specs.Block.{takenAt}
 use Rattle.board_block.specs.Taken.{comesBefore, inOrder?, oneOrTwo, overTaken, allThere?}
+use Rattle.board_block.specs.declared.Book.{Book}
 use Rattle.board_block.specs.declared.TakenPins.{TakenPins}
 
 -- ── the pins of one vertex ──
 -- DEFINITION: at a vertex of the board, one or two, and no more than it has
-pub record There (b : Board) (t : TakenPins) : Type 0 where
+pub record There (k : Book) (b : Board) (t : TakenPins) : Type 0 where
   pub vertex : vertex? b (t .vertex) ≡ true
   pub count : oneOrTwo (t .count) ≡ true
   pub some : 1 ≤ t .count
-  pub most : t .count ≤ pins b (t .vertex)
+  pub most : t .count ≤ pinsBy k b (t .vertex)
 
-there : (b : Board) (t : TakenPins) → oneOrTwo (t .count) && not (overTaken b t) ≡ true → There b t
-there b t e =
-    let k = and-true (oneOrTwo (t .count)) (not (overTaken b t)) e in
-    let o = or-false (not (vertex? b (t .vertex))) (ltb (pins b (t .vertex)) (t .count)) (not-true (overTaken b t) (k .1)) in
+there : (k : Book) (b : Board) (t : TakenPins) → oneOrTwo (t .count) && not (overTaken k b t) ≡ true → There k b t
+there k b t e =
+    let x = and-true (oneOrTwo (t .count)) (not (overTaken k b t)) e in
+    let o = or-false (not (vertex? b (t .vertex))) (ltb (pinsBy k b (t .vertex)) (t .count)) (not-true (overTaken k b t) (x .1)) in
     record {
       vertex = not-false (vertex? b (t .vertex)) (o .0);
-      count = k .0;
-      some = leb-true 1 (t .count) (and-true (leb 1 (t .count)) (leb (t .count) 2) (k .0) .0);
-      most = ltb-false (pins b (t .vertex)) (t .count) (o .1);
+      count = x .0;
+      some = leb-true 1 (t .count) (and-true (leb 1 (t .count)) (leb (t .count) 2) (x .0) .0);
+      most = ltb-false (pinsBy k b (t .vertex)) (t .count) (o .1);
     }
 
-pub taken-vertices : (b : Board) (ts : List TakenPins) → allThere? b ts ≡ true → Each (There b) ts
+pub taken-vertices : (k : Book) (b : Board) (ts : List TakenPins) → allThere? k b ts ≡ true → Each (There k b) ts
 unfolding allThere?
-taken-vertices b [] e = tt
-taken-vertices b (t ∷ ts) e =
-    let k = and-true (oneOrTwo (t .count) && not (overTaken b t)) (allThere? b ts) e in
-    (there b t (k .0), taken-vertices b ts (k .1))
+taken-vertices k b [] e = tt
+taken-vertices k b (t ∷ ts) e =
+    let x = and-true (oneOrTwo (t .count) && not (overTaken k b t)) (allThere? k b ts) e in
+    (there k b t (x .0), taken-vertices k b ts (x .1))
 
 -- ── reading order ──
 -- DEFINITION: u comes before v
@@ -100,17 +102,18 @@ after-first t (u ∷ us) o =
     let k = and-true (comesBefore (t .vertex) (u .vertex)) (inOrder? (u ∷ us)) o in (before-of (t .vertex) (u .vertex) (k .0), k .1)
 
 -- ── no more than there are ──
-pub taken-most : (b : Board) (ts : List TakenPins) (v : Vertex) → inOrder? ts ≡ true → allThere? b ts ≡ true → takenAt ts v ≤ pins b v
+pub taken-most : (k : Book) (b : Board) (ts : List TakenPins) (v : Vertex) → inOrder? ts ≡ true → allThere? k b ts ≡ true
+    → takenAt ts v ≤ pinsBy k b v
 unfolding takenAt allThere?
-taken-most b [] v o e = omega arith
-taken-most b (t ∷ ts) v o e =
-    let k = and-true (oneOrTwo (t .count) && not (overTaken b t)) (allThere? b ts) e in
+taken-most k b [] v o e = omega arith
+taken-most k b (t ∷ ts) v o e =
+    let x = and-true (oneOrTwo (t .count) && not (overTaken k b t)) (allThere? k b ts) e in
     let f = after-first t ts o in
     elim (bool (same (t .vertex) v)) [
       | inl s ↦
           let u = same-exact (t .vertex) v .0 s in
           let z : takenAt ts v ≡ 0 = rw (← u) (nothing-behind (t .vertex) ts (f .0) (f .1)) in
-          let m : t .count ≤ pins b v = rw (← u) (there b t (k .0) .most) in
+          let m : t .count ≤ pinsBy k b v = rw (← u) (there k b t (x .0) .most) in
           rw s (omega arith)
-      | inr s ↦ rw s (let r = taken-most b ts v (f .1) (k .1) in omega arith)
+      | inr s ↦ rw s (let r = taken-most k b ts v (f .1) (x .1) in omega arith)
     ]

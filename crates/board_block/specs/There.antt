@@ -15,21 +15,23 @@ use Rattle.board.specs.Board.{Board}
 use Rattle.board.specs.declared.Vertex.{Vertex}
 use Rattle.board_block.specs.Taken.{allThere?}
 use Rattle.board_block.specs.View.{vertexAt, takenThen, takenFrom, thereAt}
+use Rattle.board_block.specs.declared.Book.{Book}
 use Rattle.board_block.specs.declared.TakenPins.{TakenPins}
 
-there-then : (b : Board) (v : Vertex) (k : ℕ) (ts : List TakenPins) → allThere? b (takenThen v k ts) ≡ thereAt b v k && allThere? b ts
+there-then : (k : Book) (b : Board) (v : Vertex) (n : ℕ) (ts : List TakenPins)
+    → allThere? k b (takenThen v n ts) ≡ thereAt k b v n && allThere? k b ts
 unfolding allThere?
-there-then b v zero ts = refl
-there-then b v (suc k) ts = rw (le-leb 1 (suc k) (omega arith), ne-eqb (suc k) 0 (λ e. omega arith)) refl
+there-then k b v zero ts = refl
+there-then k b v (suc n) ts = rw (le-leb 1 (suc n) (omega arith), ne-eqb (suc n) 0 (λ e. omega arith)) refl
 
-module _ (b : Board) (a : List ℕ) where
-  pub there-next : (i : ℕ) (ok this was : Bool) → i < length a → this ≡ thereAt b (vertexAt i) (getD a i 0)
-      → ok && allThere? b (takenFrom i (drop i a)) ≡ was → (ok && this) && allThere? b (takenFrom (i + 1) (drop (i + 1) a)) ≡ was
+module _ (k : Book) (b : Board) (a : List ℕ) where
+  pub there-next : (i : ℕ) (ok this was : Bool) → i < length a → this ≡ thereAt k b (vertexAt i) (getD a i 0)
+      → ok && allThere? k b (takenFrom i (drop i a)) ≡ was → (ok && this) && allThere? k b (takenFrom (i + 1) (drop (i + 1) a)) ≡ was
   unfolding takenFrom
   there-next i ok this was h e inv =
-      rw (e, and-assoc, add-one i) (rw (drop-cons a i 0 h, there-then b (vertexAt i) (getD a i 0) (takenFrom (suc i) (drop (suc i) a))) at inv)
+      rw (e, and-assoc, add-one i) (rw (drop-cons a i 0 h, there-then k b (vertexAt i) (getD a i 0) (takenFrom (suc i) (drop (suc i) a))) at inv)
 
-  pub there-last : (i : ℕ) (ok was : Bool) → i ≡ length a → ok && allThere? b (takenFrom i (drop i a)) ≡ was → ok ≡ was
+  pub there-last : (i : ℕ) (ok was : Bool) → i ≡ length a → ok && allThere? k b (takenFrom i (drop i a)) ≡ was → ok ≡ was
   unfolding takenFrom allThere?
   there-last i ok was e inv = sym (and-none ok) ∙ (rw (e, drop-length a) at inv)
     where

@@ -13,6 +13,8 @@ use Rattle.net.specs.Grid.{changedAt}
 use Rattle.board_block.specs.Block.{Block}
 use Rattle.board_block.specs.Taken.{overTaken}
 use Rattle.board_block.specs.declared.Block as code
+use Rattle.board_block.specs.declared.Book.{Book}
+use Rattle.board_block.specs.declared.Book.the-variants.{Old}
 use Rattle.board_block.specs.declared.TakenPins.{TakenPins}
 
 -- the place of a vertex, and the vertex of a place
@@ -35,20 +37,20 @@ takenFrom i (k ∷ ks) = takenThen (vertexAt i) k (takenFrom (suc i) ks)
 abbrev pub takenOf : List ℕ → List TakenPins
 takenOf a = takenFrom 0 a
 
--- a board and an array together
-abbrev pub blockBy : Board → List ℕ → Block
-blockBy b a = record { board = b; taken = takenOf a }
+-- a book, a board and an array together
+abbrev pub blockBy : Book → Board → List ℕ → Block
+blockBy k b a = record { board = b; book = k; taken = takenOf a }
 
 abbrev pub blockOf : code.Block → Block
-blockOf b = blockBy (boardOf (b .board)) (b .taken)
+blockOf b = blockBy (b .book) (boardOf (b .board)) (b .taken)
 
 -- what the array has of v; outside lines and columns 0 to 31 it has nothing
 abbrev pub entryOf : List ℕ → Vertex → ℕ
 entryOf a v = cond (ltb (v .line) 32) (cond (ltb (v .column) 32) (getD a (placeOf v) 0) 0) 0
 
 -- so many pins of v are there to be taken; where none are, nothing is asked
-abbrev pub thereAt : Board → Vertex → ℕ → Bool
-thereAt b v k = cond (eqb k 0) true (leb k 2 && not (overTaken b (record { vertex = v; count = k })))
+abbrev pub thereAt : Book → Board → Vertex → ℕ → Bool
+thereAt k b v n = cond (eqb n 0) true (leb n 2 && not (overTaken k b (record { vertex = v; count = n })))
 
 -- ── values ──
 -- the array of a board of which no pin is taken
@@ -65,8 +67,12 @@ withAll a (t ∷ ts) = withAll (withTaken a t) ts
 
 -- the block with these taken pins, in place of what was taken of their vertex
 abbrev pub withPins : code.Block → TakenPins → code.Block
-withPins b t = record { board = b .board; taken = withTaken (b .taken) t }
+withPins b t = record { board = b .board; book = b .book; taken = withTaken (b .taken) t }
+
+-- the block under another book
+abbrev pub withBook : code.Block → Book → code.Block
+withBook b k = record { board = b .board; book = k; taken = b .taken }
 
 -- the value for a board by itself
 abbrev pub plainOf : code-board.Board → code.Block
-plainOf b = record { board = b; taken = noneTaken }
+plainOf b = record { board = b; book = Old; taken = noneTaken }

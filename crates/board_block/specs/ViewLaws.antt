@@ -13,18 +13,19 @@ use lib.Seq.{getD-set-other}
 use borrow.Author.Tests.{lt-ltb, le-ltb, eq-eqb, ltb-true, ltb-false, eqb-true}
 use Rattle.count.specs.TruthLaws.{bool, not-true, and-true, and-yes, or-true, le-or-lt}
 use Rattle.board.specs.Board.{Board}
-use Rattle.board.specs.Degree.{pins}
 use Rattle.board.specs.declared.Vertex.{Vertex}
 use Rattle.net.specs.Terminals.{same}
 use Rattle.net.specs.Same.{same-exact}
 use Rattle.net.specs.Grid.{changedAt}
 use Rattle.net.specs.GridLaws.{length-changed, changed-same, changed-other}
+use Rattle.board_block.specs.Book.{pinsBy}
 use Rattle.board_block.specs.Block.{takenAt, pinsOf}
 use Rattle.board_block.specs.Taken.{comesBefore, inOrder?}
 use Rattle.board_block.specs.View.{placeOf, vertexAt, takenThen, takenFrom, takenOf, blockBy, blockOf, entryOf}
 use Rattle.board_block.specs.View.{withTaken, withAll, withPins, noneTaken}
 use Rattle.board_block.specs.Promise.{TakesPins}
 use Rattle.board_block.specs.declared.Block as code
+use Rattle.board_block.specs.declared.Book.{Book}
 use Rattle.board_block.specs.declared.TakenPins.{TakenPins}
 
 -- ── places ──
@@ -94,9 +95,10 @@ entry-taken a v l = elim (bool (ltb (v .line) 32)) [
 ]
 
 -- the pins that are left by an array's entry are those of the board with that array
-pub left-pins : (b : Board) (a : List ℕ) (v : Vertex) → v .line < 32 → v .column < 32 → pins b v - entryOf a v ≡ pinsOf (blockBy b a) v
+pub left-pins : (k : Book) (b : Board) (a : List ℕ) (v : Vertex) → v .line < 32 → v .column < 32
+    → pinsBy k b v - entryOf a v ≡ pinsOf (blockBy k b a) v
 unfolding pinsOf
-left-pins b a v p q = rw (lt-ltb (v .line) 32 p, lt-ltb (v .column) 32 q, taken-here a v q) refl
+left-pins k b a v p q = rw (lt-ltb (v .line) 32 p, lt-ltb (v .column) 32 q, taken-here a v q) refl
 
 -- ── reading order ──
 before-later : (i j : ℕ) → i < j → comesBefore (vertexAt i) (vertexAt j) ≡ true
@@ -276,6 +278,7 @@ unfolding changedAt
 takes-pins b t r l e = record {
   value = e;
   board = ap (λ (x : code.Block). blockOf x .board) e;
+  book = ap (λ (x : code.Block). blockOf x .book) e;
   pins = λ p q v. rw e (taken-after (b .taken) t v l p q);
   beyond = λ o. e ∙ elim o [
     | inl p ↦ rw (le-ltb (t .vertex .line) 32 p) refl

@@ -9,6 +9,7 @@ use Prim.Native.Nat.{ℕ, suc}
 use Rattle.board.specs.Board.{Board}
 use Rattle.board_block.specs.Taken.{overTaken}
 use Rattle.board_block.specs.View.{noneTaken, withTaken, withAll}
+use Rattle.board_block.specs.declared.Book.{Book}
 use Rattle.board_block.specs.declared.TakenPins.{TakenPins}
 use Rattle.session_rules.specs.Refusal.{refusal, Line, line, firstRefusal}
 use Rattle.words.specs.BoardWord.{boardWord}
@@ -30,26 +31,26 @@ pinsIn [] = []
 pinsIn (w ∷ ws) = pinsThen (boardWord w) (pinsIn ws)
 
 -- 38 for the taken pins of the word at index i, before the other lines
-abbrev pub lineThen : Board → ℕ → BoardWord → List Line → List Line
-lineThen b i (word.Row r) ls = ls
-lineThen b i (word.Taken p) ls = line (overTaken b p) 38 i ∷ ls
-lineThen b i (word.Net n) ls = ls
-lineThen b i (word.End c) ls = ls
-lineThen b i word.Unknown ls = ls
+abbrev pub lineThen : Book → Board → ℕ → BoardWord → List Line → List Line
+lineThen k b i (word.Row r) ls = ls
+lineThen k b i (word.Taken p) ls = line (overTaken k b p) 38 i ∷ ls
+lineThen k b i (word.Net n) ls = ls
+lineThen k b i (word.End c) ls = ls
+lineThen k b i word.Unknown ls = ls
 
 -- for those of the words from index i on
-unfoldable pub linesIn : Board → ℕ → List ℕ → List Line
-linesIn b i [] = []
-linesIn b i (w ∷ ws) = lineThen b i (boardWord w) (linesIn b (suc i) ws)
+unfoldable pub linesIn : Book → Board → ℕ → List ℕ → List Line
+linesIn k b i [] = []
+linesIn k b i (w ∷ ws) = lineThen k b i (boardWord w) (linesIn k b (suc i) ws)
 
 -- ── one word ──
 -- 38 is due
-abbrev pub overWord : Board → BoardWord → Bool
-overWord b (word.Row r) = false
-overWord b (word.Taken p) = overTaken b p
-overWord b (word.Net n) = false
-overWord b (word.End c) = false
-overWord b word.Unknown = false
+abbrev pub overWord : Book → Board → BoardWord → Bool
+overWord k b (word.Row r) = false
+overWord k b (word.Taken p) = overTaken k b p
+overWord k b (word.Net n) = false
+overWord k b (word.End c) = false
+overWord k b word.Unknown = false
 
 -- the array with the taken pins of a word
 abbrev pub withWord : List ℕ → BoardWord → List ℕ
@@ -60,12 +61,12 @@ withWord a (word.End c) = a
 withWord a word.Unknown = a
 
 -- what a word does to the array: nothing where 38 is due
-pub record PutsWord (b : Board) (w : BoardWord) (before : List ℕ) (over : Bool) (after : List ℕ) : Type 0 where
-  pub refused : over ≡ overWord b w
+pub record PutsWord (k : Book) (b : Board) (w : BoardWord) (before : List ℕ) (over : Bool) (after : List ℕ) : Type 0 where
+  pub refused : over ≡ overWord k b w
   pub array : after ≡ cond over before (withWord before w)
 
 -- what the pass promises: 38 at the first word of which it is due, or the array with the taken pins of all words
-abbrev pub PinsPromise : Board → List ℕ → TakenAll → Type 0
-PinsPromise b ws r =
-    ((r .over ≡ true) × (firstRefusal (linesIn b 0 ws) ≡ some (refusal 38 (r .index))))
-    ⊎ ((r .over ≡ false) × (firstRefusal (linesIn b 0 ws) ≡ none) × (r .pins ≡ withAll noneTaken (pinsIn ws)))
+abbrev pub PinsPromise : Book → Board → List ℕ → TakenAll → Type 0
+PinsPromise k b ws r =
+    ((r .over ≡ true) × (firstRefusal (linesIn k b 0 ws) ≡ some (refusal 38 (r .index))))
+    ⊎ ((r .over ≡ false) × (firstRefusal (linesIn k b 0 ws) ≡ none) × (r .pins ≡ withAll noneTaken (pinsIn ws)))

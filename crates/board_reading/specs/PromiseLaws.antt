@@ -18,6 +18,7 @@ use Rattle.board.specs.declared.Board as code-board
 use Rattle.board_block.specs.Taken.{inOrder?}
 use Rattle.board_block.specs.View.{takenOf, blockOf, noneTaken, withAll}
 use Rattle.board_block.specs.ViewLaws.{AllPlaced, taken-all}
+use Rattle.board_block.specs.declared.Book.{Book}
 use Rattle.board_block.specs.declared.TakenPins.{TakenPins}
 use Rattle.board_block.specs.declared.Block as code-block
 use Rattle.board_convex.specs.Test.{isConvex}
@@ -99,20 +100,20 @@ module _ (ws : List ℕ) (t : Parsed) (T : takeAll ws ≡ yes t) where
 
   -- 38 as the pass over the words tells it
   module _ (e : isConvex (boardIn t) ≡ true) where
-    taken-read : readParsed t ≡ unless (firstRefusal (linesIn (boardIn t) 0 ws)) (readNets t)
+    taken-read : readParsed t ≡ unless (firstRefusal (linesIn (t .book) (boardIn t) 0 ws)) (readNets t)
     unfolding readParsed
-    taken-read = rw (e, taken-lines ws t taken-words (boardIn t)) refl
+    taken-read = rw (e, taken-lines ws t taken-words (t .book) (boardIn t)) refl
 
-    pub pins-refused : (r : Refusal) → firstRefusal (linesIn (boardIn t) 0 ws) ≡ some r → readWords ws ≡ no r
+    pub pins-refused : (r : Refusal) → firstRefusal (linesIn (t .book) (boardIn t) 0 ws) ≡ some r → readWords ws ≡ no r
     pins-refused r p = read-parts ws ∙ rw (T, taken-read, p) refl
 
-    pub nets-refused : firstRefusal (linesIn (boardIn t) 0 ws) ≡ none → (r : Refusal) → addListed (blockIn t) [] (listed 0 ws) ≡ no r
+    pub nets-refused : firstRefusal (linesIn (t .book) (boardIn t) 0 ws) ≡ none → (r : Refusal) → addListed (blockIn t) [] (listed 0 ws) ≡ no r
         → readWords ws ≡ no r
     unfolding readNets
     nets-refused p r f = read-parts ws ∙ rw (T, taken-read, p, nets-listed, f) refl
 
-    pub all-read : firstRefusal (linesIn (boardIn t) 0 ws) ≡ none → (ps : List Place) → addListed (blockIn t) [] (listed 0 ws) ≡ yes (netsOf ps)
-        → readWords ws ≡ yes (withNets (bare (blockIn t)) (netsOf ps) [])
+    pub all-read : firstRefusal (linesIn (t .book) (boardIn t) 0 ws) ≡ none → (ps : List Place)
+        → addListed (blockIn t) [] (listed 0 ws) ≡ yes (netsOf ps) → readWords ws ≡ yes (withNets (bare (blockIn t)) (netsOf ps) [])
     unfolding readNets
     all-read p ps f = read-parts ws ∙ rw (T, taken-read, p, nets-listed, f) refl
 
@@ -139,16 +140,17 @@ module _ (ws : List ℕ) (t : Parsed) (T : takeAll ws ≡ yes t) where
 board-value : (b : code-board.Board) (rs : List Row) → b .count ≡ length rs → b .rows ≡ rs ++ replicate (31 - length rs) noRow → b ≡ boardValue rs
 board-value b rs e f = λ i. record { count = e i; rows = f i }
 
-pub read-done : (x : Result Session) (t : Parsed) (b : code-board.Board) (a : List ℕ) (ps : List Place) (s : code.Session)
+pub read-done : (x : Result Session) (t : Parsed) (b : code-board.Board) (k : Book) (a : List ℕ) (ps : List Place)
+    (s : code.Session)
     → boardOf b ≡ boardIn t → b .count ≡ length (t .rows) → b .rows ≡ t .rows ++ replicate (31 - length (t .rows)) noRow
-    → takenOf a ≡ t .pins → a ≡ withAll noneTaken (t .pins)
-    → length ps ≡ 64 → FreshPromise (record { board = b; taken = a }) s → x ≡ yes (withNets (bare (blockIn t)) (netsOf ps) [])
+    → k ≡ t .book → takenOf a ≡ t .pins → a ≡ withAll noneTaken (t .pins)
+    → length ps ≡ 64 → FreshPromise (record { board = b; book = k; taken = a }) s → x ≡ yes (withNets (bare (blockIn t)) (netsOf ps) [])
     → ReadPromise x (record { answer = answer.Accepted; session = withPlaces s ps (s .pile) })
 unfolding valueFor freshOf
-read-done x t b a ps s e c r k m l f h =
+read-done x t b k a ps s e c r d p m l f h =
     let v : b ≡ boardValue (t .rows) = board-value b (t .rows) c r in
-    let same : s ≡ freshOf (blockValue (blockIn t)) = f .value ∙ (λ i. freshOf (record { board = v i; taken = m i })) in
-    let start : sessionOf s ≡ bare (blockIn t) = f .bare ∙ (λ i. bare (record { board = e i; taken = k i })) in
+    let same : s ≡ freshOf (blockValue (blockIn t)) = f .value ∙ (λ i. freshOf (record { board = v i; book = d i; taken = m i })) in
+    let start : sessionOf s ≡ bare (blockIn t) = f .bare ∙ (λ i. bare (record { board = e i; book = d i; taken = p i })) in
     rw h (record {
       answers = refl;
       value = λ i. withPlaces (same i) (sym (places-for ps l) i) (same i .pile);
@@ -164,26 +166,26 @@ module _ (ws : List ℕ) (r : Scanned) (S : ScanPromise ws r) (z : r .number ≡
   bent-refused e = let t = taken-scan ws r S z in convex-refused ws (t .0) (t .1) (rw (t .2 .board-is) at e)
 
   -- what the passes for taken pins and for nets promise
-  module _ (e : isConvex (boardOf (r .scan .board)) ≡ true) (p : TakenAll) (P : PinsPromise (boardOf (r .scan .board)) ws p) where
+  module _ (e : isConvex (boardOf (r .scan .board)) ≡ true) (p : TakenAll) (P : PinsPromise (r .scan .book) (boardOf (r .scan .board)) ws p) where
     pub pin-refused : p .over ≡ true → readWords ws ≡ no (refusal 38 (p .index))
     pin-refused o = go P
       where
-        go : PinsPromise (boardOf (r .scan .board)) ws p → readWords ws ≡ no (refusal 38 (p .index))
+        go : PinsPromise (r .scan .book) (boardOf (r .scan .board)) ws p → readWords ws ≡ no (refusal 38 (p .index))
         go (inl (f, g)) =
             let t = taken-scan ws r S z in
-            pins-refused ws (t .0) (t .1) (rw (t .2 .board-is) at e) (refusal 38 (p .index)) (rw (t .2 .board-is) at g)
+            pins-refused ws (t .0) (t .1) (rw (t .2 .board-is) at e) (refusal 38 (p .index)) (rw (t .2 .book-is, t .2 .board-is) at g)
         go (inr (f, g, a)) = absurd (clash o f)
 
     -- none is taken too many: the block that was read
     module _ (o : p .over ≡ false) where
       abbrev block : code-block.Block
-      block = record { board = r .scan .board; taken = p .pins }
+      block = record { board = r .scan .board; book = r .scan .book; taken = p .pins }
 
       -- DEFINITION: the words say t, its board is convex, no pin of it gets 38, and the block stands for its block
       record Stands (t : Parsed) : Type 0 where
         says : takeAll ws ≡ yes t
         convex : isConvex (boardIn t) ≡ true
-        fits : firstRefusal (linesIn (boardIn t) 0 ws) ≡ none
+        fits : firstRefusal (linesIn (t .book) (boardIn t) 0 ws) ≡ none
         follows : Follows t (r .scan)
         array : p .pins ≡ withAll noneTaken (t .pins)
         pins : takenOf (p .pins) ≡ t .pins
@@ -191,7 +193,7 @@ module _ (ws : List ℕ) (r : Scanned) (S : ScanPromise ws r) (z : r .number ≡
       stands : (t : Parsed) × Stands t
       stands = go P
         where
-          go : PinsPromise (boardOf (r .scan .board)) ws p → (t : Parsed) × Stands t
+          go : PinsPromise (r .scan .book) (boardOf (r .scan .board)) ws p → (t : Parsed) × Stands t
           go (inl (f, g)) = absurd (clash f o)
           go (inr (f, g, a)) =
               let t = taken-scan ws r S z in
@@ -200,7 +202,7 @@ module _ (ws : List ℕ) (r : Scanned) (S : ScanPromise ws r) (z : r .number ≡
                 record {
                   says = t .1;
                   convex = rw (t .2 .board-is) at e;
-                  fits = rw (t .2 .board-is) at g;
+                  fits = rw (t .2 .book-is, t .2 .board-is) at g;
                   follows = t .2;
                   array = a ∙ ap (withAll noneTaken) (sym (taken-pins ws (t .0) w));
                   pins = ap takenOf a ∙ array-stands ws (t .0) (t .1);
@@ -208,7 +210,7 @@ module _ (ws : List ℕ) (r : Scanned) (S : ScanPromise ws r) (z : r .number ≡
               )
 
       block-is : (t : Parsed) → Stands t → blockOf block ≡ blockIn t
-      block-is t s = λ i. record { board = s .follows .board-is i; taken = s .pins i }
+      block-is t s = λ i. record { board = s .follows .board-is i; book = s .follows .book-is i; taken = s .pins i }
 
       pub net-refused : (a : AddedAll) → AllPromise (blockOf block) ws a → (a .number ≡ 0 → ⊥) → readWords ws ≡ no (refusal (a .number) (a .index))
       net-refused a A y = go A
@@ -228,7 +230,8 @@ module _ (ws : List ℕ) (r : Scanned) (S : ScanPromise ws r) (z : r .number ≡
           go (inl (k, g, h)) = absurd (omega arith)
           go (inr (g, h, l)) =
               let t = stands .0 in let q = stands .1 in let w = q .follows in
-              read-done (readWords ws) t (r .scan .board) (p .pins) (a .nets) s (w .board-is) (w .count-is) (w .array-is) (q .pins) (q .array) l f
+              read-done (readWords ws) t (r .scan .board) (r .scan .book) (p .pins) (a .nets) s (w .board-is) (w .count-is) (w .array-is) (w .book-is)
+              (q .pins) (q .array) l f
               (all-read ws t (q .says) (q .convex) (q .fits) (a .nets) (rw (block-is t q) at h))
 
 -- ── from bytes ──

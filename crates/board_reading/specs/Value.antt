@@ -32,7 +32,7 @@ unfoldable pub placesFor : List Net → List Place
 placesFor ns = map (λ i. placeFor (netOf (suc i) ns)) (upTo 64)
 
 abbrev pub blockValue : Block → code-block.Block
-blockValue b = record { board = boardValue (b .board .rows); taken = withAll noneTaken (b .taken) }
+blockValue b = record { board = boardValue (b .board .rows); book = b .book; taken = withAll noneTaken (b .taken) }
 
 -- a fresh session on the block, with these nets
 unfoldable pub valueFor : Session → code.Session

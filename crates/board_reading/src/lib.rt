@@ -8,6 +8,7 @@ ghost use Rattle.board_reading.specs.Adding.{addedWord, AllPromise};
 ghost use Rattle.board_reading.specs.Promise.{RefusedPromise, ReadPromise};
 use board::Board;
 use board_block::Block;
+use board_block::Book;
 use net::Held;
 use net::Place;
 use session::Session;
@@ -48,12 +49,12 @@ pub struct AddedAll {
 }
 
 // The taken pins of a word are put into the array, any other word is passed over. True where 38 is due; then nothing is put.
-fn put_word(b: Board, w: BoardWord, pins: &mut [u8; 1024]) -> bool
-    ensures { λ r. ⌜ PutsWord (boardOf b) w (now (pins .entry)) r (now (pins .exit)) ⌝ }
+fn put_word(book: Book, b: Board, w: BoardWord, pins: &mut [u8; 1024]) -> bool
+    ensures { λ r. ⌜ PutsWord book (boardOf b) w (now (pins .entry)) r (now (pins .exit)) ⌝ }
 {
     match w {
         BoardWord::Taken(p) => {
-            if board_block::over_taken(b, p) {
+            if board_block::over_taken(book, b, p) {
                 return true;
             }
             board_block::put_taken(p, pins);
@@ -67,13 +68,13 @@ fn put_word(b: Board, w: BoardWord, pins: &mut [u8; 1024]) -> bool
 }
 
 // The taken pins of the words, put into an array with none.
-fn put_words(b: Board, words: &[u32]) -> TakenAll
-    ensures { λ r. ⌜ PinsPromise (boardOf b) (now (words .entry)) r ⌝ }
+fn put_words(book: Book, b: Board, words: &[u32]) -> TakenAll
+    ensures { λ r. ⌜ PinsPromise book (boardOf b) (now (words .entry)) r ⌝ }
 {
     let mut pins = [0u8; 1024];
     let n = words.len();
     for i in 0..n {
-        if put_word(b, words::board_word(words[i]), &mut pins) {
+        if put_word(book, b, words::board_word(words[i]), &mut pins) {
             return TakenAll {
                 over: true,
                 index: i,
@@ -165,6 +166,7 @@ pub fn read_words(words: &[u32]) -> AfterRead
     let index = scanned.index;
     let scan = scanned.scan;
     let board = scan.board;
+    let book = scan.book;
     let bent = !board_convex::is_convex(board);
     if number != 0 {
         return refused(number, index);
@@ -172,12 +174,12 @@ pub fn read_words(words: &[u32]) -> AfterRead
     if bent {
         return refused(16, 0);
     }
-    let put = put_words(board, words);
+    let put = put_words(book, board, words);
     if put.over {
         return refused(38, put.index);
     }
     let taken = put.pins;
-    let block = Block { board, taken };
+    let block = Block { board, book, taken };
     let added = add_words(block, words);
     if added.number != 0 {
         return refused(added.number, added.index);

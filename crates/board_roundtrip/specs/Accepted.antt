@@ -19,9 +19,9 @@ use Rattle.session_rules.specs.Refusal.{line, firstRefusal}
 use Rattle.session_laws.specs.Rising.{From}
 use Rattle.words.specs.BoardWord.{rowWord, takenWord, netWord, endWord, boardWord}
 use Rattle.words.specs.Inverse.{TakenFits, says-row, says-taken, says-net, says-end, says-nothing, says-board}
+use Rattle.words.specs.declared.BoardEnd.{BoardEnd}
 use Rattle.words.specs.declared.BoardWord.{BoardWord}
 use Rattle.words.specs.declared.BoardWord.the-variants as word
-use Rattle.words.specs.declared.Counts.{Counts}
 use Rattle.call_rules.specs.Result.{yes, unless}
 use Rattle.call_rules.specs.Reading.{
   Listed,
@@ -104,7 +104,7 @@ said-pin t p i ws e =
 -- DEFINITION: what t holds with the words ws after it says what u holds with its end word; u's taken pins come in reading order and fit their words,
 -- and the numbers of its nets rise
 pub record Said (t : Parsed) (ws : List ℕ) (u : Parsed) : Type 0 where
-  pub words : said t ws ≡ said u (endWord (length (u .rows)) (length (u .nets)) ∷ [])
+  pub words : said t ws ≡ said u (endWord (u .book) (length (u .rows)) (length (u .nets)) ∷ [])
   pub ordered : inOrder? (u .pins) ≡ true
   pub fit : PinsFit (u .pins)
   pub falling : Falling (u .nets)
@@ -112,9 +112,9 @@ pub record Said (t : Parsed) (ws : List ℕ) (u : Parsed) : Type 0 where
 said-more : (t : Parsed) (ws : List ℕ) (v : Parsed) (vs : List ℕ) (u : Parsed) → said t ws ≡ said v vs → Said v vs u → Said t ws u
 said-more t ws v vs u e s = record { words = e ∙ s .words; ordered = s .ordered; fit = s .fit; falling = s .falling }
 
--- the end word is the last, and its counts are right
-said-end : (t u : Parsed) (c : Counts) (i : ℕ) (ws : List ℕ) → inOrder? (t .pins) ≡ true → PinsFit (t .pins) → Falling (t .nets)
-    → Passes i t (word.End c) ws u → Said t (endWord (c .rows) (c .nets) ∷ ws) u
+-- the end word is the last, its book is u's, and its counts are right
+said-end : (t u : Parsed) (c : BoardEnd) (i : ℕ) (ws : List ℕ) → inOrder? (t .pins) ≡ true → PinsFit (t .pins) → Falling (t .nets)
+    → Passes i t (word.End c) ws u → Said t (endWord (c .book) (c .rows) (c .nets) ∷ ws) u
 said-end t u c i ws o g f p =
     let k = nothing-after ws (suc i) (take i t (word.End c)) u refl (p .rest) in
     let m = and-true (eqb (c .rows) (length (t .rows))) (eqb (c .nets) (length (t .nets)))

@@ -38,9 +38,10 @@ vertex-fits b v w e =
 
 pub pins-fit : (b : Block) → Within (b .board) → takenFine? b ≡ true → PinsFit (b .taken)
 pins-fit b w e =
-    go (b .taken) (taken-vertices (b .board) (b .taken) (and-true (inOrder? (b .taken)) (allThere? (b .board) (b .taken)) e .1))
+    go (b .taken)
+    (taken-vertices (b .book) (b .board) (b .taken) (and-true (inOrder? (b .taken)) (allThere? (b .book) (b .board) (b .taken)) e .1))
   where
-    go : (ts : List TakenPins) → Each (There (b .board)) ts → PinsFit ts
+    go : (ts : List TakenPins) → Each (There (b .book) (b .board)) ts → PinsFit ts
     go [] h = tt
     go (t ∷ ts) h = ((h .0 .count, vertex-fits (b .board) (t .vertex) w (h .0 .vertex)), go ts (h .1))
 

@@ -19,6 +19,7 @@ use Rattle.session_rules.specs.Sound.{Sound}
 use Rattle.session_laws.specs.Stays.{sound-fine}
 use Rattle.words.specs.BoardWord.{rowWord, takenWord, netWord, endWord}
 use Rattle.words.specs.Bytes.{wordsIn, uneven, bytesOf}
+use Rattle.words.specs.Inverse.{book-small}
 use Rattle.call_rules.specs.Result.{yes}
 use Rattle.call_rules.specs.Reading.{readWords, readBytes}
 use Rattle.call_rules.specs.Writing.{boardWords}
@@ -88,7 +89,8 @@ unfolding boardWords
 sound-words s h =
     let rs = s .block .board .rows in let ts = s .block .taken in let ns = s .nets in let f = sound-fine s h in let w = h .within in
     let most = w .few in let few = few-nets (s .block) ns (f .rising) (f .good) in
-    let word : ℕ → Type 0 = λ (x : ℕ). x < 2 ^ 32 in let end = endWord (length rs) (length ns) ∷ [] in
+    let word : ℕ → Type 0 = λ (x : ℕ). x < 2 ^ 32 in let end = endWord (s .block .book) (length rs) (length ns) ∷ [] in
+    let book = book-small (s .block .book) in
     each-append word (map rowWord rs) (map takenWord ts ++ (map netWord ns ++ end)) (row-words rs (rows-fit (s .block .board) w))
     (each-append word (map takenWord ts) (map netWord ns ++ end) (pin-words ts (pins-fit (s .block) w (h .taken)))
     (each-append word (map netWord ns) end (net-words ns (nets-fit (s .block) ns w (f .good))) (omega arith, tt)))

@@ -10,6 +10,7 @@ use lib.ListN.{length, length-append}
 use borrow.Author.Tests.{lt-ltb, lt-leb, eq-eqb, ne-eqb}
 use Rattle.board.specs.declared.Row.{Row}
 use Rattle.board_block.specs.Taken.{inOrder?}
+use Rattle.board_block.specs.declared.Book.{Book}
 use Rattle.board_block.specs.declared.TakenPins.{TakenPins}
 use Rattle.net.specs.declared.Net.{Net}
 use Rattle.session_laws.specs.Rising.{From}
@@ -17,7 +18,7 @@ use Rattle.words.specs.BoardWord.{rowWord, takenWord, netWord, endWord}
 use Rattle.words.specs.Inverse.{TakenFits, NetFits, row-back, taken-back, net-back, end-back}
 use Rattle.call_rules.specs.Result.{yes}
 use Rattle.call_rules.specs.Reading.{Listed, notAbove, notAfter, wordLines, takeWords, reverse}
-use Rattle.board_roundtrip.specs.Parts.{taken, listing, netsIn, listedFrom, listedOnto, RowsFit, PinsFit, NetsFit}
+use Rattle.board_roundtrip.specs.Parts.{taken, ended, listing, netsIn, listedFrom, listedOnto, RowsFit, PinsFit, NetsFit}
 use Rattle.board_roundtrip.specs.Pins.{order-next}
 
 and-no : (a : Bool) → a && false ≡ false
@@ -26,29 +27,29 @@ and-no false = refl
 
 -- ── one word ──
 take-row : (i : ℕ) (rs : List Row) (r : Row) (ws : List ℕ) → r .left < r .right → r .right ≤ 31 → length rs < 31
-    → takeWords i (taken rs [] [] false) (rowWord r ∷ ws) ≡ takeWords (suc i) (taken (rs ++ (r ∷ [])) [] [] false) ws
+    → takeWords i (taken rs [] []) (rowWord r ∷ ws) ≡ takeWords (suc i) (taken (rs ++ (r ∷ [])) [] []) ws
 unfolding takeWords wordLines
 take-row i rs r ws h k l =
     rw (row-back r (omega arith, omega arith), and-no (eqb i 0), lt-ltb (r .left) (r .right) h, lt-leb 31 (length rs) l) refl
 
 take-pin : (i : ℕ) (rs : List Row) (ts : List TakenPins) (t : TakenPins) (ws : List ℕ) → 1 ≤ i → TakenFits t → notAfter (t .vertex) ts ≡ false
-    → takeWords i (taken rs ts [] false) (takenWord t ∷ ws) ≡ takeWords (suc i) (taken rs (ts ++ (t ∷ [])) [] false) ws
+    → takeWords i (taken rs ts []) (takenWord t ∷ ws) ≡ takeWords (suc i) (taken rs (ts ++ (t ∷ [])) []) ws
 unfolding takeWords wordLines
 take-pin i rs ts t ws h f e = rw (taken-back t f, ne-eqb i 0 (λ z. omega arith), e) refl
 
 take-net : (i : ℕ) (rs : List Row) (ts : List TakenPins) (ls : List Listed) (n : Net) (ws : List ℕ) → 1 ≤ i → NetFits n
     → notAbove (n .number) ls ≡ false
-    → takeWords i (taken rs ts ls false) (netWord n ∷ ws) ≡ takeWords (suc i) (taken rs ts (listing i n ∷ ls) false) ws
+    → takeWords i (taken rs ts ls) (netWord n ∷ ws) ≡ takeWords (suc i) (taken rs ts (listing i n ∷ ls)) ws
 unfolding takeWords wordLines
 take-net i rs ts ls n ws h f e = rw (net-back n f, ne-eqb i 0 (λ z. omega arith), e) refl
 
-pub take-end : (i : ℕ) (rs : List Row) (ts : List TakenPins) (ls : List Listed) (n : ℕ) → 1 ≤ i → length rs < 256 → length ls < 256
-    → length ls ≡ n → takeWords i (taken rs ts ls false) (endWord (length rs) n ∷ []) ≡ yes (taken rs ts ls true)
+pub take-end : (k : Book) (i : ℕ) (rs : List Row) (ts : List TakenPins) (ls : List Listed) (n : ℕ) → 1 ≤ i → length rs < 256 → length ls < 256
+    → length ls ≡ n → takeWords i (taken rs ts ls) (endWord k (length rs) n ∷ []) ≡ yes (ended k rs ts ls)
 unfolding takeWords wordLines
-take-end i rs ts ls n h k l e =
+take-end k i rs ts ls n h l m e =
     rw (
       ← e,
-      end-back (record { rows = length rs; nets = length ls }) k l,
+      end-back (record { book = k; rows = length rs; nets = length ls }) l m,
       ne-eqb i 0 (λ z. omega arith),
       eq-eqb (length rs) (length rs) refl,
       eq-eqb (length ls) (length ls) refl,
@@ -56,7 +57,7 @@ take-end i rs ts ls n h k l e =
 
 -- ── all rows, then all taken pins, then all nets ──
 pub take-rows : (rs before : List Row) (i : ℕ) (ws : List ℕ) → RowsFit rs → length before + length rs ≤ 31
-    → takeWords i (taken before [] [] false) (map rowWord rs ++ ws) ≡ takeWords (i + length rs) (taken (before ++ rs) [] [] false) ws
+    → takeWords i (taken before [] []) (map rowWord rs ++ ws) ≡ takeWords (i + length rs) (taken (before ++ rs) [] []) ws
 take-rows [] before i ws f h = let e : i + 0 ≡ i = omega arith in rw (e, append-nil before) refl
 take-rows (r ∷ rs) before i ws f h =
     let l = length-append before (r ∷ []) in
@@ -66,7 +67,7 @@ take-rows (r ∷ rs) before i ws f h =
     ∙ rw (e, append-assoc before (r ∷ []) rs) refl
 
 pub take-pins : (ts before : List TakenPins) (i : ℕ) (rs : List Row) (ws : List ℕ) → 1 ≤ i → PinsFit ts → inOrder? (before ++ ts) ≡ true
-    → takeWords i (taken rs before [] false) (map takenWord ts ++ ws) ≡ takeWords (i + length ts) (taken rs (before ++ ts) [] false) ws
+    → takeWords i (taken rs before []) (map takenWord ts ++ ws) ≡ takeWords (i + length ts) (taken rs (before ++ ts) []) ws
 take-pins [] before i rs ws h f o = let e : i + 0 ≡ i = omega arith in rw (e, append-nil before) refl
 take-pins (t ∷ ts) before i rs ws h f o =
     let e : i + suc (length ts) ≡ suc i + length ts = omega arith in
@@ -77,7 +78,7 @@ take-pins (t ∷ ts) before i rs ws h f o =
 
 pub take-nets : (ns : List Net) (i k : ℕ) (rs : List Row) (ts : List TakenPins) (ls : List Listed) (ws : List ℕ) → 1 ≤ i → NetsFit ns
     → From k ns → ((j : ℕ) → k ≤ j → notAbove j ls ≡ false)
-    → takeWords i (taken rs ts ls false) (map netWord ns ++ ws) ≡ takeWords (i + length ns) (taken rs ts (listedOnto i ns ls) false) ws
+    → takeWords i (taken rs ts ls) (map netWord ns ++ ws) ≡ takeWords (i + length ns) (taken rs ts (listedOnto i ns ls)) ws
 take-nets [] i k rs ts ls ws h f r a = let e : i + 0 ≡ i = omega arith in rw e refl
 take-nets (n ∷ ns) i k rs ts ls ws h f r a =
     let e : i + suc (length ns) ≡ suc i + length ns = omega arith in

@@ -1,10 +1,12 @@
 -- Definitions only: the parts of a list of board words, as the laws of this crate name them. Nothing is proved here.
 use mathlib.Core.Path.{_≡_}
-use mathlib.Core.Bool.{Bool, false}
+use mathlib.Core.Bool.{true, false}
 use mathlib.Core.List.{List, [], _∷_, _++_, map}
 use Prim.Native.Nat.{ℕ, suc, _≤_, _<_, _^_}
 use Rattle.count.specs.Each.{Each}
 use Rattle.board.specs.declared.Row.{Row}
+use Rattle.board_block.specs.declared.Book.{Book}
+use Rattle.board_block.specs.declared.Book.the-variants.{Old}
 use Rattle.board_block.specs.declared.TakenPins.{TakenPins}
 use Rattle.net.specs.declared.Net.{Net}
 use Rattle.session_rules.specs.Session.{Session, withNets}
@@ -14,8 +16,12 @@ use Rattle.words.specs.Inverse.{TakenFits, NetFits}
 use Rattle.call_rules.specs.Reading.{Listed, Parsed, notAbove}
 
 -- ── what was taken ──
-abbrev pub taken : List Row → List TakenPins → List Listed → Bool → Parsed
-taken rs ts ls e = record { rows = rs; pins = ts; nets = ls; ended = e }
+-- before the end word, and with it
+abbrev pub taken : List Row → List TakenPins → List Listed → Parsed
+taken rs ts ls = record { rows = rs; pins = ts; nets = ls; book = Old; ended = false }
+
+abbrev pub ended : Book → List Row → List TakenPins → List Listed → Parsed
+ended k rs ts ls = record { rows = rs; pins = ts; nets = ls; book = k; ended = true }
 
 abbrev pub listing : ℕ → Net → Listed
 listing i n = record { index = i; net = n }

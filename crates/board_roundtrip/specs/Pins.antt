@@ -10,6 +10,7 @@ use borrow.Author.Tests.{not-true, not-false}
 use Rattle.count.specs.TruthLaws.{and-true, and-yes}
 use Rattle.board.specs.Board.{Board}
 use Rattle.board_block.specs.Taken.{comesBefore, inOrder?, oneOrTwo, overTaken, allThere?}
+use Rattle.board_block.specs.declared.Book.{Book}
 use Rattle.board_block.specs.declared.TakenPins.{TakenPins}
 use Rattle.session_rules.specs.Refusal.{firstRefusal}
 use Rattle.call_rules.specs.Reading.{notAfter, pinLines}
@@ -33,16 +34,17 @@ order-next (t ∷ (u ∷ us)) p ps o =
     order-next (u ∷ us) p ps (and-true (comesBefore (t .vertex) (u .vertex)) (inOrder? ((u ∷ us) ++ (p ∷ ps))) o .1)
 
 -- ── the lines of 38 ──
-pub there-lines : (b : Board) (i : ℕ) (ts : List TakenPins) → allThere? b ts ≡ true → firstRefusal (pinLines b i ts) ≡ none
+pub there-lines : (k : Book) (b : Board) (i : ℕ) (ts : List TakenPins) → allThere? k b ts ≡ true → firstRefusal (pinLines k b i ts) ≡ none
 unfolding allThere? pinLines
-there-lines b i [] e = refl
-there-lines b i (t ∷ ts) e =
-    let k = and-true (oneOrTwo (t .count) && not (overTaken b t)) (allThere? b ts) e in
-    rw (not-true (overTaken b t) (and-true (oneOrTwo (t .count)) (not (overTaken b t)) (k .0) .1)) (there-lines b (suc i) ts (k .1))
+there-lines k b i [] e = refl
+there-lines k b i (t ∷ ts) e =
+    let x = and-true (oneOrTwo (t .count) && not (overTaken k b t)) (allThere? k b ts) e in
+    rw (not-true (overTaken k b t) (and-true (oneOrTwo (t .count)) (not (overTaken k b t)) (x .0) .1)) (there-lines k b (suc i) ts (x .1))
 
-pub lines-there : (b : Board) (i : ℕ) (ts : List TakenPins) → PinsFit ts → firstRefusal (pinLines b i ts) ≡ none → allThere? b ts ≡ true
+pub lines-there : (k : Book) (b : Board) (i : ℕ) (ts : List TakenPins) → PinsFit ts → firstRefusal (pinLines k b i ts) ≡ none
+    → allThere? k b ts ≡ true
 unfolding allThere? pinLines
-lines-there b i [] f e = refl
-lines-there b i (t ∷ ts) f e =
-    let k = line-passed (overTaken b t) 38 i (pinLines b (suc i) ts) e in
-    rw (f .0 .0, k .0) (lines-there b (suc i) ts (f .1) (k .1))
+lines-there k b i [] f e = refl
+lines-there k b i (t ∷ ts) f e =
+    let x = line-passed (overTaken k b t) 38 i (pinLines k b (suc i) ts) e in
+    rw (f .0 .0, x .0) (lines-there k b (suc i) ts (f .1) (x .1))

@@ -53,12 +53,12 @@ abbrev sessionIn : Parsed → Session
 sessionIn u = withNets (bare (blockIn u)) (netsIn (reverse (u .nets) [])) []
 
 -- its words are those that were taken
-session-words : (u : Parsed) → boardWords (sessionIn u) ≡ said u (endWord (length (u .rows)) (length (u .nets)) ∷ [])
+session-words : (u : Parsed) → boardWords (sessionIn u) ≡ said u (endWord (u .book) (length (u .rows)) (length (u .nets)) ∷ [])
 unfolding boardWords
 session-words u =
     let e : length (netsIn (reverse (u .nets) [])) ≡ length (u .nets) = omega (arith, length-reverse (u .nets) []) in
     rw e (ap (λ (l : List ℕ). map rowWord (u .rows) ++ (map takenWord (u .pins) ++ l))
-    (sym (then-reverse (u .nets) [] (endWord (length (u .rows)) (length (u .nets)) ∷ []))))
+    (sym (then-reverse (u .nets) [] (endWord (u .book) (length (u .rows)) (length (u .nets)) ∷ []))))
 
 -- and it is sound
 session-sound : (u : Parsed) → isConvex (boardIn u) ≡ true → takenFine? (blockIn u) ≡ true → From 0 (netsIn (reverse (u .nets) []))
@@ -78,13 +78,13 @@ session-sound u c t f a = let k = is-convex (boardIn u) .0 c in let start = fres
 }
 
 taken-holds : (ws : List ℕ) (u : Parsed) (ns : List Net) → takeWords 0 nothingParsed ws ≡ yes u → isConvex (boardIn u) ≡ true
-    → firstRefusal (pinLines (boardIn u) (length (u .rows)) (u .pins)) ≡ none → addListed (blockIn u) [] (reverse (u .nets) []) ≡ yes ns
+    → firstRefusal (pinLines (u .book) (boardIn u) (length (u .rows)) (u .pins)) ≡ none → addListed (blockIn u) [] (reverse (u .nets) []) ≡ yes ns
     → Holds ws (withNets (bare (blockIn u)) ns [])
 unfolding inOrder?
 taken-holds ws u ns e c l n =
     let t = taken-said ws 0 nothingParsed u refl refl tt tt e in
-    let there = lines-there (boardIn u) (length (u .rows)) (u .pins) (t .fit) l in
-    let p = and-yes (inOrder? (u .pins)) (allThere? (boardIn u) (u .pins)) (t .ordered) there in
+    let there = lines-there (u .book) (boardIn u) (length (u .rows)) (u .pins) (t .fit) l in
+    let p = and-yes (inOrder? (u .pins)) (allThere? (u .book) (boardIn u) (u .pins)) (t .ordered) there in
     let f = falling-from (u .nets) [] (t .falling) tt in
     let a = listed-addable (blockIn u) [] (reverse (u .nets) []) ns 0 tt f n in
     rw (a .0) (record { words = session-words u ∙ sym (t .words); sound = session-sound u c p f (a .1); bare-pile = refl; none-kept = refl })
@@ -92,7 +92,7 @@ taken-holds ws u ns e c l n =
 read-taken : (ws : List ℕ) (u : Parsed) (s : Session) → takeWords 0 nothingParsed ws ≡ yes u → readParsed u ≡ yes s → Holds ws s
 unfolding readParsed readNets
 read-taken ws u s e r =
-    let b = boardIn u in let pins = pinLines b (length (u .rows)) (u .pins) in
+    let b = boardIn u in let pins = pinLines (u .book) b (length (u .rows)) (u .pins) in
     let p = passed (firstRefusal (line (not (isConvex b)) 16 0 ∷ pins)) (readNets u) s r in
     let l = line-passed (not (isConvex b)) 16 0 pins (p .0) in
     let v = then-yes (addListed (blockIn u) [] (reverse (u .nets) [])) (λ (ns : List Net). yes (withNets (bare (blockIn u)) ns [])) s (p .1) in

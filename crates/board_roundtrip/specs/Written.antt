@@ -1,4 +1,4 @@
--- The words of a sound session are read as its board, with its taken pins, and its nets.
+-- The words of a sound session are read as its board, with its book and taken pins, and its nets.
 -- Assumes that the session is sound.
 use mathlib.Core.Path.{_≡_, refl, ap, _∙_}
 use mathlib.Core.Bool.{true}
@@ -19,7 +19,7 @@ use Rattle.words.specs.BoardWord.{rowWord, takenWord, netWord, endWord}
 use Rattle.call_rules.specs.Result.{yes}
 use Rattle.call_rules.specs.Reading.{boardLimit, nothingParsed, takeWords, addListed, reverse, readNets, readParsed, readWords}
 use Rattle.call_rules.specs.Writing.{boardWords}
-use Rattle.board_roundtrip.specs.Parts.{taken, netsIn, listedFrom, listedOnto, asRead}
+use Rattle.board_roundtrip.specs.Parts.{ended, netsIn, listedFrom, listedOnto, asRead}
 use Rattle.board_roundtrip.specs.Pins.{there-lines}
 use Rattle.board_roundtrip.specs.Adds.{addable-listed}
 use Rattle.board_roundtrip.specs.Packed.{take-rows, take-pins, take-nets, take-end, length-onto, reverse-onto, nets-from}
@@ -31,7 +31,8 @@ pub words-length : (s : Session)
     → length (boardWords s) ≡ length (s .block .board .rows) + length (s .block .taken) + length (s .nets) + 1
 unfolding boardWords
 words-length s =
-    let rs = s .block .board .rows in let ts = s .block .taken in let ns = s .nets in let end = endWord (length rs) (length ns) ∷ [] in
+    let rs = s .block .board .rows in let ts = s .block .taken in let ns = s .nets in
+    let end = endWord (s .block .book) (length rs) (length ns) ∷ [] in
     omega (
       arith,
       length-append (map rowWord rs) (map takenWord ts ++ (map netWord ns ++ end)),
@@ -54,11 +55,11 @@ module _ (s : Session) (h : Sound s) where
   words-few = omega (arith, words-length s, few, h .within .few, few-taken (s .block) (h .within) (h .convex) (h .taken))
 
   -- ── they are taken one by one ──
-  pins-fine : (inOrder? (s .block .taken) ≡ true) × (allThere? (s .block .board) (s .block .taken) ≡ true)
-  pins-fine = and-true (inOrder? (s .block .taken)) (allThere? (s .block .board) (s .block .taken)) (h .taken)
+  pins-fine : (inOrder? (s .block .taken) ≡ true) × (allThere? (s .block .book) (s .block .board) (s .block .taken) ≡ true)
+  pins-fine = and-true (inOrder? (s .block .taken)) (allThere? (s .block .book) (s .block .board) (s .block .taken)) (h .taken)
 
   written-taken : takeWords 0 nothingParsed (boardWords s)
-      ≡ yes (taken (s .block .board .rows) (s .block .taken) (listedOnto (firstNet s) (s .nets) []) true)
+      ≡ yes (ended (s .block .book) (s .block .board .rows) (s .block .taken) (listedOnto (firstNet s) (s .nets) []))
   unfolding boardWords
   written-taken =
       let rs = s .block .board .rows in let ts = s .block .taken in let ns = s .nets in let i = firstNet s in
@@ -66,11 +67,11 @@ module _ (s : Session) (h : Sound s) where
       let some = w .some in let most = w .few in let nets = few in
       let z : 0 + length rs ≡ length rs = omega arith in
       let l : length (listedOnto i ns []) ≡ length ns = omega (arith, length-onto ns i []) in
-      let end = endWord (length rs) (length ns) ∷ [] in
+      let end = endWord (s .block .book) (length rs) (length ns) ∷ [] in
       take-rows rs [] 0 (map takenWord ts ++ (map netWord ns ++ end)) (rows-fit (s .block .board) w) (omega arith)
       ∙ rw z (take-pins ts [] (length rs) rs (map netWord ns ++ end) (omega arith) (pins-fit (s .block) w (h .taken)) (pins-fine .0))
       ∙ take-nets ns i 0 rs ts [] end (omega arith) (nets-fit (s .block) ns w (f .good)) (f .rising) (λ j p. refl)
-      ∙ take-end (i + length ns) rs ts (listedOnto i ns []) (length ns) (omega arith) (omega arith) (omega arith) l
+      ∙ take-end (s .block .book) (i + length ns) rs ts (listedOnto i ns []) (length ns) (omega arith) (omega arith) (omega arith) l
 
   -- ── the board is convex, the taken pins are there, and each net is accepted ──
   listed-all : (i : ℕ) → addListed (s .block) [] (reverse (listedOnto i (s .nets) []) []) ≡ yes (s .nets)
@@ -81,13 +82,14 @@ module _ (s : Session) (h : Sound s) where
       rw (reverse-onto ns i [] [], append-nil (listedFrom i ns))
       (addable-listed (s .block) [] (listedFrom i ns) 0 tt f a ∙ ap (λ (ms : List Net). yes ms) e)
 
-  taken-read : (i : ℕ) → readParsed (taken (s .block .board .rows) (s .block .taken) (listedOnto i (s .nets) []) true) ≡ yes (asRead s)
+  taken-read : (i : ℕ)
+      → readParsed (ended (s .block .book) (s .block .board .rows) (s .block .taken) (listedOnto i (s .nets) [])) ≡ yes (asRead s)
   unfolding readParsed readNets
   taken-read i =
       let b = s .block .board in
       rw (
         is-convex b .1 (h .within, h .convex),
-        there-lines b (length (b .rows)) (s .block .taken) (pins-fine .1),
+        there-lines (s .block .book) b (length (b .rows)) (s .block .taken) (pins-fine .1),
         listed-all i,
       ) refl
 

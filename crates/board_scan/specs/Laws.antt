@@ -76,11 +76,12 @@ module _ (rs zs : List Row) where
   rows-first : map row (upTo (length rs)) ≡ rs
   rows-first = ext-getD noRow (map row (upTo (length rs))) rs (length-rising row 0 (length rs)) row-at
 
--- DEFINITION: the scan s holds the board that t has taken, its array too
+-- DEFINITION: the scan s holds the board that t has taken, its array too, and its book
 pub record Follows (t : Parsed) (s : Scan) : Type 0 where
   pub board-is : boardOf (s .board) ≡ boardIn t
   pub count-is : s .board .count ≡ length (t .rows)
   pub array-is : s .board .rows ≡ t .rows ++ replicate (31 - length (t .rows)) noRow
+  pub book-is : s .book ≡ t .book
 
 follows : (t : Parsed) → Follows t (scanFor t)
 unfolding boardOf
@@ -88,6 +89,7 @@ follows t = record {
   board-is = ap (λ (rs : List Row). record { rows = rs }) (rows-first (t .rows) (replicate (31 - length (t .rows)) noRow));
   count-is = refl;
   array-is = refl;
+  book-is = refl;
 }
 
 -- ── by the number ──

@@ -132,6 +132,7 @@ taken-same t i first m (word.Row r) e =
       vertex = lastVertex (t .pins);
       nets = length (t .nets);
       last = lastOf (t .nets);
+      book = t .book;
       ended = t .ended;
     })
 taken-same t i first m (word.Taken p) e = rw (some-of (t .pins) p, last-of (t .pins) p) refl

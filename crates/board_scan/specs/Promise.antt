@@ -36,6 +36,7 @@ scanFor t = record {
   vertex = lastVertex (t .pins);
   nets = length (t .nets);
   last = lastOf (t .nets);
+  book = t .book;
   ended = t .ended;
 }
 

@@ -6,9 +6,10 @@ use lib.ListN.{set, replicate}
 use Rattle.board.specs.Board.{at}
 use Rattle.board.specs.declared.Row.{Row}
 use Rattle.board_block.specs.Taken.{comesBefore}
+use Rattle.board_block.specs.declared.Book.the-variants.{Old}
 use Rattle.board_block.specs.declared.TakenPins.{TakenPins}
 use Rattle.net.specs.declared.Net.{Net}
-use Rattle.words.specs.declared.Counts.{Counts}
+use Rattle.words.specs.declared.BoardEnd.{BoardEnd}
 use Rattle.words.specs.declared.BoardWord.{BoardWord}
 use Rattle.words.specs.declared.BoardWord.the-variants as word
 use Rattle.board_scan.specs.declared.Scan.{Scan}
@@ -28,15 +29,15 @@ takenRefused s first p =
 unfoldable pub netRefused : Scan → Bool → Net → ℕ
 netRefused s first n = firstOf false (first || ((ltb 0 (s .nets) && leb (n .number) (s .last)) || s .ended)) false false
 
-unfoldable pub endRefused : Scan → Bool → Counts → ℕ
-endRefused s first c =
-    firstOf false (first || s .ended) false (not (eqb (c .rows) (s .board .count) && eqb (c .nets) (s .nets)))
+unfoldable pub endRefused : Scan → Bool → BoardEnd → ℕ
+endRefused s first e =
+    firstOf false (first || s .ended) false (not (eqb (e .rows) (s .board .count) && eqb (e .nets) (s .nets)))
 
 unfoldable pub wordRefused : Scan → Bool → BoardWord → ℕ
 wordRefused s first (word.Row r) = rowRefused s r
 wordRefused s first (word.Taken p) = takenRefused s first p
 wordRefused s first (word.Net n) = netRefused s first n
-wordRefused s first (word.End c) = endRefused s first c
+wordRefused s first (word.End e) = endRefused s first e
 wordRefused s first word.Unknown = firstOf true (first || s .ended) false false
 
 -- with what a word says; beyond 31 rows and 255 nets nothing is taken
@@ -49,27 +50,38 @@ withRow s r =
       vertex = s .vertex;
       nets = s .nets;
       last = s .last;
+      book = s .book;
       ended = s .ended;
     })
     s
 
 abbrev pub withTaken : Scan → TakenPins → Scan
-withTaken s p = record { board = s .board; pins = true; vertex = p .vertex; nets = s .nets; last = s .last; ended = s .ended }
+withTaken s p =
+    record { board = s .board; pins = true; vertex = p .vertex; nets = s .nets; last = s .last; book = s .book; ended = s .ended }
 
 unfoldable pub withNet : Scan → Net → Scan
 withNet s n =
     cond (ltb (s .nets) 255)
-    (record { board = s .board; pins = s .pins; vertex = s .vertex; nets = s .nets + 1; last = n .number; ended = s .ended })
+    (record {
+      board = s .board;
+      pins = s .pins;
+      vertex = s .vertex;
+      nets = s .nets + 1;
+      last = n .number;
+      book = s .book;
+      ended = s .ended;
+    })
     s
 
-abbrev pub withEnd : Scan → Scan
-withEnd s = record { board = s .board; pins = s .pins; vertex = s .vertex; nets = s .nets; last = s .last; ended = true }
+abbrev pub withEnd : Scan → BoardEnd → Scan
+withEnd s e =
+    record { board = s .board; pins = s .pins; vertex = s .vertex; nets = s .nets; last = s .last; book = e .book; ended = true }
 
 unfoldable pub withWord : Scan → BoardWord → Scan
 withWord s (word.Row r) = withRow s r
 withWord s (word.Taken p) = withTaken s p
 withWord s (word.Net n) = withNet s n
-withWord s (word.End c) = withEnd s
+withWord s (word.End e) = withEnd s e
 withWord s word.Unknown = s
 
 -- before the first word; row 0 of the array is that of the blank session
@@ -80,5 +92,6 @@ start = record {
   vertex = at 0 0;
   nets = 0;
   last = 0;
+  book = Old;
   ended = false;
 }

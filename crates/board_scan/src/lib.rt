@@ -20,21 +20,23 @@ ghost use Rattle.board_scan.specs.Scan.{
 use board::Board;
 use board::Row;
 use board::Vertex;
+use board_block::Book;
 use board_block::TakenPins;
 use net::Net;
 use numbers::wide;
 use words::BOARD_WORDS;
+use words::BoardEnd;
 use words::BoardWord;
-use words::Counts;
 
-// What the words so far have said: the board's rows, whether pins are taken and the last vertex of them, how many nets, the last net's number, and
-// whether the end word has been.
+// What the words so far have said: the board's rows, whether pins are taken and the last vertex of them, how many nets, the last net's number,
+// whether the end word has been, and the book that it names, the old one before it.
 pub struct Scan {
     pub board: Board,
     pub pins: bool,
     pub vertex: Vertex,
     pub nets: u8,
     pub last: u8,
+    pub book: Book,
     pub ended: bool,
 }
 
@@ -93,11 +95,11 @@ fn net_refused(s: Scan, first: bool, n: Net) -> u8
     first_of(false, first | (again | s.ended), false, false)
 }
 
-fn end_refused(s: Scan, first: bool, c: Counts) -> u8
-    ensures { λ r. ⌜ r ≡ endRefused s first c ⌝ }
+fn end_refused(s: Scan, first: bool, e: BoardEnd) -> u8
+    ensures { λ r. ⌜ r ≡ endRefused s first e ⌝ }
 {
     let board = s.board;
-    let counted = (c.rows == board.count) & (c.nets == s.nets);
+    let counted = (e.rows == board.count) & (e.nets == s.nets);
     first_of(false, first | s.ended, false, !counted)
 }
 
@@ -109,7 +111,7 @@ fn word_refused(s: Scan, first: bool, w: BoardWord) -> u8
         BoardWord::Row(r) => row_refused(s, r),
         BoardWord::Taken(p) => taken_refused(s, first, p),
         BoardWord::Net(n) => net_refused(s, first, n),
-        BoardWord::End(c) => end_refused(s, first, c),
+        BoardWord::End(e) => end_refused(s, first, e),
         BoardWord::Unknown => first_of(true, first | s.ended, false, false),
     }
 }
@@ -121,6 +123,7 @@ fn with_row(s: Scan, r: Row) -> Scan
     let count = board.count;
     let at = wide(count);
     let vertex = s.vertex;
+    let book = s.book;
     if count < 31 {
         let mut rows = board.rows;
         rows[at] = r;
@@ -133,6 +136,7 @@ fn with_row(s: Scan, r: Row) -> Scan
             vertex,
             nets: s.nets,
             last: s.last,
+            book,
             ended: s.ended,
         }
     } else {
@@ -145,12 +149,14 @@ fn with_taken(s: Scan, p: TakenPins) -> Scan
 {
     let board = s.board;
     let vertex = p.vertex;
+    let book = s.book;
     Scan {
         board,
         pins: true,
         vertex,
         nets: s.nets,
         last: s.last,
+        book,
         ended: s.ended,
     }
 }
@@ -161,6 +167,7 @@ fn with_net(s: Scan, n: Net) -> Scan
     let board = s.board;
     let vertex = s.vertex;
     let nets = s.nets;
+    let book = s.book;
     if nets < 255 {
         Scan {
             board,
@@ -168,6 +175,7 @@ fn with_net(s: Scan, n: Net) -> Scan
             vertex,
             nets: nets + 1,
             last: n.number,
+            book,
             ended: s.ended,
         }
     } else {
@@ -175,17 +183,19 @@ fn with_net(s: Scan, n: Net) -> Scan
     }
 }
 
-fn with_end(s: Scan) -> Scan
-    ensures { λ t. ⌜ t ≡ withEnd s ⌝ }
+fn with_end(s: Scan, e: BoardEnd) -> Scan
+    ensures { λ t. ⌜ t ≡ withEnd s e ⌝ }
 {
     let board = s.board;
     let vertex = s.vertex;
+    let book = e.book;
     Scan {
         board,
         pins: s.pins,
         vertex,
         nets: s.nets,
         last: s.last,
+        book,
         ended: true,
     }
 }
@@ -198,7 +208,7 @@ fn with_word(s: Scan, w: BoardWord) -> Scan
         BoardWord::Row(r) => with_row(s, r),
         BoardWord::Taken(p) => with_taken(s, p),
         BoardWord::Net(n) => with_net(s, n),
-        BoardWord::End(_) => with_end(s),
+        BoardWord::End(e) => with_end(s, e),
         BoardWord::Unknown => s,
     }
 }
@@ -217,6 +227,7 @@ fn before_words() -> Scan
         vertex: Vertex { line: 0, column: 0 },
         nets: 0,
         last: 0,
+        book: Book::Old,
         ended: false,
     }
 }

@@ -31,7 +31,7 @@ use Rattle.board_writing.specs.declared.WriteAnswer.the-variants as answ
 parts : (s : code.Session) → length (s .nets) ≡ 64
     → boardWords (sessionOf s) ≡ (rowWords (s .block .board .rows) (s .block .board .count)
     ++ (map takenWord (takenOf (s .block .taken)) ++ netWords (s .nets) 64))
-    ++ (endWord (s .block .board .count) (length (netWords (s .nets) 64)) ∷ [])
+    ++ (endWord (s .block .book) (s .block .board .count) (length (netWords (s .nets) 64)) ∷ [])
 unfolding boardWords
 parts s e =
     let n : netWords (s .nets) 64 ≡ map netWord (netsOf (s .nets)) = rw e at (net-words-all (s .nets)) in
@@ -43,7 +43,7 @@ pub all-written : (s : code.Session) (before rowed pinned after : List ℕ) (row
     → rowed ≡ writtenInto before (rowWords (s .block .board .rows) (s .block .board .count))
     → Continues (map takenWord (takenOf (s .block .taken))) rowed pinned rows from
     → Continues (netWords (s .nets) 64) pinned after from at
-    → w ≡ endWord (s .block .board .count) ((at - from) % 256)
+    → w ≡ endWord (s .block .book) (s .block .board .count) ((at - from) % 256)
     → WrittenWords (boardWords (sessionOf s)) before (set after at w) (at + 1)
 all-written s before rowed pinned after rows from at w e h t r q m C D f =
     let R = rowWords (s .block .board .rows) (s .block .board .count) in
@@ -57,10 +57,10 @@ all-written s before rowed pinned after rows from at w e h t r q m C D f =
     let c : (at - from) % 256 ≡ length N = omega arith in
     let b : after ≡ writtenInto before (R ++ (T ++ N)) = B .buffer R before (omega arith) m in
     let l : length (R ++ (T ++ N)) ≡ at = omega (arith, length-append R (T ++ N), length-append T N) in
-    let x : w ≡ endWord (s .block .board .count) (length N) = rw c at f in
+    let x : w ≡ endWord (s .block .book) (s .block .board .count) (length N) = rw c at f in
     rw (parts s e) (record {
-      count = omega (arith, length-append (R ++ (T ++ N)) (endWord (s .block .board .count) (length N) ∷ []));
-      buffer = rw x (store-next (R ++ (T ++ N)) after before at (endWord (s .block .board .count) (length N)) l (omega arith) b);
+      count = omega (arith, length-append (R ++ (T ++ N)) (endWord (s .block .book) (s .block .board .count) (length N) ∷ []));
+      buffer = rw x (store-next (R ++ (T ++ N)) after before at (endWord (s .block .book) (s .block .board .count) (length N)) l (omega arith) b);
     })
 
 -- ── the whole call ──

@@ -19,7 +19,7 @@ use net::Place;
 use numbers::wide;
 use session::Session;
 use words::BOARD_WORDS;
-use words::Counts;
+use words::BoardEnd;
 
 // What writing answers: the count of words written, or a refusal: 20 an unsound session, 18 a buffer under BOARD_WORDS words.
 pub enum WriteAnswer {
@@ -96,22 +96,25 @@ fn write_nets(nets: [Place; 64], out: &mut [u32], from: usize) -> usize
     at
 }
 
-// The board, its taken pins and the nets of a sound session, from the start of the buffer.
+// The board, its taken pins, the nets and the book of a sound session, from the start of the buffer.
 fn write_sound(s: Session, out: &mut [u32]) -> usize
     requires { ⌜ s .block .board .count ≤ 31 ⌝ }
     requires { ⌜ length (takenOf (s .block .taken)) ≤ 128 ⌝ }
     requires { ⌜ boardLimit ≤ length (now out) ⌝ }
     ensures { λ r. ⌜ WrittenWords (boardWords (sessionOf s)) (now (out .entry)) (now (out .exit)) r ⌝ }
 {
-    let board = s.block.board;
-    let pins = s.block.taken;
+    let block = s.block;
+    let board = block.board;
+    let book = block.book;
+    let pins = block.taken;
     let nets = s.nets;
     let rows = wide(board.count);
     write_rows(board, out);
     let from = write_pins(pins, out, rows);
     let at = write_nets(nets, out, from);
     let count = ((at - from) % 256) as u8;
-    out[at] = words::pack_end(Counts {
+    out[at] = words::pack_end(BoardEnd {
+        book,
         rows: board.count,
         nets: count,
     });

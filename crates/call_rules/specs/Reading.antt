@@ -1,5 +1,5 @@
 -- Definitions only: reading a board from words and from bytes (document 01, "Board words", refusals 10 to 16 and 21 to 25; taken pins and 38:
--- document 02, §8). Nothing is proved here.
+-- document 02, §8; the rule book: §9). Nothing is proved here.
 use mathlib.Core.Bool.{Bool, true, false, not, _&&_, _||_}
 use mathlib.Core.List.{List, [], _∷_, _++_}
 use mathlib.Core.Option.{Option, none, some}
@@ -11,6 +11,8 @@ use Rattle.board.specs.declared.Row.{Row}
 use Rattle.board.specs.declared.Vertex.{Vertex}
 use Rattle.board_block.specs.Block.{Block}
 use Rattle.board_block.specs.Taken.{comesBefore, overTaken}
+use Rattle.board_block.specs.declared.Book.{Book}
+use Rattle.board_block.specs.declared.Book.the-variants.{Old}
 use Rattle.board_block.specs.declared.TakenPins.{TakenPins}
 use Rattle.board_convex.specs.Test.{isConvex}
 use Rattle.net.specs.declared.Net.{Net}
@@ -33,15 +35,17 @@ pub record Listed : Type 0 where
   pub index : ℕ
   pub net : Net
 
--- what the words so far have said: rows from the top, taken pins in their order, nets with the last one first, and whether the end word has been
+-- what the words so far have said: rows from the top, taken pins in their order, nets with the last one first, whether the end word has been, and the
+-- book that it names, the old one before it
 pub record Parsed : Type 0 where
   pub rows : List Row
   pub pins : List TakenPins
   pub nets : List Listed
+  pub book : Book
   pub ended : Bool
 
 abbrev pub nothingParsed : Parsed
-nothingParsed = record { rows = []; pins = []; nets = []; ended = false }
+nothingParsed = record { rows = []; pins = []; nets = []; book = Old; ended = false }
 
 abbrev pub isRow : BoardWord → Bool
 isRow (word.Row r) = true
@@ -109,10 +113,10 @@ wordLines i t w =
 
 -- with what the word at index i says
 abbrev pub take : ℕ → Parsed → BoardWord → Parsed
-take i t (word.Row r) = record { rows = t .rows ++ (r ∷ []); pins = t .pins; nets = t .nets; ended = t .ended }
-take i t (word.Taken p) = record { rows = t .rows; pins = t .pins ++ (p ∷ []); nets = t .nets; ended = t .ended }
-take i t (word.Net n) = record { rows = t .rows; pins = t .pins; nets = record { index = i; net = n } ∷ t .nets; ended = t .ended }
-take i t (word.End c) = record { rows = t .rows; pins = t .pins; nets = t .nets; ended = true }
+take i t (word.Row r) = record { rows = t .rows ++ (r ∷ []); pins = t .pins; nets = t .nets; book = t .book; ended = t .ended }
+take i t (word.Taken p) = record { rows = t .rows; pins = t .pins ++ (p ∷ []); nets = t .nets; book = t .book; ended = t .ended }
+take i t (word.Net n) = record { rows = t .rows; pins = t .pins; nets = record { index = i; net = n } ∷ t .nets; book = t .book; ended = t .ended }
+take i t (word.End c) = record { rows = t .rows; pins = t .pins; nets = t .nets; book = c .book; ended = true }
 take i t word.Unknown = t
 
 -- "Board words are taken one by one, each through 12 to 15"; 13 also: "list over without an end (index = length)"
@@ -136,9 +140,9 @@ reverse (n ∷ ns) back = reverse ns (n ∷ back)
 abbrev pub boardIn : Parsed → Board
 boardIn t = record { rows = t .rows }
 
--- "Taken pins belong to the board."
+-- "Taken pins belong to the board."; "Adding, taken pins and reading follow the board's rule." (02, §9)
 abbrev pub blockIn : Parsed → Block
-blockIn t = record { board = boardIn t; taken = t .pins }
+blockIn t = record { board = boardIn t; book = t .book; taken = t .pins }
 
 -- "Reading gives a session with an empty pile"; "a fresh, read or blank one has nothing kept" (02, §5)
 unfoldable pub readNets : Parsed → Result Session
@@ -147,15 +151,15 @@ readNets t =
     (λ ns. yes (withNets (bare (blockIn t)) ns []))
 
 -- 38, "place the word index": of taken pins whose words stand from index i on
-unfoldable pub pinLines : Board → (i : ℕ) → List TakenPins → List Line
-pinLines b i [] = []
-pinLines b i (p ∷ ps) = line (overTaken b p) 38 i ∷ pinLines b (suc i) ps
+unfoldable pub pinLines : Book → Board → (i : ℕ) → List TakenPins → List Line
+pinLines k b i [] = []
+pinLines k b i (p ∷ ps) = line (overTaken k b p) 38 i ∷ pinLines k b (suc i) ps
 
 -- "then 16"; "38 after 16 and before the nets". The words of taken pins follow those of the rows, so the first stands at an index that is the count
 -- of rows
 unfoldable pub readParsed : Parsed → Result Session
 readParsed t =
-    unless (firstRefusal (line (not (isConvex (boardIn t))) 16 0 ∷ pinLines (boardIn t) (length (t .rows)) (t .pins))) (readNets t)
+    unless (firstRefusal (line (not (isConvex (boardIn t))) 16 0 ∷ pinLines (t .book) (boardIn t) (length (t .rows)) (t .pins))) (readNets t)
 
 -- 11: "no words or more than 96", now 224
 abbrev pub badLength : List ℕ → Bool

@@ -1,5 +1,5 @@
--- What is left to refuse a routing call that 20, 31 and 32 let pass; and that a call is refused in one way only, and past 33 never where a routing
--- exists.
+-- What refusals of a routing call go by; what is left to refuse one that 20, 31 and 32 let pass; and that a call is refused in one way only, and past
+-- 33 never where a routing exists.
 -- Assumes nothing.
 use mathlib.Core.Path.{_≡_, refl, sym, _∙_}
 use mathlib.Core.Bool.{true}
@@ -27,6 +27,12 @@ use Rattle.call_rules.specs.Route.{
   by-line,
   none-exists,
 }
+
+-- beside soundness, 31 to 33 go by the board and the nets alone: not by taken pins (02, §8) nor by the book (§9)
+pub same-refused : (s t : Session) (room : ℕ) → sound? s ≡ sound? t → s .block .board ≡ t .block .board → s .nets ≡ t .nets
+    → routeRefused s room ≡ routeRefused t room
+unfolding routeRefused
+same-refused s t room e b n = rw (e, b, n) refl
 
 pub some-none : (q : Refusal) → some q ≡ none → ⊥
 some-none q e = let z : _≡_ {A = ℕ} 0 1 = cc in omega arith

@@ -1,5 +1,5 @@
 -- Definitions only: writing into a lent buffer, and a session's board and nets written as words (document 01, "Board words", refusal 18; document 02,
--- §7, for bytes, §8, for taken pins). Nothing is proved here.
+-- §7, for bytes, §8, for taken pins, §9, for the rule book). Nothing is proved here.
 use mathlib.Core.Path.{_≡_}
 use mathlib.Core.Bool.{not}
 use mathlib.Core.List.{List, [], _∷_, _++_, map}
@@ -14,11 +14,13 @@ use Rattle.call_rules.specs.Result.{Result, no, yes, unless}
 use Rattle.call_rules.specs.Reading.{boardLimit}
 
 -- "Row words top to bottom, then net words in rising number, then one end word." Taken pins "are written too": their words "follow the rows, before
--- the nets" (02, §8)
+-- the nets" (02, §8); "Written words carry the board's rule" (§9), in the end word
 unfoldable pub boardWords : Session → List ℕ
 boardWords s =
     map rowWord (s .block .board .rows)
-    ++ (map takenWord (s .block .taken) ++ (map netWord (s .nets) ++ (endWord (length (s .block .board .rows)) (length (s .nets)) ∷ [])))
+    ++ (map takenWord (s .block .taken)
+    ++ (map netWord (s .nets)
+    ++ (endWord (s .block .book) (length (s .block .board .rows)) (length (s .nets)) ∷ [])))
 
 -- the words written into a buffer: "words after the end word are untouched"; of bytes "Bytes after the page are untouched"
 abbrev pub writtenInto : List ℕ → List ℕ → List ℕ

@@ -169,9 +169,9 @@ OfRouting s ws = (dss : List (List Direction)) × IsRouting s ws dss
 -- ── 1 ──
 -- "Every accepted call .. gives exactly what document 01 lays down for its input, or, for a routing, one of those allowed there. Every refused
 -- call gives its number and place from the table, with the session and each lent buffer the same as before."
--- In each field but `board-stays`, `names-stay`, `none-kept`, `two-turns`, `were-alike`, `read-off`, `same-page` and `as-untaken`, which are laws,
--- and those called rightly: the answer is the definition's, number and place included; what is handed back is the definition's; a refusal changes
--- nothing, but for a list of nets: "for this call alone a refusal leaves that much changed and no more" (document 02, §1).
+-- In each field but `board-stays`, `names-stay`, `none-kept`, `two-turns`, `were-alike`, `read-off`, `same-page`, `same-board` and `as-untaken`,
+-- which are laws, and those called rightly: the answer is the definition's, number and place included; what is handed back is the definition's; a
+-- refusal changes nothing, but for a list of nets: "for this call alone a refusal leaves that much changed and no more" (document 02, §1).
 pub record Demand1 : Type 0 where
   pub add : (s : Session) (n : Net) (r : AfterAdd) → AddPromise s n r
       → (addAnswer (r .answer) ≡ call (sessionOf s) (calls.add n) .answer) × (sessionOf (r .session) ≡ call (sessionOf s) (calls.add n) .next)
@@ -203,7 +203,7 @@ pub record Demand1 : Type 0 where
       × (sessionOf (r .session) ≡ call (sessionOf s) (calls.returnTo k) .next)
       × Returns (sessionOf s) k (returnAnswer (r .answer)) (sessionOf (r .session))
       × ((returnAnswer (r .answer) ≡ accepted → ⊥) → r .session ≡ s)
-  -- 02, §8: "Taken pins belong to the board": no call on a session changes either
+  -- 02, §8: "Taken pins belong to the board", and so does its book (§9): no call on a session changes any of them
   pub board-stays : (s : machine.Session) (c : calls.Call) → call s c .next .block ≡ s .block
   -- what adds, lists of nets, withdrawals, take-backs, returns and keeps under other names do to a name: nothing
   pub names-stay : (s : machine.Session) (c : calls.Call) (k : ℕ) → (ChangesName k c → ⊥) → keptUnder k (call s c .next) ≡ keptUnder k s
@@ -273,6 +273,13 @@ pub record Demand1 : Type 0 where
       → RoutesBytes (sessionOf s) before (routeAnswer r) after
       → Sound (sessionOf s) → routeRoom (sessionOf s) ≤ length before / 4
       → history.RightlyBoth (sessionOf s) (routeAnswer r) (HandsBackBytes (sessionOf s) before after)
+  -- 02, §9: what is shown of cuts and routings is shown "for both books together". On two sound sessions with the same board and nets, whatever their
+  -- books and taken pins, a routing call may answer just the same, and a list is judged the same, in words and in bytes
+  pub same-board : (s t : machine.Session) → Sound s → Sound t → s .block .board ≡ t .block .board → s .nets ≡ t .nets
+      → ((before : List ℕ) (x : Result ℕ) (after : List ℕ) → Routes s before x after ↔ Routes t before x after)
+      × ((before : List ℕ) (x : Result ℕ) (after : List ℕ) → RoutesBytes s before x after ↔ RoutesBytes t before x after)
+      × ((ws : List ℕ) → judgeWords s ws ≡ judgeWords t ws)
+      × ((bs : List ℕ) → judgeBytes s bs ≡ judgeBytes t bs)
   -- 02, §8: "Taken pins don't make a vertex odd or even. .. They limit which nets can stand on a board, and routing such nets is judged as always." A
   -- sound session is sound with none taken, and then a routing call may answer just the same, and a list is judged the same, in words and in bytes
   pub as-untaken : (s : machine.Session) → Sound s
@@ -317,8 +324,8 @@ pub record Demand2 : Type 0 where
   -- and a list of bytes when it is whole words and they do
   pub passes-bytes : (s : Session) (bs : List ℕ) (r : Judgement) → Sound (sessionOf s) → judgementOf r ≡ judgeBytes (sessionOf s) bs
       → Passes r ↔ (WholeWords bs × OfRouting s (wordsIn bs))
-  -- "A session written as words reads back with the same board and nets," its taken pins among what belongs to the board (02, §8: "They are written
-  -- too, and read back the same"),
+  -- "A session written as words reads back with the same board and nets," its taken pins and its book among what belongs to the board (02, §8: "They
+  -- are written too, and read back the same"; §9: "Written words carry the board's rule"),
   pub reads-back : (s : Session) (before : List ℕ) (w : WriteAnswer) (after : List ℕ) → Sound (sessionOf s) → boardLimit ≤ length before
       → WritePromise (sessionOf s) before w after
       → (n : ℕ) × (writeAnswer w ≡ yes n) × ((r : AfterRead) → ReadPromise (readWords (take n after)) r
@@ -336,8 +343,8 @@ pub record Demand2 : Type 0 where
 -- ── 3 ──
 -- "For every list of adds, withdrawals, take-backs and routing calls, refused ones included, from a fresh session on any convex board": what then
 -- holds is `Demand3` of crate session_history, file Demand, in the demand's own words. "its lists take in every call that changes a session"
--- (document 02, §5), a list of nets in one call (§1), keeps and returns among them. A session that `fresh` hands back on a convex board,
--- with pins taken that are there (§8), is fresh.
+-- (document 02, §5), a list of nets in one call (§1), keeps and returns among them. A session that `fresh` hands back on a convex board, under
+-- either book (§9), with pins taken that are there (§8), is fresh.
 pub record Demand3 : Type 0 where
   pub whole : (s : Session) (calls : List Made) → Fresh (sessionOf s) → Chain s calls → history.Demand3 s calls
   pub start : (b : code-block.Block) (s : Session) → Within (blockOf b .board) → Convex (blockOf b .board) → takenFine? (blockOf b) ≡ true

@@ -63,6 +63,7 @@ use Rattle.session_answers.specs.Answers.{addAnswer}
 use Rattle.session_history.specs.Routing as history
 use Rattle.session_history.specs.Listed as history-listed
 use Rattle.session_history.specs.Names as history-names
+use Rattle.session_history.specs.SameBoard as history-board
 use Rattle.session_history.specs.Untaken as history-untaken
 use Rattle.demands.specs.Demands.{Reads, WholeWords, Passes, OfRouting, Demand1, Demand2, Demand3}
 use Rattle.demands.specs.Routing.{words-shown, bytes-shown, itself, differ-itself, c-routed, c-routed-rightly}
@@ -203,6 +204,12 @@ demand-1 = record {
   were-alike = λ s vs ws dss ess e f h. judged-equally-many s vs ws dss ess e f h;
   route-rightly = λ s before r after R S long. history.words-both (sessionOf s) S long R;
   route-bytes-rightly = λ s before r after R S long. history.bytes-both (sessionOf s) S long R;
+  same-board = λ s t S T b n. (
+    history-board.same-routes s t S T b n,
+    history-board.same-routes-bytes s t S T b n,
+    history-board.same-judged s t S T b n,
+    history-board.same-judged-bytes s t S T b n,
+  );
   as-untaken = λ s S. (
     sound-untaken s S,
     history-untaken.untaken-routes s S,

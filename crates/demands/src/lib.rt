@@ -4,7 +4,7 @@ ghost use Rattle.count.specs.Truth.{Decides};
 ghost use Rattle.board.specs.Board.{Within};
 ghost use Rattle.board.specs.Path.{Convex};
 ghost use Rattle.board.specs.View.{boardOf};
-ghost use Rattle.board_block.specs.View.{plainOf};
+ghost use Rattle.board_block.specs.View.{plainOf, withBook};
 ghost use Rattle.board_block.specs.Promise.{TakesPins};
 ghost use Rattle.board_convex.specs.Test.{isConvex};
 ghost use Rattle.session.specs.View.{sessionOf};
@@ -21,6 +21,7 @@ ghost use Rattle.draw_call.specs.Promise.{DrawWordsPromise, DrawBytesPromise};
 ghost use Rattle.route_call.specs.Answers.{routeAnswer};
 use board::Board;
 use board_block::Block;
+use board_block::Book;
 use board_block::TakenPins;
 use board_reading::AfterRead;
 use board_writing::WriteAnswer;
@@ -44,7 +45,7 @@ pub fn is_convex(b: Board) -> bool
     board_convex::is_convex(b)
 }
 
-// A board by itself as a block, of which no pin is taken.
+// A board by itself as a block, under the old rule, of which no pin is taken.
 pub fn plain(b: Board) -> Block
     ensures { λ r. ⌜ r ≡ plainOf b ⌝ }
 {
@@ -56,6 +57,13 @@ pub fn with_taken(b: Block, t: TakenPins) -> Block
     ensures { λ r. ⌜ TakesPins b t r ⌝ }
 {
     board_block::with_taken(b, t)
+}
+
+// The block under this book; its board and taken pins stay.
+pub fn with_book(b: Block, book: Book) -> Block
+    ensures { λ r. ⌜ r ≡ withBook b book ⌝ }
+{
+    board_block::with_book(b, book)
 }
 
 // A session on the block, with no nets, an empty pile and nothing kept.

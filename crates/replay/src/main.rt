@@ -4,6 +4,8 @@
 //     row LEFT RIGHT                        one more row of the board, from the top; starts afresh on the board so far
 //     taken LINE COLUMN COUNT               so many pins of the vertex are taken, in place of what was told of it before, 0 for none; a vertex beyond
 //                                           line or column 31 is passed over; starts afresh on the board so far
+//     book NUMBER                           the board's rule book, 0 the old rule, as at the start, or 1 the new; starts afresh on the board so far.
+//                                           A line with another number is passed over
 //     add NUMBER LINE COLUMN LINE COLUMN    the net with its first and its second terminal
 //     adds NUMBER LINE COLUMN LINE COLUMN NUMBER LINE ..
 //                                           a list of nets in one call, as many as begin on the line; of more than 65 the first 65
@@ -18,7 +20,7 @@
 // Each call prints a line: "accepted", or "refused", the number and the place. Of a list it is "accepted" and how many nets went on, or "refused",
 // the number, the place, "after" and how many went on before. Routing prints its words, each on a line. Then come the nets in rising number, each a
 // line "net" with what add was given, and the pile from its top, each a line "added" or "withdrawn" with the net; then the names that hold something,
-// each a line "kept" with the name and how many nets it holds, and these nets as above.
+// each a line "kept" with the name and how many nets it holds, and these nets as above; then, where the board is under the new rule, a line "book 1".
 ghost use Prim.Native.Nat.{_≤_};
 ghost use lib.ListN.{length};
 ghost use Rattle.text.specs.Put.{Holds};
@@ -28,6 +30,7 @@ use board::Board;
 use board::Row;
 use board::Vertex;
 use board_block::Block;
+use board_block::Book;
 use board_block::TakenPins;
 use net::Change;
 use net::Held;
@@ -324,6 +327,14 @@ fn print_names(names: [Layout; NAMES]) {
     }
 }
 
+// A board under the old rule, which is 0, prints nothing.
+fn print_book(book: Book) {
+    let number = board_block::book_number(book);
+    if 0 < number {
+        text::print_line(b"book", &[wide(number)]);
+    }
+}
+
 // ── the calls ──
 
 // The board with one more row. More than 31 are counted and not kept.
@@ -348,8 +359,9 @@ fn row_line(session: Session, s: &[u8], at: usize) -> Session {
     };
     let block = session.block;
     let board = with_row(block.board, row);
+    let book = block.book;
     let taken = block.taken;
-    session::fresh(Block { board, taken })
+    session::fresh(Block { board, book, taken })
 }
 
 fn taken_line(session: Session, s: &[u8], at: usize) -> Session {
@@ -361,6 +373,15 @@ fn taken_line(session: Session, s: &[u8], at: usize) -> Session {
         count: count.value,
     };
     session::fresh(board_block::with_taken(session.block, pins))
+}
+
+fn book_line(session: Session, s: &[u8], at: usize) -> Session {
+    let read = number(s, at);
+    if 1 < read.value {
+        return session;
+    }
+    let book = board_block::book_of(read.value);
+    session::fresh(board_block::with_book(session.block, book))
 }
 
 fn add_line(session: Session, s: &[u8], at: usize) -> Session {
@@ -425,6 +446,9 @@ fn line(session: Session, s: &[u8], at: usize) -> Session {
     if is_word(s, at, b"taken") {
         return taken_line(session, s, at);
     }
+    if is_word(s, at, b"book") {
+        return book_line(session, s, at);
+    }
     if is_word(s, at, b"add") {
         return add_line(session, s, at);
     }
@@ -472,7 +496,10 @@ fn main() {
     let nets = last.nets;
     let pile = last.pile;
     let names = last.names;
+    let block = last.block;
+    let book = block.book;
     print_nets(nets);
     print_pile(pile);
     print_names(names);
+    print_book(book);
 }

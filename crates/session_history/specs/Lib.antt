@@ -5,4 +5,5 @@ pub mod Demand
 pub mod Routing
 pub mod Listed
 pub mod Names
+pub mod SameBoard
 pub mod Untaken

@@ -17,8 +17,10 @@ use Rattle.board.specs.Degree.{pins}
 use Rattle.board.specs.Tests.{vertex-exact}
 use Rattle.board.specs.declared.Vertex.{Vertex}
 use Rattle.board_block.specs.Block.{Block, takenAt}
+use Rattle.board_block.specs.Pins.{book-below}
 use Rattle.board_block.specs.Taken.{inOrder?, allThere?, takenFine?}
 use Rattle.board_block.specs.TakenLaws.{There, taken-vertices, taken-most}
+use Rattle.board_block.specs.declared.Book.{Book}
 use Rattle.board_block.specs.declared.TakenPins.{TakenPins}
 use Rattle.board_convex.specs.Places.{vertex-in-row}
 use Rattle.board_pins.specs.Pins.{frameSum, allPins}
@@ -49,25 +51,26 @@ few-nets b (n ∷ ns) f g = omega (arith, rising-few b 1 (n ∷ ns) (omega arith
 
 -- ── taken pins ──
 -- all that are taken, over lines and columns 0 to 31, are at least as many as are listed
-listed-taken : (b : Board) (ts : List TakenPins) → Within b → Each (There b) ts → length ts ≤ frameSum (takenAt ts)
+listed-taken : (k : Book) (b : Board) (ts : List TakenPins) → Within b → Each (There k b) ts → length ts ≤ frameSum (takenAt ts)
 unfolding takenAt
-listed-taken b [] w h = omega arith
-listed-taken b (t ∷ ts) w h =
+listed-taken k b [] w h = omega arith
+listed-taken k b (t ∷ ts) w h =
     let v = t .vertex in
-    let k = vertex-in-row b v (vertex-exact b v .0 (h .0 .vertex)) in let x = k .1 in
+    let r = vertex-in-row b v (vertex-exact b v .0 (h .0 .vertex)) in let x = r .1 in
     let here : Vertex → ℕ = λ u. cond (same v u) (t .count) 0 in
-    let g = frame-get here v (omega (arith, x .row, x .high, w .few)) (omega (arith, x .to, w .fits (k .0) (x .row))) in
+    let g = frame-get here v (omega (arith, x .row, x .high, w .few)) (omega (arith, x .to, w .fits (r .0) (x .row))) in
     let m : t .count ≤ frameSum here = rw (same-self v) at g in
-    omega (arith, frame-add here (takenAt ts), listed-taken b ts w (h .1), h .0 .some)
+    omega (arith, frame-add here (takenAt ts), listed-taken k b ts w (h .1), h .0 .some)
 
 pub few-taken : (b : Block) → Within (b .board) → Convex (b .board) → takenFine? b ≡ true → length (b .taken) ≤ 128
 unfolding allPins
 few-taken b w c e =
-    let k = and-true (inOrder? (b .taken)) (allThere? (b .board) (b .taken)) e in
+    let k = and-true (inOrder? (b .taken)) (allThere? (b .book) (b .board) (b .taken)) e in
     omega (
       arith,
-      listed-taken (b .board) (b .taken) w (taken-vertices (b .board) (b .taken) (k .1)),
-      frame-le (takenAt (b .taken)) (pins (b .board)) (λ v. taken-most (b .board) (b .taken) v (k .0) (k .1)),
+      listed-taken (b .book) (b .board) (b .taken) w (taken-vertices (b .book) (b .board) (b .taken) (k .1)),
+      frame-le (takenAt (b .taken)) (pins (b .board))
+          (λ v. omega (arith, taken-most (b .book) (b .board) (b .taken) v (k .0) (k .1), book-below (b .book) (b .board) v)),
       pins-few (b .board) w c,
     )
 

@@ -9,7 +9,7 @@ use Prim.Native.Nat.{_≤_}
 use native.Mathlib.Omega.{arith}
 use Rattle.count.specs.TruthLaws.{and-true, and-yes}
 use Rattle.board.specs.declared.Vertex.{Vertex}
-use Rattle.board_block.specs.Block.{Block, plain, takenAt, pinsOf}
+use Rattle.board_block.specs.Block.{Block, under, takenAt, pinsOf}
 use Rattle.board_block.specs.Taken.{inOrder?, allThere?}
 use Rattle.net.specs.declared.Net.{Net}
 use Rattle.net.specs.declared.Change.{Change}
@@ -63,14 +63,14 @@ module _ (b c : Block) (same : c .board ≡ b .board) (more : (v : Vertex) → p
       and-yes (liftable? c ns x) (lifts? c (reversed x ns) cs) (liftable-more ns x (t .0)) (lifts-more (reversed x ns) cs (t .1))
 
 -- ── with no pin taken ──
-pub pins-untaken : (b : Block) (v : Vertex) → pinsOf b v ≤ pinsOf (plain (b .board)) v
+pub pins-untaken : (b : Block) (v : Vertex) → pinsOf b v ≤ pinsOf (under (b .book) (b .board)) v
 unfolding pinsOf takenAt
 pins-untaken b v = omega arith
 
 pub sound-untaken : (s : Session) → Sound s → Sound (untaken s)
 unfolding inOrder? allThere?
 sound-untaken s h =
-    let b = s .block in let c = plain (s .block .board) in let more = pins-untaken (s .block) in
+    let b = s .block in let c = under (s .block .book) (s .block .board) in let more = pins-untaken (s .block) in
     record {
       within = h .within;
       convex = h .convex;

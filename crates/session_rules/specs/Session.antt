@@ -5,7 +5,7 @@ use mathlib.Core.Option.{Option, none, some}
 use Prim.Native.Nat.{ℕ, suc}
 use lib.Dec.{eqb, ltb}
 use lib.ListN.{getD, replicate}
-use Rattle.board_block.specs.Block.{Block, plain}
+use Rattle.board_block.specs.Block.{Block, under}
 use Rattle.net.specs.Terminals.{same}
 use Rattle.net.specs.declared.Pair.{Pair}
 use Rattle.net.specs.declared.Net.{Net}
@@ -43,9 +43,9 @@ withNets s ns cs = record { block = s .block; nets = ns; pile = cs; names = s .n
 abbrev pub withNames : Session → List Kept → Session
 withNames s ks = record { block = s .block; nets = s .nets; pile = s .pile; names = ks }
 
--- the session on the same board with no pin taken (02, §8); all else stays
+-- the session on the same board with no pin taken (02, §8); all else stays, the board's book too
 abbrev pub untaken : Session → Session
-untaken s = record { block = plain (s .block .board); nets = s .nets; pile = s .pile; names = s .names }
+untaken s = record { block = under (s .block .book) (s .block .board); nets = s .nets; pile = s .pile; names = s .names }
 
 -- what is kept under a name
 abbrev pub keptUnder : ℕ → Session → Kept

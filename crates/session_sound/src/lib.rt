@@ -2,6 +2,7 @@
 use board::Board;
 use board::Vertex;
 use board_block::Block;
+use board_block::Book;
 use net::Change;
 use net::Held;
 use net::Place;
@@ -22,21 +23,21 @@ ghost use Rattle.session_names.specs.Names.{keptIn, keptOf};
 ghost use Rattle.session_sound.specs.Room.{countedAt, roomAt, heldRoom, roomy, layoutRoomy, allRoomy};
 
 // Are there pins at v for all the terminals counted there? Outside lines and columns 0 to 31 no place has pins.
-fn has_pins(b: Board, taken: &[u8; 1024], counts: &[u8; 1024], v: Vertex) -> bool
-    ensures { λ r. ⌜ r ≡ roomAt (blockBy (boardOf b) (now (taken .entry))) (countedAt (now (counts .entry)) v) v ⌝ }
+fn has_pins(book: Book, b: Board, taken: &[u8; 1024], counts: &[u8; 1024], v: Vertex) -> bool
+    ensures { λ r. ⌜ r ≡ roomAt (blockBy book (boardOf b) (now (taken .entry))) (countedAt (now (counts .entry)) v) v ⌝ }
 {
     if v.line < 32 {
         if v.column < 32 {
             let at = wide(v.line) * 32 + wide(v.column);
-            return counts[at] <= board_block::pins_left(b, taken, v);
+            return counts[at] <= board_block::pins_left(book, b, taken, v);
         }
     }
     false
 }
 
 // Do the terminals of what a place holds stand apart, each with pins enough?
-fn has_room(b: Board, taken: &[u8; 1024], counts: &[u8; 1024], place: Place) -> bool
-    ensures { λ r. ⌜ r ≡ heldRoom (blockBy (boardOf b) (now (taken .entry))) (countedAt (now (counts .entry))) (place .held) ⌝ }
+fn has_room(book: Book, b: Board, taken: &[u8; 1024], counts: &[u8; 1024], place: Place) -> bool
+    ensures { λ r. ⌜ r ≡ heldRoom (blockBy book (boardOf b) (now (taken .entry))) (countedAt (now (counts .entry))) (place .held) ⌝ }
 {
     let held = place.held;
     match held {
@@ -45,7 +46,8 @@ fn has_room(b: Board, taken: &[u8; 1024], counts: &[u8; 1024], place: Place) -> 
             let first = ends.first;
             let second = ends.second;
             !net::same_vertex(first, second)
-                & (has_pins(b, taken, counts, first) & has_pins(b, taken, counts, second))
+                & (has_pins(book, b, taken, counts, first)
+                    & has_pins(book, b, taken, counts, second))
         }
     }
 }
@@ -56,11 +58,12 @@ pub fn is_addable(b: Block, nets: [Place; 64]) -> bool
     ensures { λ r. ⌜ (r ≡ roomy (blockOf b) nets) × (length nets ≡ 64) ⌝ }
 {
     let board = b.board;
+    let book = b.book;
     let taken = b.taken;
     let counts = net_terminals::count_terminals(nets);
     let mut ok = true;
     for i in 0..64 {
-        ok = ok & has_room(board, &taken, &counts, nets[i]);
+        ok = ok & has_room(book, board, &taken, &counts, nets[i]);
     }
     ok
 }

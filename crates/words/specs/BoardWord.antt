@@ -1,13 +1,17 @@
--- Definitions only: document 01, "Board words", first table, and document 02, §8, the word of kind 3. Nothing is proved here.
+-- Definitions only: document 01, "Board words", first table, and document 02, §8, the word of kind 3, and §9, the end word's book. Nothing is proved
+-- here.
 use mathlib.Core.Bool.{cond}
 use Prim.Native.Nat.{ℕ, _+_}
 use lib.Dec.{eqb}
 use Rattle.board.specs.Board.{at}
 use Rattle.board.specs.declared.Row.{Row}
+use Rattle.board_block.specs.Book.{bookNumber, bookOf}
 use Rattle.board_block.specs.Taken.{oneOrTwo}
+use Rattle.board_block.specs.declared.Book.{Book}
 use Rattle.board_block.specs.declared.TakenPins.{TakenPins}
 use Rattle.net.specs.declared.Net.{Net}
 use Rattle.words.specs.Bits.{bits, put, kind}
+use Rattle.words.specs.declared.BoardEnd.{BoardEnd}
 use Rattle.words.specs.declared.BoardWord.{BoardWord}
 use Rattle.words.specs.declared.BoardWord.the-variants as word
 
@@ -27,8 +31,9 @@ netWord n =
     + put 5 (n .ends .second .line) + n .ends .second .column
 
 -- | end | 31-28 = 15, 15-8 rows, 7-0 nets |
-abbrev pub endWord : ℕ → ℕ → ℕ
-endWord rows nets = put 28 15 + put 8 rows + nets
+-- 02, §9: "Bits 27-24 of the board's end word say which: 0 the old rule, 1 the new"
+abbrev pub endWord : Book → (rows nets : ℕ) → ℕ
+endWord k rows nets = put 28 15 + put 24 (bookNumber k) + put 8 rows + nets
 
 -- the fields of a word, by its kind
 abbrev pub rowIn : ℕ → Row
@@ -42,6 +47,9 @@ netIn w = record {
   number = bits 20 8 w;
   ends = record { first = at (bits 15 5 w) (bits 10 5 w); second = at (bits 5 5 w) (bits 0 5 w) };
 }
+
+abbrev pub endIn : ℕ → BoardEnd
+endIn w = record { book = bookOf (bits 24 4 w); rows = bits 8 8 w; nets = bits 0 8 w }
 
 -- "Bits not named are zero": a word has no bits but those of its kind and fields
 abbrev pub onlyIf : (w packed : ℕ) → BoardWord → BoardWord
@@ -57,8 +65,9 @@ asTaken w = cond (oneOrTwo (takenIn w .count)) (onlyIf w (takenWord (takenIn w))
 unfoldable pub asNet : ℕ → BoardWord
 asNet w = onlyIf w (netWord (netIn w)) (word.Net (netIn w))
 
+-- "Other values get 12": no book is packed as 2 to 15
 unfoldable pub asEnd : ℕ → BoardWord
-asEnd w = onlyIf w (endWord (bits 8 8 w) (bits 0 8 w)) (word.End (record { rows = bits 8 8 w; nets = bits 0 8 w }))
+asEnd w = onlyIf w (endWord (endIn w .book) (endIn w .rows) (endIn w .nets)) (word.End (endIn w))
 
 -- what a word of a board says, by its kind
 unfoldable pub boardWord : ℕ → BoardWord

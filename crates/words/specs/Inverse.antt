@@ -14,12 +14,16 @@ use Rattle.board.specs.declared.Direction.{Direction}
 use Rattle.board.specs.declared.Direction.the-variants.{Up, Right, Down, Left}
 use Rattle.board.specs.declared.Row.{Row}
 use Rattle.board.specs.declared.Vertex.{Vertex}
+use Rattle.board_block.specs.Book.{bookNumber, bookOf}
 use Rattle.board_block.specs.Taken.{oneOrTwo}
+use Rattle.board_block.specs.declared.Book.{Book}
+use Rattle.board_block.specs.declared.Book.the-variants.{Old, New}
 use Rattle.board_block.specs.declared.TakenPins.{TakenPins}
 use Rattle.net.specs.declared.Net.{Net}
 use Rattle.words.specs.Bits.{bits, kind}
 use Rattle.words.specs.BoardWord as board-word
-use Rattle.words.specs.BoardWord.{rowWord, takenWord, netWord, endWord, rowIn, takenIn, netIn, asRow, asTaken, asNet, asEnd, boardWord}
+use Rattle.words.specs.BoardWord.{rowWord, takenWord, netWord, endWord, rowIn, takenIn, netIn, endIn}
+use Rattle.words.specs.BoardWord.{asRow, asTaken, asNet, asEnd, boardWord}
 use Rattle.words.specs.RoutingWord as routing-word
 use Rattle.words.specs.RoutingWord.{
   pathWord,
@@ -33,7 +37,7 @@ use Rattle.words.specs.RoutingWord.{
   asRoutingEnd,
   routingWord,
 }
-use Rattle.words.specs.declared.Counts.{Counts}
+use Rattle.words.specs.declared.BoardEnd.{BoardEnd}
 use Rattle.words.specs.declared.Path.{Path}
 use Rattle.words.specs.declared.Run.{Run}
 use Rattle.words.specs.declared.BoardWord.the-variants as board
@@ -92,11 +96,20 @@ net-back n (h, (a, b), (c, d)) =
     let u : bits 0 5 (netWord n) ≡ n .ends .second .column = omega arith in
     rw (ne-eqb (kind (netWord n)) 1 (λ e. omega arith), eq-eqb (kind (netWord n)) 2 t, p, q, r, s, u, eq-eqb (netWord n) (netWord n) refl) refl
 
-pub end-back : (c : Counts) → c .rows < 256 → c .nets < 256 → boardWord (endWord (c .rows) (c .nets)) ≡ board.End c
+book-back : (k : Book) → bookOf (bookNumber k) ≡ k
+book-back Old = refl
+book-back New = refl
+
+pub book-small : (k : Book) → bookNumber k < 2
+book-small Old = omega arith
+book-small New = omega arith
+
+pub end-back : (c : BoardEnd) → c .rows < 256 → c .nets < 256 → boardWord (endWord (c .book) (c .rows) (c .nets)) ≡ board.End c
 unfolding boardWord asEnd
 end-back c h k =
-    let w = endWord (c .rows) (c .nets) in
+    let w = endWord (c .book) (c .rows) (c .nets) in let s = book-small (c .book) in
     let t : kind w ≡ 15 = omega arith in
+    let b : bits 24 4 w ≡ bookNumber (c .book) = omega arith in
     let p : bits 8 8 w ≡ c .rows = omega arith in
     let q : bits 0 8 w ≡ c .nets = omega arith in
     rw (
@@ -104,6 +117,8 @@ end-back c h k =
       ne-eqb (kind w) 2 (λ e. omega arith),
       ne-eqb (kind w) 3 (λ e. omega arith),
       eq-eqb (kind w) 15 t,
+      b,
+      book-back (c .book),
       p,
       q,
       eq-eqb w w refl,
@@ -153,7 +168,7 @@ pub data SaysBoard (w : ℕ) : Type 0 where
   says-row : (r : Row) → RowFits r → w ≡ rowWord r → boardWord w ≡ board.Row r → SaysBoard w
   says-taken : (t : TakenPins) → TakenFits t → w ≡ takenWord t → boardWord w ≡ board.Taken t → SaysBoard w
   says-net : (n : Net) → NetFits n → w ≡ netWord n → boardWord w ≡ board.Net n → SaysBoard w
-  says-end : (c : Counts) → c .rows < 256 → c .nets < 256 → w ≡ endWord (c .rows) (c .nets) → boardWord w ≡ board.End c → SaysBoard w
+  says-end : (c : BoardEnd) → c .rows < 256 → c .nets < 256 → w ≡ endWord (c .book) (c .rows) (c .nets) → boardWord w ≡ board.End c → SaysBoard w
   says-nothing : boardWord w ≡ board.Unknown → SaysBoard w
 
 says-row-or-not : (w : ℕ) → boardWord w ≡ asRow w → SaysBoard w
@@ -184,12 +199,12 @@ says-net-or-not w e = elim (bool (eqb (netWord (netIn w)) w)) [
 
 says-end-or-not : (w : ℕ) → boardWord w ≡ asEnd w → SaysBoard w
 unfolding asEnd
-says-end-or-not w e = elim (bool (eqb (endWord (bits 8 8 w) (bits 0 8 w)) w)) [
-  | inl t ↦
-      says-end (record { rows = bits 8 8 w; nets = bits 0 8 w }) (omega arith) (omega arith) (sym (eqb-true (endWord (bits 8 8 w) (bits 0 8 w)) w t))
-      (e ∙ rw t refl)
-  | inr t ↦ says-nothing (e ∙ rw t refl)
-]
+says-end-or-not w e =
+    let packed = endWord (endIn w .book) (endIn w .rows) (endIn w .nets) in
+    elim (bool (eqb packed w)) [
+      | inl t ↦ says-end (endIn w) (omega arith) (omega arith) (sym (eqb-true packed w t)) (e ∙ rw t refl)
+      | inr t ↦ says-nothing (e ∙ rw t refl)
+    ]
 
 pub says-board : (w : ℕ) → SaysBoard w
 unfolding boardWord

@@ -20,6 +20,7 @@ ghost use Rattle.words.specs.RoutingWord.{
 use board::Direction;
 use board::Row;
 use board::Vertex;
+use board_block::Book;
 use board_block::TakenPins;
 use net::Net;
 use net::Pair;
@@ -31,18 +32,19 @@ pub const BOARD_WORDS: usize = 224;
 // The greatest count of a routing's words: 64 paths, 1,984 runs and the end.
 pub const ROUTING_WORDS: usize = 2049;
 
-// The counts of a board's end word.
-pub struct Counts {
+// What a board's end word says: the rule book, and the counts of rows and nets.
+pub struct BoardEnd {
+    pub book: Book,
     pub rows: u8,
     pub nets: u8,
 }
 
-// A word of a board. Unknown: another kind, or a bit set that has no name, or 0 or 3 taken pins.
+// A word of a board. Unknown: another kind, or a bit set that has no name, or 0 or 3 taken pins, or a book that is neither 0 nor 1.
 pub enum BoardWord {
     Row(Row),
     Taken(TakenPins),
     Net(Net),
-    End(Counts),
+    End(BoardEnd),
     Unknown,
 }
 
@@ -100,10 +102,12 @@ pub fn pack_net(n: Net) -> u32
         + as_word(second.column)
 }
 
-pub fn pack_end(c: Counts) -> u32
-    ensures { λ w. ⌜ w ≡ endWord (c .rows) (c .nets) ⌝ }
+pub fn pack_end(e: BoardEnd) -> u32
+    ensures { λ w. ⌜ w ≡ endWord (e .book) (e .rows) (e .nets) ⌝ }
 {
-    4026531840 + as_word(c.rows) * 256 + as_word(c.nets)
+    let book = e.book;
+    let number = board_block::book_number(book);
+    4026531840 + as_word(number) * 16777216 + as_word(e.rows) * 256 + as_word(e.nets)
 }
 
 fn as_row(w: u32) -> BoardWord
@@ -164,12 +168,14 @@ fn as_net(w: u32) -> BoardWord
 fn as_end(w: u32) -> BoardWord
     ensures { λ r. ⌜ r ≡ asEnd w ⌝ }
 {
-    let counts = Counts {
+    let book = board_block::book_of((w / 16777216 % 16) as u8);
+    let end = BoardEnd {
+        book,
         rows: (w / 256 % 256) as u8,
         nets: (w / 1 % 256) as u8,
     };
-    if pack_end(counts) == w {
-        BoardWord::End(counts)
+    if pack_end(end) == w {
+        BoardWord::End(end)
     } else {
         BoardWord::Unknown
     }

@@ -7,6 +7,7 @@ use Rattle.count.specs.Sum.{sum, count}
 use Rattle.count.specs.Lists.{select, tally}
 use Rattle.board.specs.Path.{turn, turns}
 use Rattle.board.specs.Degree.{belowRight, belowLeft, aboveRight, aboveLeft, vertex?, edge?, degree, pins}
+use Rattle.board_block.specs.Book.{pinsBy}
 use Rattle.board_block.specs.Block.{takenAt, pinsOf}
 use Rattle.board_block.specs.Taken.{inOrder?, allThere?}
 use Rattle.board_convex.specs.Test.{rowsFit, contains?, peels, inLimits, isConvex}
@@ -34,8 +35,8 @@ use Rattle.call_rules.specs.Editor.{editorDraw}
 use Rattle.call_rules.specs.Route.{routeRefused}
 
 unfoldable pub everything : ℕ
-unfolding sum count select turn turns belowRight belowLeft aboveRight aboveLeft vertex? edge? degree pins takenAt pinsOf inOrder? allThere? rowsFit
-    contains? peels inLimits isConvex
+unfolding sum count select turn turns belowRight belowLeft aboveRight aboveLeft vertex? edge? degree pins pinsBy takenAt pinsOf inOrder? allThere?
+    rowsFit contains? peels inLimits isConvex
     terminals edges crosses crossing margin overfull? cuts overfullCuts odd? oddVertices edgesFrom trails uses path? joins? once? routing? holds
     insert remove netOf recorded addLines addRefused accepts lay added withdrawn reversed takenBack stored returned addAllStep step
     rising? addable? liftable? lifts? allFine? sound? call

@@ -6,4 +6,5 @@ pub mod Judging
 pub mod Sessions
 pub mod Names
 pub mod Taken
+pub mod Books
 pub mod Pages

@@ -8,6 +8,7 @@ use Prim.Native.Nat.{ℕ}
 use Rattle.board.specs.Board.{at}
 use Rattle.board.specs.declared.Row.{Row}
 use Rattle.board_block.specs.Block.{Block, pinsOf}
+use Rattle.board_block.specs.declared.Book.the-variants.{Old}
 use Rattle.board_block.specs.declared.TakenPins.{TakenPins}
 use Rattle.session_rules.specs.Session.{Session, withNets}
 use Rattle.session_rules.specs.Machine.{add, withdraw, takeBack, keep, returnTo, answers}
@@ -79,7 +80,7 @@ abbrev pins : (l c k : ℕ) → TakenPins
 pins l c k = record { vertex = at l c; count = k }
 
 abbrev block : List Row → List TakenPins → Block
-block rs ts = record { board = board rs; taken = ts }
+block rs ts = record { board = board rs; book = Old; taken = ts }
 
 abbrev cell : List TakenPins → Block
 cell ts = block (row 0 1 ∷ []) ts

@@ -18,12 +18,12 @@ use Rattle.board_block.proofs.is_fine.Lts as lts
 use Rattle.board_block.proofs.is_there.Reads as is-there-reads
 
 abbrev Inv-loop : tie.InvT-loop
-Inv-loop board pins ok₀ i₀ ok i =
+Inv-loop board book pins ok₀ i₀ ok i =
     (i ≤ 1024) × (length pins ≡ 1024)
-    × (ok && allThere? (boardOf board) (takenFrom i (drop i pins)) ≡ allThere? (boardOf board) (takenOf pins))
+    × (ok && allThere? book (boardOf board) (takenFrom i (drop i pins)) ≡ allThere? book (boardOf board) (takenOf pins))
 
 abbrev μ-loop : tie.MeasureT-loop
-μ-loop board pins ok₀ i₀ ok i = 1024 - i
+μ-loop board book pins ok₀ i₀ ok i = 1024 - i
 
 loop-holds : tie.Need-loop-holds Inv-loop μ-loop
 loop-holds c = (omega arith, search needs, refl)
@@ -46,14 +46,14 @@ loop-again c =
     let b = c .before .before .before .before .before .args .b in (
       omega arith,
       at .inv .1,
-      there-next (boardOf (b .board)) (b .taken) (at .i) (at .ok) (c .is-there .result) _ (omega arith) (c .is-there .ensures) (at .inv .2),
+      there-next (b .book) (boardOf (b .board)) (b .taken) (at .i) (at .ok) (c .is-there .result) _ (omega arith) (c .is-there .ensures) (at .inv .2),
     )
 
 returns : tie.Need-returns Inv-loop μ-loop
 returns c =
     let at = c .before .loop in
     let b = c .before .before .before .before .args .b in
-    rw (taken-ordered (b .taken)) (there-last (boardOf (b .board)) (b .taken) (at .i) (at .ok) _ (omega arith) (at .inv .2))
+    rw (taken-ordered (b .taken)) (there-last (b .book) (boardOf (b .board)) (b .taken) (at .i) (at .ok) _ (omega arith) (at .inv .2))
 
 pub is-fine-spec : {M : Type 1} → statement M
 is-fine-spec =

@@ -1,4 +1,4 @@
--- The board stays, and the array gets the taken pins.
+-- The board and its book stay, and the array gets the taken pins.
 use mathlib.Core.Path.{_≡_, refl}
 use lib.ListN.{length}
 use Rattle.board_block.specs.ViewLaws.{takes-pins}

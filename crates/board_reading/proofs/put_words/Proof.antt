@@ -18,13 +18,13 @@ use Rattle.board_reading.proofs.put_word.Reads as put-word-reads
 use Rattle.words.proofs.board_word.Reads as board-word-reads
 
 abbrev Inv-loop : tie.InvT-loop
-Inv-loop b words pins₀ n i₀ pins i = (i ≤ n) × (n ≡ length words) × Pinning (boardOf b) words i pins
+Inv-loop book b words pins₀ n i₀ pins i = (i ≤ n) × (n ≡ length words) × Pinning book (boardOf b) words i pins
 
 abbrev μ-loop : tie.MeasureT-loop
-μ-loop b words pins₀ n i₀ pins i = n - i
+μ-loop book b words pins₀ n i₀ pins i = n - i
 
 loop-holds : tie.Need-loop-holds Inv-loop μ-loop
-loop-holds c = (omega arith, refl, pinning-start (boardOf (c .before .args .b)) (c .before .args .words .now))
+loop-holds c = (omega arith, refl, pinning-start (c .before .args .book) (boardOf (c .before .args .b)) (c .before .args .words .now))
 
 mul-board-word : tie.Need-mul-board-word Inv-loop μ-loop
 mul-board-word c = search needs
@@ -45,9 +45,9 @@ returns c =
     let at = c .before .before .before .before .before .before .loop in
     let args = c .before .before .before .before .before .before .before .before .args in
     let ws = args .words .now in
-    let o : overWord (boardOf (args .b)) (boardWord (getD ws (at .i) 0)) ≡ true =
+    let o : overWord (args .book) (boardOf (args .b)) (boardWord (getD ws (at .i) 0)) ≡ true =
     rw (← word .ensures) (sym (put .ensures .refused) ∙ c .if1 .taken) in
-    inl (refl, pinning-refused (boardOf (args .b)) ws (at .i) (at .pins) (at .inv .2) (omega arith) o)
+    inl (refl, pinning-refused (args .book) (boardOf (args .b)) ws (at .i) (at .pins) (at .inv .2) (omega arith) o)
 
 add-i : tie.Need-add-i Inv-loop μ-loop
 add-i c = search needs
@@ -62,16 +62,16 @@ loop-again c =
     let at = c .before .before .before .before .before .before .loop in
     let args = c .before .before .before .before .before .before .before .before .args in
     let ws = args .words .now in
-    let o : overWord (boardOf (args .b)) (boardWord (getD ws (at .i) 0)) ≡ false =
+    let o : overWord (args .book) (boardOf (args .b)) (boardWord (getD ws (at .i) 0)) ≡ false =
     rw (← word .ensures) (sym (put .ensures .refused) ∙ c .if1 .left) in
     let a = rw (c .if1 .left, word .ensures) at (put .ensures .array) in
-    (omega arith, at .inv .1, rw a (pinning-more (boardOf (args .b)) ws (at .i) (at .pins) (at .inv .2) (omega arith) o))
+    (omega arith, at .inv .1, rw a (pinning-more (args .book) (boardOf (args .b)) ws (at .i) (at .pins) (at .inv .2) (omega arith) o))
 
 returns-2 : tie.Need-returns-2 Inv-loop μ-loop
 returns-2 c =
     let at = c .before .loop in
     let args = c .before .before .before .args in
-    let e = pinning-end (boardOf (args .b)) (args .words .now) (at .i) (at .pins) (at .inv .2) (omega arith) in
+    let e = pinning-end (args .book) (boardOf (args .b)) (args .words .now) (at .i) (at .pins) (at .inv .2) (omega arith) in
     inr (refl, e .0, e .1)
 
 pub put-words-spec : {M : Type 1} → statement M

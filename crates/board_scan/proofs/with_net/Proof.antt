@@ -8,8 +8,8 @@ use Rattle.board_scan.proofs.with_net.Tie as tie
 use Rattle.board_scan.proofs.with_net.Reads as reads
 use Rattle.board_scan.proofs.with_net.Lts as lts
 
-add-t8 : tie.Need-add-t8
-add-t8 c = search needs
+add-t9 : tie.Need-add-t9
+add-t9 c = search needs
 
 returns : tie.Need-returns
 unfolding withNet
@@ -20,4 +20,4 @@ unfolding withNet
 returns-2 c = rw (le-ltb (c .before .before .before .args .s .nets) 255 (c .if1 .left)) refl
 
 pub with-net-spec : {M : Type 1} → statement M
-with-net-spec = tie.close (tie.spec add-t8 returns returns-2)
+with-net-spec = tie.close (tie.spec add-t9 returns returns-2)

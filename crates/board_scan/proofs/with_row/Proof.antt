@@ -18,8 +18,8 @@ mul-rows c = search needs
 array-set-from-rows : tie.Need-array-set-from-rows
 array-set-from-rows c = search needs
 
-add-t13 : tie.Need-add-t13
-add-t13 c = search needs
+add-t14 : tie.Need-add-t14
+add-t14 c = search needs
 
 returns : tie.Need-returns
 unfolding withRow
@@ -31,4 +31,4 @@ returns-2 c = rw (le-ltb (c .before .before .before .before .args .s .board .cou
 
 pub with-row-spec : {M : Type 1} → statement M
 with-row-spec =
-    tie.close (tie.spec wide-requires mul-rows array-set-from-rows add-t13 returns returns-2)
+    tie.close (tie.spec wide-requires mul-rows array-set-from-rows add-t14 returns returns-2)

@@ -29,14 +29,14 @@ enum-known-w-3 c = search needs
 with-net-requires : tie.Need-with-net-requires
 with-net-requires c κs = search needs
 
-enum-told : tie.Need-enum-told
-enum-told c = search needs
+enum-known-w-4 : tie.Need-enum-known-w-4
+enum-known-w-4 c = search needs
 
 with-end-requires : tie.Need-with-end-requires
 with-end-requires c κs = search needs
 
-enum-told-2 : tie.Need-enum-told-2
-enum-told-2 c = search needs
+enum-told : tie.Need-enum-told
+enum-told c = search needs
 
 returns : tie.Need-returns
 unfolding withWord
@@ -52,11 +52,11 @@ returns-3 c = rw (c .before .before .w3 .given .1) (c .with-net .ensures)
 
 returns-4 : tie.Need-returns-4
 unfolding withWord
-returns-4 c = rw (c .before .enum-told .given .1) (c .with-end .ensures)
+returns-4 c = rw (c .before .before .w4 .given .1) (c .with-end .ensures)
 
 returns-5 : tie.Need-returns-5
 unfolding withWord
-returns-5 c = rw (c .enum-told2 .given .1) refl
+returns-5 c = rw (c .enum-told .given .1) refl
 
 pub with-word-spec : {M : Type 1} → statement M
 with-word-spec =
@@ -68,9 +68,9 @@ with-word-spec =
     with-taken-requires
     enum-known-w-3
     with-net-requires
-    enum-told
+    enum-known-w-4
     with-end-requires
-    enum-told-2
+    enum-told
     returns
     returns-2
     returns-3

@@ -32,7 +32,7 @@ write-pins-requires c κs = search needs
 write-nets-requires : tie.Need-write-nets-requires
 write-nets-requires c κs =
     let at-write-pins = c .before .before .before in let write-pins = at-write-pins .write-pins in
-    let s = at-write-pins .before .before .before .before .before .before .before .before .before .before .before .args .s in
+    let s = at-write-pins .before .before .before .before .before .before .before .before .before .before .before .before .args .s in
     omega (arith, write-pins .ensures .index, length-map (takenOf (s .block .taken)) takenWord)
 
 sub-count : tie.Need-sub-count
@@ -48,7 +48,8 @@ slice-write-out : tie.Need-slice-write-out
 slice-write-out c =
     let at-write-nets = c .before .before .before in let write-nets = at-write-nets .write-nets in
     let at-write-pins = at-write-nets .before .before .before .before in let write-pins = at-write-pins .write-pins in
-    let at-args = at-write-pins .before .before .before .before .before .before .before .before .before .before .before in let s = at-args .args .s in
+    let at-args = at-write-pins .before .before .before .before .before .before .before .before .before .before .before .before in
+    let s = at-args .args .s in
     let l : length (s .nets) ≡ 64 = search (needs, length-unmapped-by, at-args .good .0) in
     let at-wide = at-write-pins .before .before .before .before .before .before in let wide = at-wide .wide in
     let g : write-nets .result < length (write-nets .last .1 .0) =
@@ -81,7 +82,8 @@ returns : tie.Need-returns
 returns c =
     let at-write-nets = c .before .before .before in let write-nets = at-write-nets .write-nets in
     let at-write-pins = at-write-nets .before .before .before .before in let write-pins = at-write-pins .write-pins in
-    let at-args = at-write-pins .before .before .before .before .before .before .before .before .before .before .before in let s = at-args .args .s in
+    let at-args = at-write-pins .before .before .before .before .before .before .before .before .before .before .before .before in
+    let s = at-args .args .s in
     let l : length (s .nets) ≡ 64 = search (needs, length-unmapped-by, at-args .good .0) in
     let at-write-rows = at-write-pins .before .before .before .before in let write-rows = at-write-rows .write-rows in
     let at-wide = at-write-rows .before .before in let wide = at-wide .wide in

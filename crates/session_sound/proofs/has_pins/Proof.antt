@@ -43,7 +43,7 @@ returns c =
     rw (
       lt-ltb _ _ line,
       lt-ltb _ _ column,
-      c .pins-left .ensures ∙ left-pins (boardOf (args .b)) (args .taken .now) (args .v) line column,
+      c .pins-left .ensures ∙ left-pins (args .book) (boardOf (args .b)) (args .taken .now) (args .v) line column,
       at-wide .wide .ensures .0,
       at-wide2 .wide2 .ensures .0,
     ) refl

@@ -24,12 +24,12 @@ use Rattle.net_terminals.proofs.count_terminals.Reads as count-terminals-reads
 use Rattle.session_sound.proofs.has_room.Reads as has-room-reads
 
 abbrev Inv-loop : tie.InvT-loop
-Inv-loop nets board taken counts ok₀ i₀ ok i =
-    let b = blockBy (boardOf board) taken in
+Inv-loop nets board book taken counts ok₀ i₀ ok i =
+    let b = blockBy book (boardOf board) taken in
     (i ≤ 64) × (length nets ≡ 64) × (ok && placesRoom b (terminals (pairsOf nets)) (drop i nets) ≡ roomy b nets)
 
 abbrev μ-loop : tie.MeasureT-loop
-μ-loop nets board taken counts ok₀ i₀ ok i = 64 - i
+μ-loop nets board book taken counts ok₀ i₀ ok i = 64 - i
 
 count-terminals-requires : tie.Need-count-terminals-requires Inv-loop μ-loop
 count-terminals-requires c κs = search needs
