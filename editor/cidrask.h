@@ -3,11 +3,11 @@
  * Boards. A board is 1 to 31 rows of unit cells, row 0 at the top; a row runs from column left to column right, 0 <= left < right <= 31. The corners
  * of its cells are the vertices and their sides the edges. A vertex is written (line, column); line i is the top of row i. A board is convex when of
  * any two rows one contains the other, and widths never shrink and then grow again from top to bottom. A board has a rule book, 0 the old rule or 1
- * the new. A vertex of degree d has 4 - d pins, but under the new rule one of degree 2 has one pin. Of these the package may have taken some; it
- * takes as many terminals as pins are left. It is odd when d plus its terminals is odd, whatever the book and the pins that are taken. Nets that a
- * board takes are routed, and lists for them judged, compared and drawn, in the same way under both books. A net has a number from 1 to 64 and a
- * first and a second terminal. Row i has the vertical edges of its cells, column j the horizontal edges between columns j and j + 1; a net crosses
- * it when its terminals lie on different sides. Reading order is line by line and column by column.
+ * the new. A vertex of degree d has 4 - d pins, but under the new rule one of degree 2 has one pin. Of these the package may have taken some, and
+ * the vertex takes as many terminals as pins are left. It is odd when d plus its terminals is odd, whatever the book and the pins that are taken.
+ * Where a board takes its nets under both books, a routing is given or refused alike under both, and lists are judged, compared and drawn the same.
+ * A net has a number from 1 to 64 and a first and a second terminal. Row i has the vertical edges of its cells, column j the horizontal edges
+ * between columns j and j + 1; a net crosses it when its terminals lie on different sides. Reading order is line by line and column by column.
  *
  * Words. A word is four bytes, lowest first; bits not named are 0. A board is a row word for each row from the top, a taken word for each vertex
  * with taken pins, in reading order and no vertex twice, a net word for each net in rising number, and an end word: at most 224 words. A routing is

@@ -72,6 +72,7 @@ use Rattle.cidrask_told.specs.Told.{tell, firstOf, refusedTold, countTold}
 use Rattle.cidrask.specs.Promise.{RoutePromise, JudgePromise, AlikePromise, DrawPromise}
 use Rattle.session_history.specs.Made.{Made, changed, routed, routedBytes, Meets, Chain, last, callsOf, answersOf}
 use Rattle.session_history.specs.Demand as history
+use Rattle.session_history.specs.Answered.{AnsweredAlike}
 
 -- ── the parts of the statements ──
 -- reading, where document 01 gives x for the input: accepted exactly where x is a session, and that session is handed back; else x's refusal, with
@@ -274,20 +275,11 @@ pub record Demand1 : Type 0 where
       → Sound (sessionOf s) → routeRoom (sessionOf s) ≤ length before / 4
       → history.RightlyBoth (sessionOf s) (routeAnswer r) (HandsBackBytes (sessionOf s) before after)
   -- 02, §9: what is shown of cuts and routings is shown "for both books together". On two sound sessions with the same board and nets, whatever their
-  -- books and taken pins, a routing call may answer just the same, and a list is judged the same, in words and in bytes
-  pub same-board : (s t : machine.Session) → Sound s → Sound t → s .block .board ≡ t .block .board → s .nets ≡ t .nets
-      → ((before : List ℕ) (x : Result ℕ) (after : List ℕ) → Routes s before x after ↔ Routes t before x after)
-      × ((before : List ℕ) (x : Result ℕ) (after : List ℕ) → RoutesBytes s before x after ↔ RoutesBytes t before x after)
-      × ((ws : List ℕ) → judgeWords s ws ≡ judgeWords t ws)
-      × ((bs : List ℕ) → judgeBytes s bs ≡ judgeBytes t bs)
+  -- books and taken pins, routing, judging, comparing and drawing answer just the same, in words and in bytes
+  pub same-board : (s t : machine.Session) → Sound s → Sound t → s .block .board ≡ t .block .board → s .nets ≡ t .nets → AnsweredAlike s t
   -- 02, §8: "Taken pins don't make a vertex odd or even. .. They limit which nets can stand on a board, and routing such nets is judged as always." A
-  -- sound session is sound with none taken, and then a routing call may answer just the same, and a list is judged the same, in words and in bytes
-  pub as-untaken : (s : machine.Session) → Sound s
-      → Sound (untaken s)
-      × ((before : List ℕ) (x : Result ℕ) (after : List ℕ) → Routes s before x after ↔ Routes (untaken s) before x after)
-      × ((before : List ℕ) (x : Result ℕ) (after : List ℕ) → RoutesBytes s before x after ↔ RoutesBytes (untaken s) before x after)
-      × ((ws : List ℕ) → judgeWords s ws ≡ judgeWords (untaken s) ws)
-      × ((bs : List ℕ) → judgeBytes s bs ≡ judgeBytes (untaken s) bs)
+  -- sound session is sound with none taken, and these calls then answer just the same
+  pub as-untaken : (s : machine.Session) → Sound s → Sound (untaken s) × AnsweredAlike s (untaken s)
   -- for C: the board's bytes are read first; a refusal is told by its number and place, and leaves the buffer as it was
   pub c-route : (board before : List ℕ) (number first second : ℕ) (after : List ℕ) → RoutePromise board before number first second after
       → ((q : Refusal) → readBytes board ≡ no q → (tell number first second 0 ≡ refusedTold q) × (after ≡ before))

@@ -204,19 +204,8 @@ demand-1 = record {
   were-alike = λ s vs ws dss ess e f h. judged-equally-many s vs ws dss ess e f h;
   route-rightly = λ s before r after R S long. history.words-both (sessionOf s) S long R;
   route-bytes-rightly = λ s before r after R S long. history.bytes-both (sessionOf s) S long R;
-  same-board = λ s t S T b n. (
-    history-board.same-routes s t S T b n,
-    history-board.same-routes-bytes s t S T b n,
-    history-board.same-judged s t S T b n,
-    history-board.same-judged-bytes s t S T b n,
-  );
-  as-untaken = λ s S. (
-    sound-untaken s S,
-    history-untaken.untaken-routes s S,
-    history-untaken.untaken-routes-bytes s S,
-    history-untaken.untaken-judged s S,
-    history-untaken.untaken-judged-bytes s S,
-  );
+  same-board = history-board.same-board;
+  as-untaken = λ s S. (sound-untaken s S, history-untaken.untaken-answered s S);
   c-route = λ board before number first second after P. c-routed board before after (P .result) (tell number first second 0) (P .told) (P .routes);
   c-route-rightly = λ board before number first second after P s e long.
       c-routed-rightly board before after (P .result) (tell number first second 0) (P .told) (P .routes) s e long;

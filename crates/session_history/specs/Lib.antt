@@ -5,5 +5,6 @@ pub mod Demand
 pub mod Routing
 pub mod Listed
 pub mod Names
+pub mod Answered
 pub mod SameBoard
 pub mod Untaken

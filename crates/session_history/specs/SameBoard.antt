@@ -1,9 +1,8 @@
--- What a routing call may answer goes by the board and the nets, for both books together (document 02, §9) and whatever pins are taken: on two
--- sound sessions that have these in common it is the same (`same-routes`), and so is judging (`same-judged`).
+-- What routing, judging, comparing and drawing answer goes by the board and the nets, for both books together (document 02, §9) and whatever pins are
+-- taken: on two sound sessions that have these in common it is the same.
 -- Assumes that the sessions are sound.
 use mathlib.Core.Path.{_≡_, refl, sym, _∙_}
 use mathlib.Core.List.{List}
-use mathlib.Core.Logic.{_↔_}
 use Prim.Native.Nat.{ℕ, _/_}
 use lib.ListN.{length}
 use Rattle.session_rules.specs.Refusal.{Refusal}
@@ -11,7 +10,8 @@ use Rattle.session_rules.specs.Session as machine
 use Rattle.session_rules.specs.Sound.{Sound, sound?}
 use Rattle.session_laws.specs.Exact.{sound-exact}
 use Rattle.call_rules.specs.Result.{Result}
-use Rattle.call_rules.specs.Judge.{judged, judgeWords, judgeBytes}
+use Rattle.call_rules.specs.Judge.{judged, judgeWords, judgeBytes, compareWords, compareBytes}
+use Rattle.call_rules.specs.Page.{drawWords, drawBytes}
 use Rattle.call_rules.specs.Route.{
   routeRefused,
   WhyRefused,
@@ -25,6 +25,7 @@ use Rattle.call_rules.specs.Route.{
   given,
 }
 use Rattle.call_rules.specs.RouteLaws.{same-refused}
+use Rattle.session_history.specs.Answered.{AnsweredAlike}
 
 -- from one of them to the other
 module _ (s t : machine.Session) (S : Sound s) (T : Sound t) (b : s .block .board ≡ t .block .board) (n : s .nets ≡ t .nets) where
@@ -54,18 +55,20 @@ module _ (s t : machine.Session) (S : Sound s) (T : Sound t) (b : s .block .boar
   carried-bytes before x after (refused w) = refused (same-why (length before / 4) w)
   carried-bytes before x after (given {count = k} e h) = given (sym (refused-same (length before / 4)) ∙ e) (same-handed-bytes before after k h)
 
-  pub same-judged : (ws : List ℕ) → judgeWords s ws ≡ judgeWords t ws
-  unfolding judgeWords judged
-  same-judged ws = rw (both-sound, b, n) refl
-
-  pub same-judged-bytes : (bs : List ℕ) → judgeBytes s bs ≡ judgeBytes t bs
-  unfolding judgeBytes judged
-  same-judged-bytes bs = rw (both-sound, b, n) refl
-
 -- and both ways
 module _ (s t : machine.Session) (S : Sound s) (T : Sound t) (b : s .block .board ≡ t .block .board) (n : s .nets ≡ t .nets) where
-  pub same-routes : (before : List ℕ) (x : Result ℕ) (after : List ℕ) → Routes s before x after ↔ Routes t before x after
-  same-routes before x after = (carried s t S T b n before x after, carried t s T S (sym b) (sym n) before x after)
-
-  pub same-routes-bytes : (before : List ℕ) (x : Result ℕ) (after : List ℕ) → RoutesBytes s before x after ↔ RoutesBytes t before x after
-  same-routes-bytes before x after = (carried-bytes s t S T b n before x after, carried-bytes t s T S (sym b) (sym n) before x after)
+  pub same-board : AnsweredAlike s t
+  unfolding judgeWords judgeBytes compareWords compareBytes drawWords drawBytes judged
+  same-board = record {
+    routed = λ before x after. (carried s t S T b n before x after, carried t s T S (sym b) (sym n) before x after);
+    routed-bytes = λ before x after. (carried-bytes s t S T b n before x after, carried-bytes t s T S (sym b) (sym n) before x after);
+    judged = λ ws. rw (sound, b, n) refl;
+    judged-bytes = λ bs. rw (sound, b, n) refl;
+    compared = λ vs ws. rw (sound, b, n) refl;
+    compared-bytes = λ one two. rw (sound, b, n) refl;
+    drawn = λ ws room. rw (sound, b, n) refl;
+    drawn-bytes = λ bs room. rw (sound, b, n) refl;
+  }
+    where
+      sound : sound? s ≡ sound? t
+      sound = both-sound s t S T b n

@@ -122,20 +122,20 @@ soundness : map sound? (
 unfolding everything
 soundness = refl
 
--- the same calls under both books: a second net at (0,0) goes on by the old rule alone, and after a return a second one at (1,1); what was withdrawn
--- or kept fills its pins again once it is back
+-- the same calls under both books: a second net at (0,0) goes on by the old rule alone, also once a withdrawn net is taken back there, and so does a
+-- second one at (1,1) after a return
 abbrev calls : List Call
 calls =
-    add (net 1 0 0 1 1) ∷ keep 3 ∷ add (net 2 0 0 1 0) ∷ withdraw 1 ∷ add (net 2 0 0 1 0) ∷ takeBack ∷ takeBack ∷ add (net 2 0 1 1 0)
-    ∷ returnTo 3 ∷ add (net 3 1 1 0 1) ∷ add (net 3 0 1 1 0) ∷ []
+    add (net 1 0 0 1 1) ∷ keep 3 ∷ add (net 2 0 0 1 0) ∷ withdraw 1 ∷ add (net 2 0 0 1 0) ∷ takeBack ∷ takeBack ∷ add (net 3 0 0 1 0)
+    ∷ add (net 2 0 1 1 0) ∷ returnTo 3 ∷ add (net 3 1 1 0 1) ∷ add (net 3 0 1 1 0) ∷ []
 
 calls-old : map answerList (answers (bare (under Old (board (row 0 1 ∷ [])))) calls)
-    ≡ [] ∷ [] ∷ [] ∷ [] ∷ (22 ∷ 0 ∷ []) ∷ [] ∷ [] ∷ [] ∷ [] ∷ [] ∷ (22 ∷ 0 ∷ []) ∷ []
+    ≡ [] ∷ [] ∷ [] ∷ [] ∷ (22 ∷ 0 ∷ []) ∷ [] ∷ [] ∷ [] ∷ [] ∷ [] ∷ [] ∷ (22 ∷ 0 ∷ []) ∷ []
 unfolding everything
 calls-old = refl
 
 calls-new : map answerList (answers (bare (under New (board (row 0 1 ∷ [])))) calls)
-    ≡ [] ∷ [] ∷ (25 ∷ 0 ∷ []) ∷ [] ∷ [] ∷ [] ∷ [] ∷ [] ∷ [] ∷ (25 ∷ 0 ∷ []) ∷ [] ∷ []
+    ≡ [] ∷ [] ∷ (25 ∷ 0 ∷ []) ∷ [] ∷ [] ∷ [] ∷ [] ∷ (25 ∷ 0 ∷ []) ∷ [] ∷ [] ∷ (25 ∷ 0 ∷ []) ∷ [] ∷ []
 unfolding everything
 calls-new = refl
 
