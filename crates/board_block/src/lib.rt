@@ -52,7 +52,7 @@ pub fn book_number(book: Book) -> u8
     }
 }
 
-// The book of a number, which is 0 or 1.
+// The book of a number: 0 is the old rule's, any other is read as the new one's, which is 1.
 pub fn book_of(number: u8) -> Book
     ensures { λ r. ⌜ r ≡ bookOf number ⌝ }
 {

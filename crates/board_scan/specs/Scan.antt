@@ -84,7 +84,7 @@ withWord s (word.Net n) = withNet s n
 withWord s (word.End e) = withEnd s e
 withWord s word.Unknown = s
 
--- before the first word; row 0 of the array is that of the blank session
+-- before the first word
 abbrev pub start : Scan
 start = record {
   board = record { count = 0; rows = replicate 31 (record { left = 0; right = 0 }) };

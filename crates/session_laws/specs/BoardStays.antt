@@ -1,4 +1,4 @@
--- No call on a session changes its block: the board stays, and "Taken pins belong to the board" (document 02, §8).
+-- No call on a session changes its block: the board stays, with its book (document 02, §9), and "Taken pins belong to the board" (§8).
 -- Assumes nothing.
 use mathlib.Core.Path.{_≡_, refl}
 use mathlib.Core.List.{List, [], _∷_}

@@ -1,4 +1,5 @@
--- Definitions only: when a net may be added (document 01, refusals 21 to 25). Nothing is proved here.
+-- Definitions only: when a net may be added (document 01, refusals 21 to 25), by the pins that the board's book and the package leave (document 02,
+-- §8, §9). Nothing is proved here.
 use mathlib.Core.Bool.{Bool, true, false, not, _&&_}
 use mathlib.Core.List.{List, [], _∷_}
 use mathlib.Core.Option.{Option, none, some}

@@ -1,5 +1,5 @@
 -- Definitions only: sound, fresh and blank sessions, and what a call does with any session (document 01, refusal 20; names: document 02, §5; taken
--- pins: §8). Nothing is proved here.
+-- pins: §8; all by the board's own book: §9). Nothing is proved here.
 use mathlib.Core.Path.{_≡_}
 use mathlib.Core.Bool.{Bool, true, cond, _&&_}
 use mathlib.Core.List.{List, [], _∷_}

@@ -4,14 +4,17 @@
 use mathlib.Core.Path.{_≡_, refl}
 use mathlib.Core.Bool.{true, false}
 use mathlib.Core.List.{List, [], _∷_, map}
+use mathlib.Core.Option.{none, some}
 use Prim.Native.Nat.{ℕ}
+use lib.ListN.{replicate}
 use Rattle.board.specs.Board.{at}
 use Rattle.board_block.specs.Book.{bookNumber, pinsBy}
 use Rattle.board_block.specs.Block.{Block, under, pinsOf}
 use Rattle.board_block.specs.declared.Book.{Book}
 use Rattle.board_block.specs.declared.Book.the-variants.{Old, New}
 use Rattle.board_block.specs.declared.TakenPins.{TakenPins}
-use Rattle.session_rules.specs.Session.{Session, withNets}
+use Rattle.net.specs.declared.Change.the-variants.{Withdrawn}
+use Rattle.session_rules.specs.Session.{Session, withNets, withNames}
 use Rattle.session_rules.specs.Machine.{Call, add, withdraw, takeBack, keep, returnTo, answers}
 use Rattle.session_rules.specs.Sound.{sound?, call, bare, blank}
 use Rattle.call_rules.specs.Result.{Result, no, yes}
@@ -121,6 +124,17 @@ soundness : map sound? (
     ≡ true ∷ false ∷ true ∷ false ∷ true ∷ false ∷ true ∷ []
 unfolding everything
 soundness = refl
+
+-- and so it does of what a name holds and of the pile: two nets at a corner are kept; a withdrawn net is to come back to one that another has taken
+abbrev two-kept : Book → Session
+two-kept k = withNames (bare (cell k [])) (some (net 1 0 0 0 1 ∷ net 2 0 0 1 0 ∷ []) ∷ replicate 7 none)
+
+abbrev one-laid : Book → Session
+one-laid k = withNets (bare (cell k [])) (net 1 0 0 0 1 ∷ []) (Withdrawn (net 2 0 0 1 0) ∷ [])
+
+kept-and-laid : map sound? (two-kept Old ∷ two-kept New ∷ one-laid Old ∷ one-laid New ∷ []) ≡ true ∷ false ∷ true ∷ false ∷ []
+unfolding everything
+kept-and-laid = refl
 
 -- the same calls under both books: a second net at (0,0) goes on by the old rule alone, also once a withdrawn net is taken back there, and so does a
 -- second one at (1,1) after a return
