@@ -73,6 +73,8 @@ impl Around {
 
 struct Board {
     rows: Vec<Row>,
+    /// An outer corner has one pin.
+    new_rule: bool,
     /// How many pins of each vertex the package has taken.
     taken: [u8; 1024],
 }
@@ -93,15 +95,23 @@ impl Board {
         }
     }
 
+    /// The pins of a vertex by the board's book, before any are taken.
+    fn pins(&self, around: &Around) -> usize {
+        match around.degree() {
+            2 if self.new_rule => 1,
+            degree => 4 - degree,
+        }
+    }
+
     /// The pins of a vertex, less those that are taken.
     fn pins_left(&self, around: Around, v: Vertex) -> usize {
-        (4 - around.degree()).saturating_sub(self.taken[spot(v) as usize] as usize)
+        self.pins(&around).saturating_sub(self.taken[spot(v) as usize] as usize)
     }
 
     /// More pins are taken than the vertex has, or it is no vertex.
     fn over_taken(&self, v: Vertex, count: u8) -> bool {
         let around = self.around(v);
-        !around.any() || 4 - around.degree() < count as usize
+        !around.any() || self.pins(&around) < count as usize
     }
 
     /// The rows nested, widths never shrinking and then growing: row after row is taken from the top or the bottom, the inner one first.
@@ -161,7 +171,8 @@ enum BoardWord {
     Row(Row),
     Taken(Vertex, u8),
     Net(u8, Pair),
-    End(u8, u8),
+    /// The book, 0 or 1, and the counts of rows and nets.
+    End(u8, u8, u8),
 }
 
 fn bits(w: u32, low: u32, count: u32) -> u8 {
@@ -179,7 +190,7 @@ fn board_word(w: u32) -> Option<BoardWord> {
         3 if w & 0x0FFF_F000 == 0 && (1..=2).contains(&bits(w, 10, 2)) => {
             Some(BoardWord::Taken(Vertex { line: bits(w, 5, 5), column: bits(w, 0, 5) }, bits(w, 10, 2)))
         }
-        15 if w & 0x0FFF_0000 == 0 => Some(BoardWord::End(bits(w, 8, 8), bits(w, 0, 8))),
+        15 if w & 0x0EFF_0000 == 0 => Some(BoardWord::End(bits(w, 24, 4), bits(w, 8, 8), bits(w, 0, 8))),
         _ => None,
     }
 }
@@ -188,7 +199,7 @@ fn board_word(w: u32) -> Option<BoardWord> {
 fn scan(words: &[u32]) -> Result<Board, Refusal> {
     let mut rows = Vec::with_capacity(31);
     let (mut nets, mut last, mut ended) = (0, 0, false);
-    let mut last_taken = None;
+    let (mut last_taken, mut new_rule) = (None, false);
     for (i, &w) in words.iter().enumerate() {
         match board_word(w) {
             None => return refuse(12, i, 0),
@@ -214,18 +225,18 @@ fn scan(words: &[u32]) -> Result<Board, Refusal> {
                 nets += 1;
                 last = number;
             }
-            Some(BoardWord::End(row_count, net_count)) => {
+            Some(BoardWord::End(book, row_count, net_count)) => {
                 if i == 0 || ended {
                     return refuse(13, i, 0);
                 }
                 if (row_count as usize, net_count) != (rows.len(), nets) {
                     return refuse(15, i, 0);
                 }
-                ended = true;
+                (ended, new_rule) = (true, book == 1);
             }
         }
     }
-    if ended { Ok(Board { rows, taken: [0; 1024] }) } else { refuse(13, words.len(), 0) }
+    if ended { Ok(Board { rows, new_rule, taken: [0; 1024] }) } else { refuse(13, words.len(), 0) }
 }
 
 fn read(bytes: &[u8]) -> Result<(Board, Nets), Refusal> {

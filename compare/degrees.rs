@@ -4,21 +4,22 @@
 //!     degrees SEED CASE       one case again
 //!
 //! Here a board is the set of its cells. Cells that meet at a vertex and edges that end there are counted apart, and the two counts have to go
-//! together as the requirements say. Taken pins do not show in a drawing, but they may have a board refused. The first difference ends the run with
-//! status 1 and prints seed, case, the input's bytes and both texts. So does a run whose boards reach too little.
+//! together as the requirements say. Taken pins and the rule book do not show in a drawing, but they may have a board refused. The first difference
+//! ends the run with status 1 and prints seed, case, the input's bytes and both texts. So does a run whose boards reach too little.
 
+#[allow(dead_code)]
+mod books;
 #[allow(dead_code)]
 mod generate;
 mod independent;
 mod program;
-#[allow(dead_code)]
 mod taken;
 
-use generate::{any_nets, board_bytes, even_nets, take_pins, wrong_net, Random, BOARD_KINDS};
-use independent::{bytes_of, read, Board, Net, Vertex, MOST_WORDS};
+use books::{made_bytes, MADE_KINDS};
+use generate::{any_bare, any_nets, board_bytes, even_nets, take_pins, wrong_net, Random, BOARD_KINDS};
+use independent::{book_told, bytes_of, read, under_other_book, Board, Book, Net, Vertex, MOST_WORDS};
 use std::collections::{BTreeMap, BTreeSet, VecDeque};
 use std::time::Instant;
-use taken::{taken_bytes, TAKEN_KINDS};
 
 const PROGRAM: &str = "target/bin/degrees";
 /// Most rows, and most columns of cells.
@@ -27,7 +28,7 @@ const MOST: usize = 31;
 const SIZES: u64 = (MOST * MOST) as u64;
 /// Up to here cases are convex boards; the others are seldom read.
 const CONVEX: u64 = 1_300;
-const CASES: u64 = 2_000;
+const CASES: u64 = 2_400;
 /// The program reads as many bytes and no more.
 const LONGEST: usize = 65_536;
 /// As many bytes of an input as are printed.
@@ -210,19 +211,25 @@ fn shape(random: &mut Random, count: usize, width: usize) -> Rows {
 }
 
 /// No nets, nets on some pins, or nets that leave no vertex odd.
-fn nets(random: &mut Random, rows: &[(usize, usize)]) -> Vec<Net> {
+fn nets(random: &mut Random, bare: &Board) -> Vec<Net> {
     match random.below(3) {
         0 => Vec::new(),
-        1 => any_nets(random, rows),
-        _ => even_nets(random, rows, false),
+        1 => any_nets(random, bare),
+        _ => even_nets(random, bare, false),
     }
+}
+
+/// A board of these rows under either book, with nets and taken pins or without.
+fn any_board(random: &mut Random, rows: &[(usize, usize)]) -> Board {
+    let mut board = any_bare(random, rows);
+    board.nets = nets(random, &board);
+    take_pins(random, &mut board);
+    board
 }
 
 fn convex_board(random: &mut Random, count: usize, width: usize) -> Board {
     let rows = shape(random, count, width);
-    let mut board = Board { nets: nets(random, &rows), ..Board::bare(&rows) };
-    take_pins(random, &mut board);
-    board
+    any_board(random, &rows)
 }
 
 /// A convex board of any size, with those at the limits more often than others.
@@ -239,14 +246,14 @@ fn any_convex_board(random: &mut Random) -> Board {
     convex_board(random, count, width)
 }
 
-/// 31 rows and 64 nets. These take all pins, which a random choice of nets seldom does.
+/// 31 rows and 64 nets, under the old rule. These take all pins, which a random choice of nets seldom does.
 fn full_board(random: &mut Random) -> Board {
     let mut board = Board::bare(&shape(random, MOST, MOST));
     for _ in 0..100 {
         if board.nets.len() == 64 {
             break;
         }
-        board.nets = even_nets(random, &board.rows, false);
+        board.nets = even_nets(random, &Board::bare(&board.rows), false);
     }
     board
 }
@@ -299,9 +306,7 @@ fn not_convex(random: &mut Random) -> Vec<u8> {
         1 => waist(random),
         _ => bent(random),
     };
-    let mut board = Board { nets: nets(random, &rows), ..Board::bare(&rows) };
-    take_pins(random, &mut board);
-    bytes_of(&board.words())
+    bytes_of(&any_board(random, &rows).words())
 }
 
 /// A convex board's bytes and more bytes after them.
@@ -325,14 +330,14 @@ fn case_bytes(seed: u64, case: u64) -> Vec<u8> {
     if case < CONVEX {
         return bytes_of(&any_convex_board(&mut random).words());
     }
-    match random.below(13) {
+    match random.below(16) {
         0..=4 => {
             // The first five kinds there are true boards.
             let kind = 5 + random.below(BOARD_KINDS.len() - 5);
             board_bytes(&mut random, kind)
         }
         // Each of these kinds in turn.
-        10..=12 => taken_bytes(&mut random, case as usize % TAKEN_KINDS.len()).0,
+        10..=15 => made_bytes(&mut random, case as usize % MADE_KINDS).0,
         5..=7 => not_convex(&mut random),
         8 => {
             let board = any_convex_board(&mut random);
@@ -345,7 +350,7 @@ fn case_bytes(seed: u64, case: u64) -> Vec<u8> {
 // ---------------------------------------------------------------- boards drawn by hand
 
 /// Words of boards, and the lines to be printed, worked out from the requirements.
-const BY_HAND: [(&[u32], &[&str]); 18] = [
+const BY_HAND: [(&[u32], &[&str]); 27] = [
     // One cell.
     (
         &[0x10000001, 0xF0000100],
@@ -422,6 +427,30 @@ const BY_HAND: [(&[u32], &[&str]); 18] = [
     (&[0x10000002, 0x30000C00, 0xF0000100], &["refused 12 1"]),
     (&[0x10000002, 0x30000401, 0x30000800, 0xF0000100], &["refused 13 2"]),
     (&[0x10000002, 0x20108022, 0x30000401, 0xF0000101], &["refused 13 2"]),
+    // The new rule leaves the drawing as it is: one net at (0,0), one pin taken at (1,1).
+    (
+        &[0x10000001, 0x30000421, 0x20100020, 0xF1000101],
+        &[
+            "oo                              ",
+            "oo                              ",
+        ],
+    ),
+    // Two nets at (0,0), under the old rule and the new; there two pins taken, and one besides a net.
+    (
+        &[0x10000001, 0x20100020, 0x20200001, 0xF0000102],
+        &[
+            "oo                              ",
+            "oo                              ",
+        ],
+    ),
+    (&[0x10000001, 0x20100020, 0x20200001, 0xF1000102], &["refused 25 2"]),
+    (&[0x10000001, 0x30000800, 0xF1000100], &["refused 38 1"]),
+    (&[0x10000001, 0x30000400, 0x20100020, 0xF1000101], &["refused 25 2"]),
+    // The books 2 and 15, an unnamed bit, and the new rule with a net too many.
+    (&[0x10000001, 0xF2000100], &["refused 12 1"]),
+    (&[0x10000001, 0xFF000100], &["refused 12 1"]),
+    (&[0x10000001, 0xF1800100], &["refused 12 1"]),
+    (&[0x10000001, 0xF1000101], &["refused 15 1"]),
 ];
 
 /// Board f once more: two cells meet at (1,1) without a side in common, and four edges end there. That is none of the four kinds.
@@ -477,12 +506,19 @@ struct Run {
     drawn: u64,
     kinds: [u64; 4],
     refusals: BTreeMap<u32, u64>,
+    /// The same for boards whose last word tells the new rule.
+    refusals_new: BTreeMap<u32, u64>,
     /// Rows and columns of boards that were drawn.
     sizes: BTreeSet<(usize, usize)>,
     with_nets: u64,
     right_of_0: u64,
     reach_31: u64,
     with_taken: u64,
+    /// Boards drawn under the old rule, and under the new one.
+    under: [u64; 2],
+    /// Boards of one book drawn once more under the other, and those that the new rule alone refuses.
+    under_both: u64,
+    under_old_alone: u64,
     of_96_words: u64,
     of_more_words: u64,
 }
@@ -497,9 +533,27 @@ impl Run {
         let expected = expected(&bytes);
         compare(&format!("seed {seed} case {case}"), &bytes, &expected);
         match expected.refused {
-            Some(number) => *self.refusals.entry(number).or_insert(0) += 1,
-            None => self.count_drawn(&bytes, &expected),
+            Some(number) => {
+                *self.refusals.entry(number).or_insert(0) += 1;
+                if book_told(&bytes) == Some(Book::New) {
+                    *self.refusals_new.entry(number).or_insert(0) += 1;
+                }
+            }
+            None => {
+                self.count_drawn(&bytes, &expected);
+                self.other_book(&format!("seed {seed} case {case}, under the other book"), &bytes, &expected);
+            }
         }
+    }
+
+    /// A board that is drawn, once more under the other book: the drawing is the same, unless the new rule refuses the board.
+    fn other_book(&mut self, what: &str, bytes: &[u8], drawn: &Expected) {
+        let bytes = under_other_book(bytes);
+        let other = expected(&bytes);
+        assert!(other.text == drawn.text || book_told(&bytes) == Some(Book::New) && other.refused.is_some());
+        compare(what, &bytes, &other);
+        self.under_both += other.refused.is_none() as u64;
+        self.under_old_alone += other.refused.is_some() as u64;
     }
 
     fn count_drawn(&mut self, bytes: &[u8], expected: &Expected) {
@@ -513,6 +567,7 @@ impl Run {
         self.right_of_0 += (left > 0) as u64;
         self.reach_31 += (right == 31) as u64;
         self.with_taken += !board.taken.is_empty() as u64;
+        self.under[board.book as usize] += 1;
         self.of_96_words += (bytes.len() == 4 * 96) as u64;
         self.of_more_words += (bytes.len() > 4 * 96) as u64;
     }
@@ -525,19 +580,28 @@ impl Run {
     fn too_little(&self) -> Vec<String> {
         let reached = [
             ("boards drawn", self.drawn, CONVEX),
-            ("boards refused", self.refused(), 500),
+            ("boards refused", self.refused(), 600),
             ("sizes of boards", self.sizes.len() as u64, SIZES),
             ("boards with nets", self.with_nets, 500),
             ("boards without nets", self.drawn - self.with_nets, 300),
             ("boards that begin right of column 0", self.right_of_0, 500),
             ("boards that reach column 31", self.reach_31, 300),
             ("boards with taken pins", self.with_taken, 380),
+            ("boards under the old rule", self.under[0], 440),
+            ("boards under the new rule", self.under[1], 440),
+            ("boards drawn under both books", self.under_both, 600),
+            ("boards drawn under the old rule and refused under the new", self.under_old_alone, 150),
             ("boards of 96 words", self.of_96_words, 5),
             ("boards of more words", self.of_more_words, 15),
         ];
         let mut all: Vec<(String, u64, u64)> = reached.map(|(what, seen, least)| (what.to_string(), seen, least)).into();
         all.extend((0..4).map(|kind| (format!("vertices: {}", KINDS[kind].3), self.kinds[kind], 1_000)));
-        all.extend(REFUSALS.map(|number| (format!("refusals by {number}"), self.refusals.get(&number).copied().unwrap_or(0), 5)));
+        // Those by 10 and 11 come before any word is looked at.
+        let by_book = [("", &REFUSALS[..], &self.refusals, 5), (" under the new rule", &REFUSALS[2..], &self.refusals_new, 1)];
+        for (book, numbers, refusals, least) in by_book {
+            let seen = |number: &u32| refusals.get(number).copied().unwrap_or(0);
+            all.extend(numbers.iter().map(|number| (format!("refusals by {number}{book}"), seen(number), least)));
+        }
         let short = all.into_iter().filter(|(_, seen, least)| seen < least);
         short.map(|(what, seen, least)| format!("{what}: {seen}, at least {least} are due")).collect()
     }
@@ -558,6 +622,7 @@ fn whole(seed: u64) {
     let vertices: Vec<String> = KINDS.iter().zip(run.kinds).map(|(kind, count)| format!("{count} {}", kind.3)).collect();
     let time = start.elapsed().as_secs_f64();
     println!("degrees: {} boards drawn, of every size, and {} refused; {time:.1} s", run.drawn, run.refused());
+    println!("degrees: {} of them under both books, {} under the old rule alone", run.under_both, run.under_old_alone);
     println!("degrees: vertices: {}; no difference", vertices.join(", "));
 }
 

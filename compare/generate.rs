@@ -1,4 +1,4 @@
-//! Seeded inputs: boards true and damaged, with taken pins and without, and lists of routing words true and damaged.
+//! Seeded inputs: boards true and damaged, under both books, with taken pins and without, and lists of routing words true and damaged.
 
 use crate::independent::*;
 use std::collections::{HashSet, VecDeque};
@@ -49,6 +49,16 @@ impl Random {
 }
 
 // ---------------------------------------------------------------- boards
+
+/// Either book, on every second board the new one.
+pub fn any_book(random: &mut Random) -> Book {
+    random.pick(&BOOKS)
+}
+
+/// A board of these rows under either book, without nets and taken pins.
+pub fn any_bare(random: &mut Random, rows: &[(usize, usize)]) -> Board {
+    Board::bare(rows).under(any_book(random))
+}
 
 /// Convex rows: a chain of spans, each within the last, laid on top or below.
 pub fn convex_rows(random: &mut Random, most_rows: usize, most_width: usize) -> Vec<(usize, usize)> {
@@ -112,10 +122,10 @@ pub fn turned(board: &Board) -> Board {
     moved(board, rows, &|v| (v.1 - start, lines - v.0))
 }
 
-/// Nets and taken pins moved to other rows.
+/// Nets and taken pins moved to other rows; the book stays.
 fn moved(board: &Board, rows: Vec<(usize, usize)>, at: &dyn Fn(Vertex) -> Vertex) -> Board {
     let nets = board.nets.iter().map(|n| Net { number: n.number, first: at(n.first), second: at(n.second) }).collect();
-    Board { rows, taken: board.taken.iter().map(|(&v, &count)| (at(v), count)).collect(), nets }
+    Board { rows, book: board.book, taken: board.taken.iter().map(|(&v, &count)| (at(v), count)).collect(), nets }
 }
 
 /// The size of a case's board: mostly small, at times as large as can be.
@@ -143,24 +153,23 @@ pub fn numbered(random: &mut Random, mut pairs: Vec<(Vertex, Vertex)>) -> Vec<Ne
 }
 
 /// Nets that leave no vertex odd. Where `mend`, nets that cross an overfull cut exchange ends, which leaves full cuts but seldom overfull ones.
-pub fn even_nets(random: &mut Random, rows: &[(usize, usize)], mend: bool) -> Vec<Net> {
-    let bare = Board::bare(rows);
-    let pins = even_pins(random, &bare);
+pub fn even_nets(random: &mut Random, bare: &Board, mend: bool) -> Vec<Net> {
+    let pins = even_pins(random, bare);
     let mut pairs = joined(random, pins);
     if mend {
-        mend_cuts(random, &bare, &mut pairs);
+        mend_cuts(random, bare, &mut pairs);
     }
     numbered(random, pairs)
 }
 
-/// Pins that leave no vertex odd when they are taken, a vertex as often as it has such pins.
+/// Pins that leave no vertex odd when they are used, a vertex as often as it has such pins: the one pin of a corner under the new rule is none.
 fn even_pins(random: &mut Random, bare: &Board) -> Vec<Vertex> {
     let mut pins: Vec<Vertex> = Vec::new();
     let corners = random.pick(&[1, 2, 4, 1000]);
     for v in bare.vertices() {
-        match bare.pins(v) {
-            1 => pins.push(v),
-            2 if random.one_in(corners) => pins.extend([v, v]),
+        match (bare.degree(v), bare.pins(v)) {
+            (3, 1) => pins.push(v),
+            (2, 2) if random.one_in(corners) => pins.extend([v, v]),
             _ => {}
         }
     }
@@ -189,14 +198,13 @@ pub enum Care {
 }
 
 /// Nets that leave `count` vertices odd, an even number; fewer where there are fewer vertices with pins.
-pub fn odd_nets(random: &mut Random, rows: &[(usize, usize)], count: usize, care: Care) -> Vec<Net> {
-    let bare = Board::bare(rows);
-    let mut pins = even_pins(random, &bare);
+pub fn odd_nets(random: &mut Random, bare: &Board, count: usize, care: Care) -> Vec<Net> {
+    let mut pins = even_pins(random, bare);
     let mut vertices: Vec<Vertex> = bare.vertices().into_iter().filter(|&v| bare.pins(v) > 0).collect();
     random.shuffle(&mut vertices);
     vertices.truncate(count.min(vertices.len() / 2 * 2));
     for v in vertices {
-        // A taken pin is left bare; a corner without a terminal gets one.
+        // A used pin is left bare; a corner without a terminal gets one.
         match pins.iter().position(|&pin| pin == v) {
             Some(at) => drop(pins.swap_remove(at)),
             None => pins.push(v),
@@ -204,11 +212,11 @@ pub fn odd_nets(random: &mut Random, rows: &[(usize, usize)], count: usize, care
     }
     let mut pairs = joined(random, pins);
     if care != Care::None {
-        mend_cuts(random, &bare, &mut pairs);
+        mend_cuts(random, bare, &mut pairs);
     }
     if care == Care::Filled {
         let times = 10 * pairs.len();
-        fill_cuts(random, &bare, &mut pairs, times);
+        fill_cuts(random, bare, &mut pairs, times);
     }
     numbered(random, pairs)
 }
@@ -281,8 +289,7 @@ fn fill_cuts(random: &mut Random, bare: &Board, pairs: &mut [(Vertex, Vertex)], 
 }
 
 /// Nets on any pins, vertices odd or not.
-pub fn any_nets(random: &mut Random, rows: &[(usize, usize)]) -> Vec<Net> {
-    let bare = Board::bare(rows);
+pub fn any_nets(random: &mut Random, bare: &Board) -> Vec<Net> {
     let mut pins: Vec<Vertex> = bare.vertices().into_iter().flat_map(|v| vec![v; bare.pins(v)]).collect();
     random.shuffle(&mut pins);
     let count = random.below(pins.len() / 2 + 1).min(64);
@@ -291,10 +298,10 @@ pub fn any_nets(random: &mut Random, rows: &[(usize, usize)]) -> Vec<Net> {
 }
 
 /// Nets that leave some vertices odd, mostly as few as can be routed.
-pub fn some_odd_nets(random: &mut Random, rows: &[(usize, usize)]) -> Vec<Net> {
+pub fn some_odd_nets(random: &mut Random, bare: &Board) -> Vec<Net> {
     let count = random.pick(&[2, 4, 6, 8, 10, 12, 12, 14]);
     let care = random.pick(&[Care::None, Care::Mended, Care::Filled, Care::Filled]);
-    odd_nets(random, rows, count, care)
+    odd_nets(random, bare, count, care)
 }
 
 /// The vertices with pins that neither the package nor the nets have taken, each with how many.
@@ -326,17 +333,23 @@ pub fn take_some_pins(random: &mut Random, board: &mut Board) {
     }
 }
 
-/// A board that is accepted, of the given size at most.
-pub fn true_board(random: &mut Random, (most_rows, most_width): (usize, usize)) -> Board {
+/// A board that is accepted, of the given size at most, under either book.
+pub fn true_board(random: &mut Random, size: (usize, usize)) -> Board {
+    let book = any_book(random);
+    board_under(random, book, size)
+}
+
+/// The same under this book.
+pub fn board_under(random: &mut Random, book: Book, (most_rows, most_width): (usize, usize)) -> Board {
     let stepped = random.one_in(4);
     let rows = if stepped { stepped_rows(random, most_rows, most_width) } else { convex_rows(random, most_rows, most_width) };
-    let nets = match random.below(12) {
-        0..=1 => any_nets(random, &rows),
-        2..=3 => even_nets(random, &rows, false),
-        4..=7 => even_nets(random, &rows, true),
-        _ => some_odd_nets(random, &rows),
+    let mut board = Board::bare(&rows).under(book);
+    board.nets = match random.below(12) {
+        0..=1 => any_nets(random, &board),
+        2..=3 => even_nets(random, &board, false),
+        4..=7 => even_nets(random, &board, true),
+        _ => some_odd_nets(random, &board),
     };
-    let mut board = Board { nets, ..Board::bare(&rows) };
     take_pins(random, &mut board);
     board
 }
@@ -424,7 +437,7 @@ fn any_board_word(random: &mut Random) -> u32 {
             let number = random.pick(&[0, 1, 2, 3, 10, 63, 64, 65, 255]);
             2 << 28 | number << 20 | small(random) << 15 | small(random) << 10 | small(random) << 5 | small(random)
         }
-        _ => 15 << 28 | small(random) << 8 | small(random),
+        _ => 15 << 28 | random.pick(&[0, 0, 0, 1, 1, 1, 2, 15]) << 24 | small(random) << 8 | small(random),
     };
     if random.one_in(12) {
         return word ^ 1 << random.below(32);
@@ -438,10 +451,10 @@ fn bounds(random: &mut Random) -> Vec<u8> {
     let width = random.pick(&[1, 2, 31, 31]);
     let left = random.pick(&[0, 31 - width]);
     let rows = vec![(left, left + width); count];
-    let mut board = Board::bare(&rows);
+    let mut board = any_bare(random, &rows);
     if count <= 31 && random.below(3) > 0 {
         let mend = random.below(3) > 0;
-        board.nets = if random.one_in(3) { some_odd_nets(random, &rows) } else { even_nets(random, &rows, mend) };
+        board.nets = if random.one_in(3) { some_odd_nets(random, &board) } else { even_nets(random, &board, mend) };
     }
     if count <= 31 {
         take_pins(random, &mut board);
@@ -476,8 +489,8 @@ fn not_convex(random: &mut Random) -> Vec<u8> {
             row.1 += 1;
         }
     }
-    let mut board = Board::bare(&rows);
-    board.nets = any_nets(random, &rows);
+    let mut board = any_bare(random, &rows);
+    board.nets = any_nets(random, &board);
     take_pins(random, &mut board);
     bytes_of(&board.words())
 }
@@ -491,8 +504,11 @@ pub fn wrong_net(random: &mut Random, mut board: Board) -> Vec<u8> {
         0 => number = random.pick(&[0, 65, 66, 128, 255]),
         1 => first = (random.below(32), random.below(32)),
         2 => second = first,
-        // Without a pin: inside, a concave corner, or all taken.
-        _ => second = vertices.iter().copied().find(|&v| board.pins(v) == 0).unwrap_or(second),
+        // Without a pin that is free: inside, a concave corner, all taken, or used by nets.
+        _ => {
+            let full: Vec<Vertex> = vertices.iter().copied().filter(|&v| board.terminals(v) >= board.pins(v)).collect();
+            second = if full.is_empty() { second } else { random.pick(&full) };
+        }
     }
     if random.one_in(2) {
         (first, second) = (second, first);

@@ -1,6 +1,6 @@
-//! The requirements read anew, from their words alone: boards and their words, convexity, pins and those that the package has taken, cuts, odd
-//! vertices and their pairings, the revised cut test of source document 004, the judge of routing words, and whether two routings are alike. Nothing
-//! here is taken from the proved library; it is what the library is held against.
+//! The requirements read anew, from their words alone: boards and their words, convexity, pins by rule book and those that the package has taken,
+//! cuts, odd vertices and their pairings, the revised cut test of source document 004, the judge of routing words, and whether two routings are
+//! alike. Nothing here is taken from the proved library; it is what the library is held against.
 
 #![allow(dead_code)]
 
@@ -45,10 +45,20 @@ pub struct Net {
     pub second: Vertex,
 }
 
+/// The foundry's rule books, at their numbers in a board's end word.
+#[derive(Clone, Copy, Debug, PartialEq, Eq)]
+pub enum Book {
+    Old,
+    New,
+}
+
+pub const BOOKS: [Book; 2] = [Book::Old, Book::New];
+
 #[derive(Clone, Debug, PartialEq, Eq)]
 pub struct Board {
     /// Left and right of each row, from the top.
     pub rows: Vec<(usize, usize)>,
+    pub book: Book,
     /// For each vertex with pins that the package has taken, how many; in reading order.
     pub taken: BTreeMap<Vertex, usize>,
     /// In rising number.
@@ -58,8 +68,14 @@ pub struct Board {
 // ---------------------------------------------------------------- the board
 
 impl Board {
+    /// Under the old rule, no pins taken and no nets.
     pub fn bare(rows: &[(usize, usize)]) -> Board {
-        Board { rows: rows.to_vec(), taken: BTreeMap::new(), nets: Vec::new() }
+        Board { rows: rows.to_vec(), book: Book::Old, taken: BTreeMap::new(), nets: Vec::new() }
+    }
+
+    /// The same under this book.
+    pub fn under(self, book: Book) -> Board {
+        Board { book, ..self }
     }
 
     pub fn lines(&self) -> usize {
@@ -106,9 +122,12 @@ impl Board {
         (0..4).filter(|&d| self.edge(v, d)).count()
     }
 
-    /// The pins of a vertex before any are taken.
+    /// The pins of a vertex before any are taken, by the board's book.
     pub fn all_pins(&self, v: Vertex) -> usize {
-        4 - self.degree(v)
+        match (self.degree(v), self.book) {
+            (2, Book::New) => 1,
+            (degree, _) => 4 - degree,
+        }
     }
 
     /// The pins of a vertex that the package has left.
@@ -285,7 +304,8 @@ impl Board {
     /// Whether disjoint paths for all nets exist: whether there is such a pairing.
     /// - Where paths exist, the edges that they leave have an odd count at the odd vertices and an even one elsewhere. So trails along these
     ///   edges, no edge used twice, pair the odd vertices off. Paths and trails together take an edge for each crossing of each cut.
-    /// - Where there is such a pairing, each odd vertex has a pin for its pair's end, for it has three edges and no terminal or two and one.
+    /// - Where there is such a pairing, each odd vertex has room for its pair's end, for it has three edges and no terminal or two and one. That is
+    ///   so under either book: pairs need no pins.
     ///   With the pairs no vertex is odd and no cut is overfull, so there are paths for nets and pairs, and those of the pairs are dropped.
     pub fn paths_exist(&self) -> bool {
         self.pairings(1) == 1
@@ -382,7 +402,7 @@ pub fn read(bytes: &[u8]) -> Result<Board, Refusal> {
         return refuse(11, 0);
     }
     let scanned = scan(&words)?;
-    let mut board = Board::bare(&scanned.rows);
+    let mut board = Board::bare(&scanned.rows).under(scanned.book);
     if !board.convex() {
         return refuse(16, 0);
     }
@@ -402,28 +422,29 @@ pub fn read(bytes: &[u8]) -> Result<Board, Refusal> {
 }
 
 /// What the words of a board say. Taken pins and nets come with the index of their word.
-#[derive(Default)]
 struct Scanned {
     rows: Vec<(usize, usize)>,
+    book: Book,
     taken: Vec<(usize, Vertex, usize)>,
     nets: Vec<(usize, Net)>,
 }
 
 /// The words one by one, each through 12 to 15.
 fn scan(words: &[u32]) -> Result<Scanned, Refusal> {
-    let Scanned { mut rows, mut taken, mut nets } = Scanned::default();
-    let mut ended = false;
+    let (mut rows, mut taken, mut nets): (Vec<_>, Vec<_>, Vec<(usize, Net)>) = Default::default();
+    // The book, once the end word has told it.
+    let mut ended = None;
     for (index, &word) in words.iter().enumerate() {
         let kind = bits(word, 31, 28);
         let unnamed = match kind {
             1 => bits(word, 27, 10),
             2 => 0,
             3 => bits(word, 27, 12),
-            15 => bits(word, 27, 16),
+            15 => bits(word, 23, 16),
             _ => return refuse(12, index),
         };
-        let count = bits(word, 11, 10);
-        if unnamed != 0 || (kind == 3 && (count == 0 || count == 3)) {
+        let (count, book) = (bits(word, 11, 10), bits(word, 27, 24));
+        if unnamed != 0 || (kind == 3 && (count == 0 || count == 3)) || (kind == 15 && book > 1) {
             return refuse(12, index);
         }
         let number = bits(word, 27, 20) as u32;
@@ -434,7 +455,7 @@ fn scan(words: &[u32]) -> Result<Scanned, Refusal> {
             3 => !nets.is_empty() || taken.last().is_some_and(|&(_, last, _)| vertex <= last),
             _ => false,
         };
-        if (index == 0 && kind != 1) || misplaced || ended {
+        if (index == 0 && kind != 1) || misplaced || ended.is_some() {
             return refuse(13, index);
         }
         match kind {
@@ -455,14 +476,14 @@ fn scan(words: &[u32]) -> Result<Scanned, Refusal> {
                 if bits(word, 15, 8) != rows.len() || bits(word, 7, 0) != nets.len() {
                     return refuse(15, index);
                 }
-                ended = true;
+                ended = Some(BOOKS[book]);
             }
         }
     }
-    if !ended {
-        return refuse(13, words.len());
+    match ended {
+        Some(book) => Ok(Scanned { rows, book, taken, nets }),
+        None => refuse(13, words.len()),
     }
-    Ok(Scanned { rows, taken, nets })
 }
 
 impl Board {
@@ -489,7 +510,7 @@ impl Board {
 
     pub fn words(&self) -> Vec<u32> {
         let row = |r: &(usize, usize)| 1 << 28 | (r.0 << 5) as u32 | r.1 as u32;
-        let end = 15 << 28 | (self.rows.len() << 8) as u32 | self.nets.len() as u32;
+        let end = 15 << 28 | (self.book as u32) << 24 | (self.rows.len() << 8) as u32 | self.nets.len() as u32;
         let taken = self.taken.iter().map(|(&v, &count)| taken_word(v, count));
         self.rows.iter().map(row).chain(taken).chain(self.nets.iter().map(net_word)).chain([end]).collect()
     }
@@ -503,6 +524,18 @@ pub fn taken_word(v: Vertex, count: usize) -> u32 {
 /// A board's bytes without the words of taken pins; the end word does not count these.
 pub fn without_taken(bytes: &[u8]) -> Vec<u8> {
     bytes.chunks(4).filter(|word| word.len() < 4 || word[3] >> 4 != 3).flatten().copied().collect()
+}
+
+/// A board's bytes under the other book: the end word is the last.
+pub fn under_other_book(bytes: &[u8]) -> Vec<u8> {
+    let mut other = bytes.to_vec();
+    other.last_mut().into_iter().for_each(|byte| *byte ^= 1);
+    other
+}
+
+/// The book that a board's last word tells, be the board refused or not; None where that is no end word or tells none.
+pub fn book_told(bytes: &[u8]) -> Option<Book> {
+    BOOKS.into_iter().find(|&book| bytes.last() == Some(&(0xF0 | book as u8)))
 }
 
 pub fn net_word(n: &Net) -> u32 {

@@ -8,12 +8,13 @@
 //! against the exhaustive router; d, every assignment of nets on small boards against it; e, pairs of lists true and damaged through the
 //! comparison of two routings; f, small boards with odd vertices, by hand and at random, against the exhaustive router; g, lists true and damaged
 //! through drawing; h, boards and lists true and damaged through the program draw.
-//! In all parts many boards have pins that the package has taken. Where such a board is read, routing is called once more without the words of taken
-//! pins: the answer and every byte have to be the same.
+//! In all parts boards come under both rule books, and many have pins that the package has taken. Where a board is read, routing is called once more
+//! under the other book, and without the words of taken pins: the answer and every byte have to be the same, unless the new rule refuses the board.
 //! Whether a board with odd vertices has a routing is decided by trying every way to pair them off. On small boards this way is itself held
 //! against the exhaustive router.
 //! The first difference ends the run with status 1 and prints seed, part, case and the input's bytes. So does a run whose inputs reach too little.
 
+mod books;
 #[path = "../editor/cidrask.rs"]
 mod cidrask;
 mod exhaustive;
@@ -27,13 +28,13 @@ mod prints;
 mod program;
 mod taken;
 
+use books::{any_bytes, made_bytes, made_kinds, MADE_KINDS};
 use cidrask::{cidrask_alike, cidrask_draw, cidrask_judge, cidrask_route};
 use exhaustive::Answer;
 use generate::*;
 use independent::*;
 use std::collections::BTreeMap;
 use std::time::Instant;
-use taken::{any_bytes, taken_bytes, TAKEN_KINDS};
 
 const CASES_A: u64 = 220_000;
 const CASES_B: u64 = 120_000;
@@ -68,6 +69,9 @@ struct Run {
     most_words: usize,
     most_nets: usize,
     most_taken: usize,
+    /// The same of boards under the new rule.
+    most_nets_new: usize,
+    most_taken_new: usize,
     large: u64,
     full_cuts: u64,
     passed: u64,
@@ -181,7 +185,7 @@ impl Run {
             self.count_odd(b, refused);
             self.count_taken(b, refused);
         }
-        let taken = with_taken(&expected);
+        self.count_book(board, &expected, refused);
         if let Some(r) = refused {
             self.count_refused(&r);
             if (result, first, second) != (r.number, r.place[0] as u64, r.place[1] as u64) {
@@ -190,8 +194,8 @@ impl Run {
             if memory != before {
                 self.difference("routing refused, but memory was written to", board, &[]);
             }
-            if taken {
-                self.route_without_taken(random, board, buffer_length, (result, first, second), &[]);
+            if let Ok(b) = &expected {
+                self.route_otherwise(random, (board, b), buffer_length, (result, first, second), &[]);
             }
             return None;
         }
@@ -209,29 +213,39 @@ impl Run {
             }
         }
         let words = memory[start..start + count].to_vec();
-        if taken {
-            self.route_without_taken(random, board, buffer_length, (0, first, 0), &words);
+        if let Ok(b) = &expected {
+            self.route_otherwise(random, (board, b), buffer_length, (0, first, 0), &words);
         }
         Some(words)
     }
 
-    /// Calls routing for a board that was read, without the words of its taken pins: the answer is the same, and so is every byte.
-    fn route_without_taken(&mut self, random: &mut Random, board: &[u8], buffer_length: usize, answer: (u32, u64, u64), words: &[u8]) {
-        let stripped = without_taken(board);
-        let mut due = pattern(random.next(), GUARD + buffer_length + GUARD);
-        let mut memory = due.clone();
-        due[GUARD..GUARD + words.len()].copy_from_slice(words);
-        let lent = Lent::new(&stripped, random.below(8));
-        let mut numbers = Numbers::new();
-        let buffer = memory[GUARD..GUARD + buffer_length].as_mut_ptr();
-        let [first, second, _] = numbers.lend();
-        let result = unsafe { cidrask_route(lent.start(), stripped.len(), buffer, buffer_length, first, second) };
-        let [first, second, _] = numbers.taken();
-        if (result, first, second) != answer || memory != due || !lent.unchanged() || !numbers.guarded() {
-            let what = format!("routing: {answer:?}, but {:?} or other bytes without the words of taken pins", (result, first, second));
-            self.difference_in(&what, &[("board", board), ("without taken pins", &stripped), ("routing", words)]);
+    /// Calls routing for a board that was read, without the words of its taken pins and under the other book. The answer is the same, and so is every
+    /// byte; but the new rule may refuse what the old one accepts.
+    fn route_otherwise(&mut self, random: &mut Random, board: (&[u8], &Board), buffer_length: usize, answer: Answered, words: &[u8]) {
+        let (bytes, board) = board;
+        let mut again = |run: &Run, what: &str, other: &[u8], answer: Answered, words: &[u8]| {
+            let found = routed(random, other, buffer_length, words);
+            if found != Some(answer) {
+                let what = format!("routing: {answer:?} is due {what}, but library {found:?}; None stands for other bytes");
+                run.difference_in(&what, &[("board", bytes), ("called with", other), ("routing", words)]);
+            }
+        };
+        if !board.taken.is_empty() {
+            again(self, "without the words of taken pins", &without_taken(bytes), answer, words);
+            self.count(STRIPPED);
         }
-        self.count(STRIPPED);
+        let other = under_other_book(bytes);
+        match read(&other) {
+            Ok(_) => {
+                again(self, "under the other book", &other, answer, words);
+                self.count(OTHER_BOOK);
+            }
+            Err(r) if board.book == Book::Old => {
+                again(self, "under the new rule", &other, (r.number, r.place[0] as u64, 0), &[]);
+                self.count(&new_rule_alone(r.number));
+            }
+            Err(r) => self.difference(&format!("independent refuses by {r:?} under the old rule what the new one accepts"), bytes, &[]),
+        }
     }
 
     /// Calls judging and compares result and report or place.
@@ -256,6 +270,7 @@ impl Run {
         }
         self.judged += 1;
         self.count_all(&[(TAKEN_JUDGED, with_taken(&board_read))]);
+        self.count_call_under(&board_read, JUDGED);
         if let Err(refusal) = &expected {
             self.count_refused(refusal);
         }
@@ -288,6 +303,7 @@ impl Run {
         }
         self.pairs += 1;
         self.count_all(&[(TAKEN_COMPARED, with_taken(&board_read))]);
+        self.count_call_under(&board_read, COMPARED);
         match board_read {
             Ok(b) => self.count_pair(&b, one, two, expected),
             Err(_) => self.count("refused: the board of a pair"),
@@ -310,6 +326,7 @@ impl Run {
         let result = unsafe { cidrask_draw(lent[0].start(), board.len(), lent[1].start(), list.len(), buffer, length, first) };
         self.drawn += 1;
         self.count_all(&[(TAKEN_DRAWN, with_taken(&board_read))]);
+        self.count_call_under(&board_read, PAGES);
         let [first, second, third] = numbers.taken();
         if !lent.iter().all(Lent::unchanged) || !numbers.guarded() || [second, third] != [UNTOUCHED; 2] {
             self.difference("drawing wrote to what it is not lent for writing", board, list);
@@ -346,7 +363,7 @@ impl Run {
     fn part_a(&mut self, case: u64) {
         (self.part, self.case) = ('a', case);
         let mut random = Random::of_case(self.seed, 'a', case);
-        let board = if random.one_in(10) { self.taken_board(&mut random) } else { self.any_board(&mut random) };
+        let board = if random.one_in(5) { self.made_board(&mut random) } else { self.any_board(&mut random) };
         let length = match random.below(10) {
             0 => random.pick(&[0, 1, 3, 4, 8191, 8192, 8195]),
             1 => random.below(8196),
@@ -356,22 +373,22 @@ impl Run {
         self.route_and_judge(&mut random, &board, length);
     }
 
-    /// A board of any kind but those made for taken pins.
+    /// A board of any kind but those made for an answer.
     fn any_board(&mut self, random: &mut Random) -> Vec<u8> {
         let kind = random.below(BOARD_KINDS.len());
         self.count(BOARD_KINDS[kind]);
         board_bytes(random, kind)
     }
 
-    /// A board of the kinds made for taken pins. Reading gives what it is made for.
-    fn taken_board(&mut self, random: &mut Random) -> Vec<u8> {
-        let kind = random.below(TAKEN_KINDS.len());
-        let (board, due) = taken_bytes(random, kind);
-        let answer = read(&board).err();
+    /// A board of the kinds made for taken pins or books. Reading gives what it is made for.
+    fn made_board(&mut self, random: &mut Random) -> Vec<u8> {
+        let kind = random.below(MADE_KINDS);
+        let (board, due) = made_bytes(random, kind);
+        let (name, answer) = (made_kinds()[kind], read(&board).err());
         if answer != due {
-            self.difference(&format!("{}: made for {due:?}, but independent {answer:?}", TAKEN_KINDS[kind]), &board, &[]);
+            self.difference(&format!("{name}: made for {due:?}, but independent {answer:?}"), &board, &[]);
         }
-        self.count(TAKEN_KINDS[kind]);
+        self.count(name);
         board
     }
 
@@ -408,6 +425,9 @@ impl Run {
             self.count(LIST_KINDS[kind]);
             self.judge(&bytes, &list);
         }
+        if random.one_in(4) {
+            self.judge_under_other_book(&board, &bytes_of(&words));
+        }
         if random.one_in(30) {
             // A damaged board with a list: the board is read first.
             let damaged = any_bytes(&mut random);
@@ -416,6 +436,20 @@ impl Run {
             self.count("list for a damaged board");
             self.judge(&damaged, &list);
         }
+    }
+
+    /// A list is judged in the same way under both books, where both accept the board.
+    fn judge_under_other_book(&mut self, board: &Board, list: &[u8]) {
+        let bytes = bytes_of(&board.words());
+        let other = under_other_book(&bytes);
+        if read(&other).is_err() {
+            return;
+        }
+        let reports = [&bytes, &other].map(|board| self.judge(board, list));
+        if reports[0] != reports[1] {
+            self.difference(&format!("judged under both books: {reports:?}"), &bytes, list);
+        }
+        self.count(OTHER_BOOK_JUDGED);
     }
 
     /// A list with up to three loops laid on, each at a vertex where its net then turns twice; the list as it is where there is no room.
@@ -444,17 +478,20 @@ impl Run {
         let mut random = Random::of_case(self.seed, 'c', case);
         let size = random.pick(&[3, 3, 4, 5]);
         let rows = convex_rows(&mut random, size, size);
-        let mend = random.one_in(2);
-        let nets = even_nets(&mut random, &rows, mend);
-        self.small(&mut random, &Board { nets, ..Board::bare(&rows) }, 200_000, found);
+        let (mut board, mend) = (any_bare(&mut random, &rows), random.one_in(2));
+        board.nets = even_nets(&mut random, &board, mend);
+        self.small(&mut random, &board, 200_000, found);
     }
 
-    /// These pairs as nets on this board.
+    /// These pairs as nets on this board, under either book where the new rule accepts them.
     fn part_d(&mut self, case: u64, bare: &Board, pairs: &[(Vertex, Vertex)], found: &mut Found) {
         (self.part, self.case) = ('d', case);
         let mut random = Random::of_case(self.seed, 'd', case);
-        let nets = numbered(&mut random, pairs.to_vec());
-        self.small(&mut random, &Board { nets, ..bare.clone() }, u64::MAX, found);
+        let mut board = Board { nets: numbered(&mut random, pairs.to_vec()), ..bare.clone() };
+        if random.one_in(2) && read(&bytes_of(&board.clone().under(Book::New).words())).is_ok() {
+            board.book = Book::New;
+        }
+        self.small(&mut random, &board, u64::MAX, found);
     }
 
     /// One board with its nets and at most 12 odd vertices: the exhaustive router finds paths exactly when the odd vertices can be paired off,
@@ -512,8 +549,8 @@ const TAKEN_DUE: [(&str, u64); 10] = [
     (TAKEN_NO_NETS, 2_000),
     (TAKEN_ALL, 12_000),
     (TAKEN_ALL_AT_SOME, 30_000),
-    (TAKEN_NET_BESIDE, 17_500),
-    (TAKEN_LEFT_BESIDE, 9_500),
+    (TAKEN_NET_BESIDE, 9_600),
+    (TAKEN_LEFT_BESIDE, 4_700),
 ];
 
 fn with_taken(board: &Result<Board, Refusal>) -> bool {
@@ -521,7 +558,120 @@ fn with_taken(board: &Result<Board, Refusal>) -> bool {
 }
 
 fn taken_and(number: u32) -> String {
-    format!("taken: {}", if number == 0 { "routed".to_string() } else { format!("refused by {number}") })
+    format!("taken: {}", answered(number))
+}
+
+fn answered(number: u32) -> String {
+    if number == 0 { "routed".to_string() } else { format!("refused by {number}") }
+}
+
+// ---------------------------------------------------------------- books
+
+const OTHER_BOOK: &str = "books: the same under the other";
+const OTHER_BOOK_JUDGED: &str = "books: a list judged under both";
+const JUDGED: &str = "lists judged";
+const COMPARED: &str = "pairs compared";
+const PAGES: &str = "calls of drawing";
+const NEW_CORNER_USED: &str = "new rule: read, a terminal at an outer corner";
+const NEW_CORNER_TAKEN: &str = "new rule: read, a pin taken at an outer corner";
+const NEW_NO_PIN_FREE: &str = "new rule: read, no pin is free";
+const OLD_CORNER_USED: &str = "old rule: read, two terminals at an outer corner";
+const OLD_CORNER_TAKEN: &str = "old rule: read, two pins taken at an outer corner";
+const OLD_CORNER_BOTH: &str = "old rule: read, a pin by the package and one by a net at an outer corner";
+
+/// What is due in parts a and b besides kinds, answers and calls.
+const BOOKS_DUE: [(&str, u64); 8] = [
+    (OTHER_BOOK, 65_000),
+    (OTHER_BOOK_JUDGED, 12_500),
+    (NEW_CORNER_USED, 24_500),
+    (NEW_CORNER_TAKEN, 18_500),
+    (NEW_NO_PIN_FREE, 10_000),
+    (OLD_CORNER_USED, 29_500),
+    (OLD_CORNER_TAKEN, 11_500),
+    (OLD_CORNER_BOTH, 9_600),
+];
+
+/// What a board comes to, 0 for routed, with how often is due in parts a and b under each book.
+const ANSWERS_DUE: [(u32, u64); 15] = [
+    (12, 3_000), (13, 9_000), (14, 1_500), (15, 6_000), (16, 1_500), (38, 1_500), (21, 750), (23, 2_200), (24, 80), (25, 2_100),
+    (31, 3_900), (32, 2_100), (33, 2_700), (34, 3_300), (0, 36_000),
+];
+
+fn under(book: Book, what: &str) -> String {
+    format!("{} rule: {what}", if book == Book::Old { "old" } else { "new" })
+}
+
+/// The old rule accepts the board, the new one refuses it by that number.
+fn new_rule_alone(number: u32) -> String {
+    format!("books: refused by {number} under the new rule alone")
+}
+
+fn no_book(number: u32) -> String {
+    format!("books: 12 for the number {number}")
+}
+
+impl Run {
+    /// Counts a call for a board that was read.
+    fn count_call_under(&mut self, board: &Result<Board, Refusal>, call: &str) {
+        if let Ok(board) = board {
+            self.count(&under(board.book, call));
+        }
+    }
+
+    /// Counts what a board came to under its book; `refused` is what routing owes it.
+    fn count_book(&mut self, bytes: &[u8], board: &Result<Board, Refusal>, refused: Option<Refusal>) {
+        if let Some(book) = book_told(bytes) {
+            self.count(&under(book, &answered(refused.map_or(0, |r| r.number))));
+        }
+        let Ok(b) = board else {
+            return self.count_no_book(bytes, refused);
+        };
+        if b.book == Book::New {
+            self.most_nets_new = self.most_nets_new.max(b.nets.len());
+            self.most_taken_new = self.most_taken_new.max(b.taken.len());
+        }
+        let corners: Vec<Vertex> = b.vertices().into_iter().filter(|&v| b.cells(v) == 1).collect();
+        let terminals = |least: usize| corners.iter().any(|&v| b.terminals(v) >= least);
+        let taken = |least: usize| corners.iter().any(|v| b.taken.get(v).is_some_and(|&count| count >= least));
+        self.count_all(&match b.book {
+            Book::Old => [
+                (OLD_CORNER_USED, terminals(2)),
+                (OLD_CORNER_TAKEN, taken(2)),
+                (OLD_CORNER_BOTH, corners.iter().any(|&v| b.terminals(v) == 1 && b.taken.contains_key(&v))),
+            ],
+            Book::New => [
+                (NEW_CORNER_USED, terminals(1)),
+                (NEW_CORNER_TAKEN, taken(1)),
+                (NEW_NO_PIN_FREE, free_pins(b).is_empty()),
+            ],
+        });
+    }
+
+    /// Counts a 12 that the book of an end word alone is due to.
+    fn count_no_book(&mut self, bytes: &[u8], refused: Option<Refusal>) {
+        let Some(Refusal { number: 12, place: [index, _] }) = refused else { return };
+        let word = words_of(bytes).map_or(0, |words| words[index as usize]);
+        if word >> 28 == 15 && word >> 16 & 0xFF == 0 {
+            self.count(&no_book(word >> 24 & 15));
+        }
+    }
+}
+
+/// A call's number and the two numbers that it tells.
+type Answered = (u32, u64, u64);
+
+/// Calls routing. Answers with what it tells, if the buffer then has these words at its start and is otherwise untouched, as is all else.
+fn routed(random: &mut Random, board: &[u8], buffer_length: usize, words: &[u8]) -> Option<Answered> {
+    let mut due = pattern(random.next(), GUARD + buffer_length + GUARD);
+    let mut memory = due.clone();
+    due[GUARD..GUARD + words.len()].copy_from_slice(words);
+    let lent = Lent::new(board, random.below(8));
+    let mut numbers = Numbers::new();
+    let buffer = memory[GUARD..GUARD + buffer_length].as_mut_ptr();
+    let [first, second, _] = numbers.lend();
+    let result = unsafe { cidrask_route(lent.start(), board.len(), buffer, buffer_length, first, second) };
+    let [first, second, third] = numbers.taken();
+    (memory == due && lent.unchanged() && numbers.guarded() && third == UNTOUCHED).then_some((result, first, second))
 }
 
 /// What the exhaustive router decided of small boards.
@@ -683,23 +833,28 @@ fn boards_within(rows: usize, columns: usize) -> Vec<Board> {
     boards
 }
 
-/// The small boards, those for every assignment of nets and those for every even one. On the last of the first, one assignment without
-/// paths passes the revised cut test.
-fn small_boards() -> (Vec<Board>, Vec<Board>) {
+/// The small boards: those for every assignment of nets, those for every even one, and those for every one under the new rule. On the last of the
+/// first and of the third, one assignment without paths passes the revised cut test.
+fn small_boards() -> [(&'static str, Vec<Board>, bool); 3] {
+    let last = Board::bare(&[(0, 3), (0, 1)]);
     let mut every = boards_within(2, 2);
-    every.extend([Board::bare(&[(0, 3)]), Board::bare(&[(0, 1), (0, 1), (0, 1)]), Board::bare(&[(0, 3), (0, 1)])]);
+    every.extend([Board::bare(&[(0, 3)]), Board::bare(&[(0, 1), (0, 1), (0, 1)]), last.clone()]);
+    let pins = |b: &Board| b.vertices().iter().map(|&v| b.pins(v)).sum::<usize>();
     let mut only_even = boards_within(3, 3);
-    only_even.retain(|b| !every.contains(b) && b.vertices().iter().map(|&v| b.pins(v)).sum::<usize>() <= 14);
-    (every, only_even)
+    only_even.retain(|b| !every.contains(b) && pins(b) <= 14);
+    let mut new_rule: Vec<Board> = boards_within(3, 3).into_iter().map(|b| b.under(Book::New)).filter(|b| pins(b) <= 8).collect();
+    new_rule.push(last.under(Book::New));
+    [("every assignment", every, false), ("every even assignment", only_even, true), (EVERY_NEW, new_rule, false)]
 }
+
+const EVERY_NEW: &str = "every assignment under the new rule";
 
 /// Every assignment on the small boards, or the one of that number alone. Answers with how many there are.
 fn part_d(run: &mut Run, only: Option<u64>) -> u64 {
-    let (every, only_even) = small_boards();
     let mut case = 0;
-    for (boards, even, what) in [(&every, false, "every assignment"), (&only_even, true, "every even assignment")] {
+    for (what, boards, even) in small_boards() {
         let (mut found, start) = (Found::default(), Instant::now());
-        for bare in boards {
+        for bare in &boards {
             assignments(bare, even, &mut |pairs| {
                 if only.is_none_or(|one| one == case) {
                     run.part_d(case, bare, pairs, &mut found);
@@ -712,12 +867,13 @@ fn part_d(run: &mut Run, only: Option<u64>) -> u64 {
         }
         if only.is_none() && !even {
             let Found { odd_paths, no_overfull, revised, .. } = found;
+            let least = if what == EVERY_NEW { [12_000, 1_100] } else { [30_000, 1_600] };
             let due = [
-                ("boards with odd vertices and paths", odd_paths, 30_000),
-                ("boards without paths on which no cut is overfull", no_overfull, 1_600),
+                ("boards with odd vertices and paths", odd_paths, least[0]),
+                ("boards without paths on which no cut is overfull", no_overfull, least[1]),
                 ("of these boards that pass the revised cut test", revised, 1),
             ];
-            end_if_short("every assignment reaches", due.map(|(what, seen, least)| (what.to_string(), seen, least)).into());
+            end_if_short(&format!("{what} reaches"), due.map(|(what, seen, least)| (what.to_string(), seen, least)).into());
         }
     }
     case
@@ -748,10 +904,23 @@ fn kinds() -> impl Iterator<Item = &'static str> {
 /// What boards with taken pins come to in parts a and b, and how often is due; more than 124 vertices with pins no board has.
 fn taken_reached(run: &Run) -> Vec<(String, u64, u64)> {
     let mut due: Vec<(String, u64)> = TAKEN_DUE.map(|(what, least)| (what.to_string(), least)).into();
-    due.extend(TAKEN_KINDS.map(|kind| (kind.to_string(), 380)));
-    due.extend([(0, 30_000), (31, 3_500), (32, 2_200), (33, 5_100), (34, 3_600)].map(|(number, least)| (taken_and(number), least)));
+    due.extend(made_kinds().into_iter().map(|kind| (kind.to_string(), 360)));
+    due.extend([(0, 30_000), (31, 3_500), (32, 2_200), (33, 3_700), (34, 3_000)].map(|(number, least)| (taken_and(number), least)));
     let mut reached: Vec<_> = due.into_iter().map(|(what, least)| (what.clone(), run.counted(&what), least)).collect();
     reached.push(("vertices with taken pins on a board".to_string(), run.most_taken as u64, 124));
+    reached
+}
+
+/// What boards come to under each book in parts a and b, and how often is due; under the new rule no board has more pins than 124.
+fn books_reached(run: &Run) -> Vec<(String, u64, u64)> {
+    let mut due: Vec<(String, u64)> = BOOKS_DUE.map(|(what, least)| (what.to_string(), least)).into();
+    due.extend(BOOKS.map(|book| (under(book, JUDGED), 150_000)));
+    due.extend(BOOKS.into_iter().flat_map(|book| ANSWERS_DUE.map(|(number, least)| (under(book, &answered(number)), least))));
+    due.extend([(25, 28_000), (38, 11_500)].map(|(number, least)| (new_rule_alone(number), least)));
+    due.extend((2..=15).map(|number| (no_book(number), 100)));
+    let mut reached: Vec<_> = due.into_iter().map(|(what, least)| (what.clone(), run.counted(&what), least)).collect();
+    let most = [("nets on a board under the new rule", run.most_nets_new, 62), ("vertices with taken pins under it", run.most_taken_new, 124)];
+    reached.extend(most.map(|(what, seen, least)| (what.to_string(), seen as u64, least)));
     reached
 }
 
@@ -773,6 +942,7 @@ fn reached(run: &Run) -> Vec<(String, u64, u64)> {
     all.extend(kinds().map(|kind| (format!("inputs of the kind \"{kind}\""), run.counted(kind), 1_000)));
     all.extend(REFUSALS.map(|number| (format!("refusals by {number}"), run.refused(number), 50)));
     all.extend(taken_reached(run));
+    all.extend(books_reached(run));
     all.extend(odd::reached(run));
     all
 }

@@ -81,7 +81,7 @@ fn joined<'a>(signs: &'a [u8], sign: &'a [u8; 3]) -> impl Iterator<Item = usize>
 // ---------------------------------------------------------------- the program
 
 /// The board's bytes and the list's: the board goes up to the first whole word of kind 15 and has all bytes where there is none.
-fn parted(input: &[u8]) -> (&[u8], &[u8]) {
+pub fn parted(input: &[u8]) -> (&[u8], &[u8]) {
     let end = input.chunks_exact(4).position(|word| word[3] >> 4 == 15);
     input.split_at(end.map_or(input.len(), |index| 4 * (index + 1)))
 }

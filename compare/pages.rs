@@ -1,11 +1,11 @@
 //! Part g: lists, true and damaged, through drawing. Edges are read off each page again, and pages of one board are held against each other.
 
+use crate::books::made_kinds;
 use crate::generate::*;
 use crate::independent::*;
 use crate::page::{page_length, read_off, used_edges, ROOM};
 use crate::pairs::{any_of, any_state, backwards, in_state, other_paths, Paths, TRUE_PAIRS};
-use crate::taken::TAKEN_KINDS;
-use crate::{end_if_short, Run, CASES_G, LOOPS, OTHER_LIST, TAKEN_DRAWN};
+use crate::{end_if_short, under, Run, CASES_G, LOOPS, OTHER_LIST, PAGES, TAKEN_DRAWN};
 use std::collections::{BTreeSet, HashSet};
 use std::time::Instant;
 
@@ -63,7 +63,7 @@ type Edges = HashSet<(Vertex, usize)>;
 /// its terminals. These cells have no edge in common, and an even count of their edges ends at each vertex.
 fn winding(random: &mut Random) -> (Board, Paths) {
     let rows = if random.one_in(2) { vec![(0, 31); 31] } else { convex_rows(random, 31, 31) };
-    let (mut board, left) = (Board::bare(&rows), rows[0].0);
+    let (mut board, left) = (any_bare(random, &rows), rows[0].0);
     let (first, second) = ((0, left), (0, left + 1));
     let cells = (0..rows.len()).flat_map(|row| (rows[row].0..rows[row].1).map(move |column| (row, column)));
     let dark = cells.filter(|(row, column)| (row + column) % 2 == left % 2);
@@ -169,6 +169,10 @@ impl Run {
         let (other_nets, other) = by_other_nets(random, board, paths);
         let two = self.routing_drawn(random, &other_nets, &other);
         self.pages_alike(OTHER_NETS, Some(true), &one, &two);
+        if let Ok(other_book) = read(&under_other_book(&one.board)) {
+            let two = self.routing_drawn(random, &other_book, paths);
+            self.pages_alike(OTHER_BOOK, Some(true), &one, &two);
+        }
     }
 
     /// The library's pages of two routings on one board are the same exactly when both use the same edges.
@@ -183,17 +187,17 @@ impl Run {
         self.count_all(&[(SAME_INPUT, same_input), (SAME_PAGE, page && !same_input), (OTHER_PAGE, !page)]);
     }
 
-    /// A damaged board, one made for taken pins, or this one with a net that is refused. The list, which may be damaged too, is for this one: the
+    /// A damaged board, one made for an answer, or this one with a net that is refused. The list, which may be damaged too, is for this one: the
     /// board is read first.
     fn damaged_board(&mut self, random: &mut Random, board: &Board, words: &[u32]) {
         // The first five kinds are true boards.
         let (kind, state) = (5 + random.below(BOARD_KINDS.len() - 5), any_state(random));
-        let damaged = match random.below(6) {
+        let damaged = match random.below(7) {
             0 => {
                 self.count(WRONG_NET);
                 wrong_net(random, board.clone())
             }
-            1 => self.taken_board(random),
+            1 | 2 => self.made_board(random),
             _ => {
                 self.count(BOARD_KINDS[kind]);
                 board_bytes(random, kind)
@@ -258,6 +262,7 @@ const BY_TRAILS: &str = "page: paths by random trails";
 const WINDING: &str = "page: a path about as long as can be";
 const WRONG_NET: &str = "a net that an add refuses";
 const OTHER_NETS: &str = "pair: the same edges by other nets";
+const OTHER_BOOK: &str = "pair: the same paths under the other book";
 const SAME_INPUT: &str = "pages the same, of the same bytes";
 const SAME_PAGE: &str = "pages the same, of other bytes";
 const OTHER_PAGE: &str = "pages that differ";
@@ -292,14 +297,15 @@ pub const OF_BOARDS: [u32; 12] = [10, 11, 12, 13, 14, 15, 16, 38, 21, 23, 24, 25
 pub const OF_LISTS: [u32; 7] = [10, 41, 42, 43, 44, 45, 46];
 
 /// What is due besides kinds and refusals.
-const DUE: [(&str, u64); 26] = [
+const DUE: [(&str, u64); 27] = [
     (BY_LIBRARY, 1_600),
     (BY_TRAILS, 13_000),
     (WINDING, 130),
     (LOOPS, 1_900),
-    (WRONG_NET, 2_600),
+    (WRONG_NET, 2_250),
     (TAKEN_DRAWN, 71_000),
     (OTHER_NETS, 16_000),
+    (OTHER_BOOK, 10_000),
     (SAME_INPUT, 25_000),
     (SAME_PAGE, 20_000),
     (OTHER_PAGE, 20_000),
@@ -309,8 +315,8 @@ const DUE: [(&str, u64); 26] = [
     (JUST_ROOM, 56_000),
     (ROOM_FOR_MORE, 11_000),
     (MORE_ROOM, 22_000),
-    (BOARD_FIRST, 1_300),
-    (BOARD_FIRST_OF_ALL, 1_300),
+    (BOARD_FIRST, 1_250),
+    (BOARD_FIRST_OF_ALL, 1_250),
     (BY_37, 32_000),
     (LIST_PASSES, 12_000),
     ("page: 37, no bytes", 4_500),
@@ -324,10 +330,11 @@ const DUE: [(&str, u64); 26] = [
 /// What part g reached, and how often is due: 200,000 calls, and of the others two thirds or less of what each of the seeds 1985, 1 and 2 reaches.
 fn reached(run: &Run) -> Vec<(String, u64, u64)> {
     let mut due: Vec<(String, u64)> = DUE.map(|(what, least)| (what.to_string(), least)).into();
-    due.extend(TRUE_PAIRS.map(|(kind, ..)| (kind.to_string(), 1_200)));
+    due.extend(TRUE_PAIRS.map(|(kind, ..)| (kind.to_string(), 1_100)));
     due.extend(LIST_KINDS.map(|kind| (kind.to_string(), 2_400)));
-    due.extend(BOARD_KINDS[5..].iter().map(|kind| (kind.to_string(), 580)));
-    due.extend(TAKEN_KINDS.map(|kind| (kind.to_string(), 55)));
+    due.extend(BOARD_KINDS[5..].iter().map(|kind| (kind.to_string(), 500)));
+    due.extend(made_kinds().into_iter().map(|kind| (kind.to_string(), 45)));
+    due.extend(BOOKS.map(|book| (under(book, PAGES), 70_000)));
     due.extend(OF_BOARDS.iter().flat_map(|&number| [true, false].map(|short| (board_by(number, short), 190))));
     due.extend(OF_LISTS.iter().flat_map(|&number| [(list_by(number), 2_500), (before_list_by(number), 780)]));
     let mut reached: Vec<_> = due.into_iter().map(|(what, least)| (what.clone(), run.counted(&what), least)).collect();

@@ -1,9 +1,9 @@
 //! Part e: pairs of lists, true and damaged, through the comparison of two routings. The true ones are judged as well.
 
+use crate::books::any_bytes;
 use crate::generate::*;
 use crate::independent::*;
-use crate::taken::any_bytes;
-use crate::{end_if_short, Run, CASES_E, OTHER_LIST, TAKEN_COMPARED, TURNED_TWICE};
+use crate::{end_if_short, under, Run, CASES_E, COMPARED, OTHER_LIST, TAKEN_COMPARED, TURNED_TWICE};
 use std::collections::{HashMap, HashSet};
 use std::time::Instant;
 
@@ -11,7 +11,7 @@ pub type Paths = Vec<Vec<usize>>;
 
 // ---------------------------------------------------------------- boards
 
-/// A board with any nets, with two nets between the same corners, or with nets round corners.
+/// A board with any nets, with two nets between the same corners, for which the old rule alone has pins, or with nets round corners.
 fn pair_board(random: &mut Random) -> Board {
     let (most_rows, most_width) = size(random);
     let kind = random.below(5);
@@ -20,15 +20,15 @@ fn pair_board(random: &mut Random) -> Board {
     }
     let whole = random.one_in(12);
     let rows = if whole { vec![(0, 31); 31] } else { convex_rows(random, most_rows, most_width) };
-    let bare = Board::bare(&rows);
-    let mut corners: Vec<Vertex> = bare.vertices().into_iter().filter(|&v| bare.pins(v) == 2).collect();
+    let bare = if kind == 0 { Board::bare(&rows) } else { any_bare(random, &rows) };
+    let mut corners: Vec<Vertex> = bare.vertices().into_iter().filter(|&v| bare.cells(v) == 1).collect();
     random.shuffle(&mut corners);
     let mut pairs: Vec<(Vertex, Vertex)> = if kind == 0 {
         vec![(corners[0], corners[1]); 2]
     } else {
         corners.iter().map(|&v| neighbours(&bare, v)).collect()
     };
-    let others = any_nets(random, &rows);
+    let others = any_nets(random, &bare);
     let most = random.pick(&[0, 1, 3, 64]);
     pairs.extend(others.iter().take(most).map(|net| (net.first, net.second)));
     let mut board = with_room(random, bare, &pairs);
@@ -344,6 +344,7 @@ fn reached(run: &Run) -> Vec<(String, u64, u64)> {
     let mut due: Vec<(String, u64)> = TRUE_PAIRS.map(|(kind, ..)| (kind.to_string(), 1_400)).into();
     LISTS.iter().for_each(|list| due.extend(STATES.map(|state| (state_of(list, state), 5_000))));
     due.extend(DUE.map(|(what, least)| (what.to_string(), least)));
+    due.extend(BOOKS.map(|book| (under(book, COMPARED), 40_000)));
     LISTS.iter().for_each(|list| due.extend([10, 41, 42, 43, 44, 45, 46].map(|number| (refused_by(list, number), 500))));
     let mut reached: Vec<_> = due.into_iter().map(|(what, least)| (what.clone(), run.counted(&what), least)).collect();
     reached.push((TURNED_TWICE.to_string(), run.lists_turned_twice, 4_300));

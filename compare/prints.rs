@@ -1,25 +1,27 @@
 //! Part h: boards and lists, true and damaged, one after the other through the program draw.
 
+use crate::books::{made_bytes, MADE_KINDS};
 use crate::generate::*;
 use crate::independent::*;
-use crate::page::{drawn_from, printed, LONGEST};
+use crate::page::{drawn_from, parted, printed, LONGEST};
 use crate::pages::{OF_BOARDS, OF_LISTS};
 use crate::pairs::{any_state, in_state};
-use crate::taken::{taken_bytes, TAKEN_KINDS};
-use crate::{end_if_short, program, Run, CASES_H};
+use crate::{end_if_short, program, under, Run, CASES_H};
 use std::time::Instant;
 
 const PROGRAM: &str = "target/bin/draw";
 
 // ---------------------------------------------------------------- inputs
 
-/// The first cases: no bytes, fewer than a word has, an end word alone, one cut short, and one shifted by a byte.
-const SHORT: [&[u8]; 5] = [&[], &[0xF0], &[0, 0, 0, 0xF0], &[0, 0, 0xF0], &[0, 0, 0, 0, 0xF0]];
+/// The first cases: no bytes, fewer than a word has, an end word alone, under the old rule, the new one and none, one cut short, and one shifted by a
+/// byte.
+const SHORT: [&[u8]; 7] =
+    [&[], &[0xF0], &[0, 0, 0, 0xF0], &[0, 0, 0, 0xF1], &[0, 0, 0, 0xF2], &[0, 0, 0xF0], &[0, 0, 0, 0, 0xF0]];
 
-const INPUTS: [&str; 15] = [
+const INPUTS: [&str; 16] = [
     "input: a routing", "input: a routing", "input: a damaged list", "input: a damaged list", "input: a damaged list", "input: a damaged board",
-    "input: a damaged board", "input: a board made for taken pins", "input: a wrong net", "input: a board alone", "input: no end word",
-    "input: an end word too soon", "input: a board twice", "input: bytes more or fewer", "input: many bytes",
+    "input: a damaged board", MADE, MADE, "input: a wrong net", "input: a board alone", "input: no end word", "input: an end word too soon",
+    "input: a board twice", "input: bytes more or fewer", "input: many bytes",
 ];
 
 /// An input of that kind, made from a board and a routing of its nets.
@@ -37,9 +39,9 @@ fn input(random: &mut Random, kind: &str, board: &Board, words: &[u32]) -> Vec<u
             let kind = 5 + random.below(BOARD_KINDS.len() - 5);
             return [board_bytes(random, kind), list].concat();
         }
-        "input: a board made for taken pins" => {
-            let kind = random.below(TAKEN_KINDS.len());
-            return [taken_bytes(random, kind).0, list].concat();
+        MADE => {
+            let kind = random.below(MADE_KINDS);
+            return [made_bytes(random, kind).0, list].concat();
         }
         "input: a wrong net" => return [wrong_net(random, board.clone()), list].concat(),
         "input: a board alone" => return bytes_of(&own),
@@ -100,14 +102,16 @@ impl Run {
             let what = format!("the program ended with {status}\n---- {PROGRAM}\n{found}\n---- independent\n{due}\n----");
             self.difference_in(&what, &[("input", input)]);
         }
-        match drawn_from(input) {
-            Ok(_) => self.count(PAGE),
-            Err(refusal) => self.count(&refused_by(refusal.number)),
+        let what = drawn_from(input).map_or_else(|refusal| refused_by(refusal.number), |_| PAGE.to_string());
+        self.count(&what);
+        if let Some(book) = book_told(parted(input).0) {
+            self.count(&under(book, &what));
         }
         self.count_all(&[(TOO_LONG, input.len() > LONGEST)]);
     }
 }
 
+const MADE: &str = "input: a board made for an answer";
 const TAKEN_ROUTING: &str = "input: a routing, pins taken";
 const PAGE: &str = "printed: a page";
 const TOO_LONG: &str = "printed: for more bytes than are read";
@@ -120,10 +124,14 @@ fn refused_by(number: u32) -> String {
 
 /// What part h reached, and how often is due: two thirds or less of what each of the seeds 1985, 1 and 2 reaches.
 fn reached(run: &Run) -> Vec<(String, u64, u64)> {
-    let mut due: Vec<(String, u64)> = INPUTS.map(|kind| (kind.to_string(), 70)).into();
+    let mut due: Vec<(String, u64)> = INPUTS.map(|kind| (kind.to_string(), 60)).into();
     due.dedup();
     due.extend(OF_BOARDS.iter().chain(&OF_LISTS[1..]).map(|&number| (refused_by(number), 2)));
-    due.extend([(TAKEN_ROUTING, 45), (PAGE, 180), (TOO_LONG, 24)].map(|(what, least)| (what.to_string(), least)));
+    for book in BOOKS {
+        due.extend([12, 13, 15, 38, 25, 41, 42, 43].map(|number| (under(book, &refused_by(number)), 3)));
+        due.push((under(book, PAGE), 70));
+    }
+    due.extend([(TAKEN_ROUTING, 45), (PAGE, 175), (TOO_LONG, 24)].map(|(what, least)| (what.to_string(), least)));
     due.into_iter().map(|(what, least)| (what.clone(), run.counted(&what), least)).collect()
 }
 

@@ -1,22 +1,23 @@
-//! The independent side tried on its own: the ring and the boards a to i of the requirements, taken pins by hand and on boards made for a refusal,
-//! reports by hand and against another way to work them out, pairs of routings whose answer is known, pages drawn by hand and against another way to
-//! draw them, the three readings of convexity against each other, the exhaustive router on boards whose answer is known, odd vertices and their
-//! pairings, and the revised cut test on boards worked out by hand and against other ways to work it out.
+//! The independent side tried on its own: the ring and the boards a to i of the requirements, taken pins and rule books by hand and on boards made
+//! for a refusal, reports by hand and against another way to work them out, pairs of routings whose answer is known, pages drawn by hand and against
+//! another way to draw them, the three readings of convexity against each other, the exhaustive router on boards whose answer is known, odd vertices
+//! and their pairings, and the revised cut test on boards worked out by hand and against other ways to work it out.
 
+#[allow(dead_code)]
+mod books;
 mod exhaustive;
 #[allow(dead_code)]
 mod generate;
 mod independent;
 mod page;
-#[allow(dead_code)]
 mod taken;
 
+use books::{made_bytes, made_kinds, MADE_KINDS};
 use exhaustive::{route, Answer};
-use generate::{convex_rows, free_pins, loop_laid_on, mirrored, odd_nets, stepped_rows, take_pins, trails, true_board, turned, Care, Random};
+use generate::{any_bare, convex_rows, free_pins, loop_laid_on, mirrored, odd_nets, stepped_rows, take_pins, trails, true_board, turned, Care, Random};
 use independent::*;
 use page::{draw, page_length, printed, read_off, used_edges, LONGEST, ROOM};
 use std::collections::BTreeMap;
-use taken::{taken_bytes, TAKEN_KINDS};
 
 const RING: [u32; 6] = [0x10000001, 0x20100001, 0x20200421, 0x20308420, 0x20408000, 0xF0000104];
 const RING_ROUTED: [u32; 9] =
@@ -455,15 +456,15 @@ fn taken_and_nets() {
 }
 
 /// Boards made for a refusal, or for none. Answers with how many.
-fn boards_made_for_taken_pins() -> usize {
+fn boards_made_for_an_answer() -> usize {
     let each = 40;
-    for (kind, name) in TAKEN_KINDS.iter().enumerate() {
+    for (kind, name) in made_kinds().iter().enumerate() {
         for case in 0..each {
-            let (bytes, due) = taken_bytes(&mut Random::of_case(7, 'z', 1_000 * kind as u64 + case), kind);
+            let (bytes, due) = made_bytes(&mut Random::of_case(7, 'z', 1_000 * kind as u64 + case), kind);
             assert_eq!(read(&bytes).err(), due, "{name}");
         }
     }
-    TAKEN_KINDS.len() * each as usize
+    MADE_KINDS * each as usize
 }
 
 /// Boards with taken pins are written and read, and have the answers of the boards without: whether paths exist, and what routing owes. A net more
@@ -485,15 +486,198 @@ fn boards_with_taken_pins() -> usize {
         let (first, second) = (random.pick(&vertices), random.pick(&vertices));
         let net = Net { number: 64, first, second };
         if first != second && board.nets.iter().all(|net| net.number != 64) {
-            // Edges, terminals and taken pins together are four at most.
+            // Edges, terminals and taken pins together are four at most, three at a corner under the new rule.
             let at = |v: Vertex| board.degree(v) + board.terminals(v) + board.taken.get(&v).unwrap_or(&0);
-            assert_eq!(board.add_refused(&net).is_none(), at(first) < 4 && at(second) < 4);
+            let most = |v: Vertex| if board.book == Book::New && board.cells(v) == 1 { 3 } else { 4 };
+            assert_eq!(board.add_refused(&net).is_none(), at(first) < most(first) && at(second) < most(second));
             refused += (board.add_refused(&net) != bare.add_refused(&net)) as usize;
         }
         boards += 1;
     }
     assert!(boards > 1_500 && refused > 100, "{boards} {refused}");
     boards
+}
+
+// ---------------------------------------------------------------- rule books
+
+/// The pins of all vertices, in reading order, before any are taken: under the old rule and under the new.
+fn pins_by_book(rows: &[(usize, usize)]) -> [Vec<usize>; 2] {
+    BOOKS.map(|book| {
+        let board = Board::bare(rows).under(book);
+        board.vertices().iter().map(|&v| board.all_pins(v)).collect()
+    })
+}
+
+fn pins_under_both_books() {
+    // One row of two cells, a square of 2 by 2 cells, and board h with its concave corners.
+    assert_eq!(pins_by_book(&[(0, 2)]), [[2, 1, 2, 2, 1, 2], [1; 6]]);
+    assert_eq!(pins_by_book(&[(0, 2), (0, 2)]), [[2, 1, 2, 1, 0, 1, 2, 1, 2], [1, 1, 1, 1, 0, 1, 1, 1, 1]]);
+    assert_eq!(pins_by_book(&[(1, 2), (0, 3), (1, 2)]), [[2, 2, 2, 0, 0, 2, 2, 0, 0, 2, 2, 2], [1, 1, 1, 0, 0, 1, 1, 0, 0, 1, 1, 1]]);
+    // The largest board has 128 pins or 124.
+    assert_eq!(pins_by_book(&[(0, 31); 31]).map(|pins| pins.iter().sum::<usize>()), [128, 124]);
+    // What a net leaves at a corner of one cell, and a taken pin: of two pins one, of one none.
+    let left = |book: Book, taken: usize| {
+        let mut board = with_nets(&[(0, 1)], &[(1, (0, 0), (0, 1))]).under(book);
+        board.taken = BTreeMap::from([((1, 0), taken)]);
+        let add = |number, first, second| board.add_refused(&Net { number, first, second });
+        [add(2, (0, 0), (1, 1)), add(2, (1, 1), (0, 1)), add(2, (1, 0), (1, 1)), add(2, (1, 1), (0, 0)), add(1, (0, 0), (1, 1))]
+    };
+    assert_eq!(left(Book::Old, 1), [None, None, None, None, Some(22)]);
+    assert_eq!(left(Book::Old, 2), [None, None, Some(25), None, Some(22)]);
+    assert_eq!(left(Book::New, 1), [Some(25), Some(25), Some(25), Some(25), Some(22)]);
+    // Whether so many pins can be taken at a corner, on a straight side, at no vertex.
+    let can_take = |book: Book, v: Vertex| [0, 1, 2, 3].map(|count| Board::bare(&[(0, 2)]).under(book).can_take(v, count));
+    assert_eq!([can_take(Book::Old, (1, 2)), can_take(Book::New, (1, 2))], [[true, true, true, false], [true, true, false, false]]);
+    BOOKS.iter().for_each(|&book| assert_eq!(can_take(book, (0, 1)), [true, true, false, false]));
+    BOOKS.iter().for_each(|&book| assert_eq!(can_take(book, (2, 0)), [false; 4]));
+}
+
+/// The ring without its nets 2 and 4: one terminal at each corner.
+const TWO_SIDES: [u32; 4] = [0x10000001, 0x20100001, 0x20308420, 0xF1000102];
+
+/// End words and the books that they tell.
+fn books_told() {
+    let changed = |change: &dyn Fn(&mut Vec<u32>)| {
+        let mut words = TWO_SIDES.to_vec();
+        change(&mut words);
+        read(&bytes_of(&words)).map(|board| board.book)
+    };
+    let twelve = |index: u32| Err(refused(12, index));
+    let thirteen = |index: u32| Err(refused(13, index));
+    assert_eq!(changed(&|_| ()), Ok(Book::New));
+    assert_eq!(changed(&|w| w[3] = 0xF0000102), Ok(Book::Old));
+    assert_eq!(read(&bytes_of(&TWO_SIDES)).unwrap().words(), TWO_SIDES);
+    // Other books; 12 before 15, before 13 in the first word and after the end.
+    for book in 2..16 {
+        let other = 0xF0000102 | book << 24;
+        assert_eq!([changed(&|w| w[3] = other), changed(&|w| w[3] = other ^ 1), changed(&|w| w[3] = other ^ 0x300)], [twelve(3); 3]);
+        assert_eq!([changed(&|w| w.insert(0, other)), changed(&|w| w[0] = other)], [twelve(0); 2]);
+        assert_eq!([changed(&|w| w.push(other)), changed(&|w| w.insert(3, other))], [twelve(4), twelve(3)]);
+    }
+    // A bit that is still unnamed, under either book.
+    for bit in 16..24 {
+        assert_eq!([changed(&|w| w[3] |= 1 << bit), changed(&|w| w[3] = 0xF0000102 | 1 << bit)], [twelve(3); 2]);
+    }
+    // An end word first, or two of them; counts that differ; no end word.
+    for end in [0xF0000102, 0xF1000102] {
+        assert_eq!([changed(&|w| w.insert(0, end)), changed(&|w| w[0] = end)], [thirteen(0); 2]);
+        assert_eq!(changed(&|w| w.push(end)), thirteen(4));
+        assert_eq!([changed(&|w| w[3] = end ^ 1), changed(&|w| w[3] = end ^ 0x300)], [Err(refused(15, 3)); 2]);
+    }
+    assert_eq!(changed(&|w| w.truncate(3)), thirteen(3));
+    assert_eq!([&[][..], &[0xF1], &[0, 0, 0, 0xF2]].map(book_told), [None, Some(Book::New), None]);
+    assert_eq!([&RING[..], &TWO_SIDES].map(|words| book_told(&bytes_of(words))), [Some(Book::Old), Some(Book::New)]);
+    // The other book, and back.
+    let other = under_other_book(&bytes_of(&TWO_SIDES));
+    assert_eq!(words_of(&other).unwrap(), [0x10000001, 0x20100001, 0x20308420, 0xF0000102]);
+    assert_eq!(under_other_book(&other), bytes_of(&TWO_SIDES));
+}
+
+/// Words up to the end word, with an end word of so many rows and nets: what reading says under the old rule and under the new.
+fn read_under_both(words: &[u32], rows: u32, nets: u32) -> [Option<Refusal>; 2] {
+    [0, 1].map(|book: u32| {
+        let end = 0xF0000000 | book << 24 | rows << 8 | nets;
+        read(&bytes_of(&[words, &[end]].concat())).err()
+    })
+}
+
+fn corners_under_both_books() {
+    let only_new = |number, place| [None, Some(refused(number, place))];
+    let both = |number, place| [Some(refused(number, place)); 2];
+    let cell = 0x10000001;
+    // The ring's second net is the second one at (0,1). Net 1 alone, and nets 1 and 3, leave one at each corner.
+    assert_eq!(read_under_both(&RING[..5], 1, 4), only_new(25, 2));
+    assert_eq!([read_under_both(&RING[..2], 1, 1), read_under_both(&TWO_SIDES[..3], 1, 2)], [[None; 2]; 2]);
+    // Board b: two nets from corner to corner. Two terminals on a straight side, and one.
+    assert_eq!(read_under_both(&[cell, 0x20100021, 0x20200021], 1, 2), only_new(25, 2));
+    assert_eq!(read_under_both(&[0x10000002, 0x20100400, 0x20200422], 1, 2), both(25, 2));
+    assert_eq!(read_under_both(&[0x10000002, 0x20100421], 1, 1), [None; 2]);
+    // One pin taken at a corner, or at all four; two; two after one.
+    assert_eq!(read_under_both(&[cell, 0x30000400], 1, 0), [None; 2]);
+    assert_eq!(read_under_both(&[cell, 0x30000400, 0x30000401, 0x30000420, 0x30000421], 1, 0), [None; 2]);
+    assert_eq!(read_under_both(&[cell, 0x30000800], 1, 0), only_new(38, 1));
+    assert_eq!(read_under_both(&[cell, 0x30000800, 0x30000821], 1, 0), only_new(38, 1));
+    assert_eq!(read_under_both(&[cell, 0x30000400, 0x30000821], 1, 0), only_new(38, 2));
+    // On a straight side as before.
+    assert_eq!(read_under_both(&[0x10000002, 0x30000401], 1, 0), [None; 2]);
+    assert_eq!(read_under_both(&[0x10000002, 0x30000801], 1, 0), both(38, 1));
+    // A corner's pin taken and a net there, which starts or ends; the other net ends elsewhere.
+    assert_eq!(read_under_both(&[cell, 0x30000400, 0x20100021], 1, 1), only_new(25, 2));
+    assert_eq!(read_under_both(&[cell, 0x30000400, 0x20108400], 1, 1), only_new(25, 2));
+    assert_eq!(read_under_both(&[cell, 0x30000400, 0x20100420, 0x20208400], 1, 2), only_new(25, 3));
+    assert_eq!(read_under_both(&[cell, 0x30000400, 0x20100420], 1, 1), [None; 2]);
+    // 38 before the nets: the number 0, no vertex, one vertex twice, no pin.
+    for (net, number) in [(0x20000421, 21), (0x20100442, 23), (0x20100421, 0), (0x20108421, 24), (0x20100001, 25)] {
+        let words = [cell, 0x30000800, net];
+        let old = (number > 0).then(|| refused(number, 2));
+        assert_eq!(read_under_both(&words, 1, 1), [old, Some(refused(38, 1))]);
+    }
+    // 12, 13, 15 and 16 before 38.
+    assert_eq!(read_under_both(&[cell, 0x30000800, 0x40000000], 1, 0), both(12, 2));
+    assert_eq!(read_under_both(&[cell, 0x30000800, cell], 2, 0), both(13, 2));
+    assert_eq!(read_under_both(&[cell, 0x30000800], 1, 1), both(15, 2));
+    assert_eq!(read_under_both(&[cell, 0x10000022, 0x30000800], 2, 0), both(16, 0));
+    // Both terminals at a corner whose pin is taken; a concave corner and the vertex inside a square have no pin.
+    assert_eq!(read_under_both(&[cell, 0x30000400, 0x20100000], 1, 1), both(24, 2));
+    assert_eq!(read_under_both(&[0x10000022, 0x10000003, 0x10000022, 0x20108401], 3, 1), both(25, 3));
+    assert_eq!(read_under_both(&[0x10000002, 0x10000002, 0x20108400], 2, 1), both(25, 2));
+    // The board of taken pins above: with one pin taken at (0,0) the net at (1,2) is left, where one is taken too.
+    assert_eq!(read_under_both(&TAKEN[..6], 2, 1), only_new(38, 2));
+    assert_eq!(read_under_both(&[&TAKEN[..2], &[0x30000400], &TAKEN[3..6]].concat(), 2, 1), only_new(25, 5));
+    assert_eq!(read_under_both(&[&TAKEN[..2], &[0x30000400, 0x30000401, 0x20108840]].concat(), 2, 1), [None; 2]);
+}
+
+/// Routing, judging, odd vertices and cuts do not look at the book.
+fn the_same_under_both_books() {
+    // The board of request §4 has one terminal at each of its twelve outer corners.
+    let block = bare_pins_board().under(Book::New);
+    assert_eq!(read(&bytes_of(&block.words())).as_ref(), Ok(&block));
+    assert_eq!(free_pins(&block), []);
+    assert_eq!(route_refused(&block, 8196), Some(refused(34, 0)));
+    // Two sides of the ring: all four vertices are odd, and a routing exists.
+    let sides = read(&bytes_of(&TWO_SIDES)).unwrap();
+    assert_eq!(sides.odd_vertices(), [(0, 0), (0, 1), (1, 0), (1, 1)]);
+    assert_eq!([route_refused(&sides, 8196), route_refused(&sides, 8195)], [None, Some(refused(31, 0))]);
+    assert!(routes(&sides) && routes(&sides.clone().under(Book::Old)));
+    let list = bytes_of(&[0x40100001, 0x54000001, 0x40300001, 0x5C000001, 0xE0000002]);
+    assert_eq!(judge(&sides, &list), Ok(report([2, 0, 0], 0, 0)));
+    // 14 odd vertices; three nets across a row of two cells, each from a corner or a side of its own.
+    let wide = Board::bare(&[(0, 8)]).under(Book::New);
+    assert_eq!(route_refused(&wide, 8196), Some(Refusal { number: 32, place: [0, 1] }));
+    let full = with_nets(&[(0, 2)], &[(1, (0, 0), (0, 2)), (2, (1, 0), (1, 2)), (3, (0, 1), (1, 1))]).under(Book::New);
+    assert!(read(&bytes_of(&full.words())).is_ok() && route_refused(&full, 8196).is_none());
+}
+
+/// Random boards are read under the other book exactly when no outer corner has more than one terminal and taken pin together, or that book is the
+/// old one; routing owes both the same. Answers with how many boards.
+fn boards_under_both_books() -> usize {
+    let (mut boards, mut answers) = ([0; 2], BTreeMap::new());
+    for case in 0..6_000 {
+        let mut random = Random::of_case(7, 'b', case);
+        let size = random.pick(&[2, 4, 8]);
+        let board = true_board(&mut random, (size, size));
+        let bytes = bytes_of(&board.words());
+        assert_eq!(read(&bytes).as_ref(), Ok(&board));
+        let other = read(&under_other_book(&bytes));
+        let at = |v: Vertex| board.terminals(v) + board.taken.get(&v).unwrap_or(&0);
+        let within = board.vertices().into_iter().all(|v| board.cells(v) != 1 || at(v) < 2);
+        assert!(within || board.book == Book::Old);
+        assert_eq!(other.is_ok(), within || board.book == Book::New);
+        match &other {
+            Ok(other) => {
+                assert!(other.book != board.book && other.words() != board.words());
+                assert_eq!(other.clone().under(board.book), board);
+                assert_eq!(route_refused(other, 8196), route_refused(&board, 8196));
+            }
+            // Two taken pins are seen before the nets are.
+            Err(refusal) => assert_eq!(refusal.number == 38, board.taken.values().any(|&count| count == 2)),
+        }
+        boards[board.book as usize] += 1;
+        *answers.entry(other.err().map_or(0, |refusal| refusal.number)).or_insert(0) += 1;
+    }
+    assert!(boards.iter().all(|&count| count > 2_500), "{boards:?}");
+    assert!(answers.len() == 3 && answers.values().all(|&count| count > 200), "{answers:?}");
+    boards.iter().sum()
 }
 
 // ---------------------------------------------------------------- pages
@@ -658,6 +842,13 @@ fn printed_by_hand() {
     assert_eq!([print(&[&board, &list]), print(&[&without_taken(&board), &list])], [page.clone(), page]);
     assert_eq!(print(&[&board[..12], &bytes_of(&[0x30000801]), &board[16..], &list]), "refused 38 3\n");
     assert_eq!(print(&[&board, &bytes_of(&[0x30000800]), &list]), "refused 42 0\n");
+    // The book is part of the end word and does not show on the page; end words alone, of a book and of none.
+    let list = bytes_of(&[0x40100001, 0x54000001, 0x40300001, 0x5C000001, 0xE0000002]);
+    let (sides, page) = (bytes_of(&TWO_SIDES), text(&["+-+", "", "+-+"]));
+    assert_eq!([print(&[&sides, &list]), print(&[&under_other_book(&sides), &list])], [page.clone(), page]);
+    assert_eq!(print(&[&under_other_book(&ring), &routed]), "refused 25 2\n");
+    assert_eq!([print(&[&[0, 0, 0, 0xF1]]), print(&[&[0, 0, 0, 0xF2]])], ["refused 13 0\n", "refused 12 0\n"]);
+    assert_eq!(print(&[&sides[..15], &[0xF3], &list]), "refused 12 3\n");
     // No more bytes are read than the most; with all of them the list would be uneven.
     assert_eq!(print(&[&ring, &vec![0; LONGEST - ring.len() + 1]]), "refused 41 0\n");
     assert_eq!(print(&[&ring, &vec![0; LONGEST - ring.len() - 1]]), "refused 10 0\n");
@@ -777,13 +968,13 @@ fn paths_by_trying(board: &Board) -> bool {
 /// Random boards: what holds of their odd vertices, pairings, parity demands and images.
 fn odd_boards() -> usize {
     let mut counts = [0; 4];
-    for case in 0..4_000 {
+    for case in 0..6_000 {
         let mut random = Random::of_case(7, 't', case);
         let size = random.pick(&[2, 4, 6]);
         let rows = if random.one_in(2) { convex_rows(&mut random, size, size) } else { stepped_rows(&mut random, size, size) };
         let (count, care) = (random.pick(&[0, 2, 4, 6, 8]), random.pick(&[Care::None, Care::Mended, Care::Filled]));
-        let nets = odd_nets(&mut random, &rows, count, care);
-        let mut board = Board { nets, ..Board::bare(&rows) };
+        let mut board = any_bare(&mut random, &rows);
+        board.nets = odd_nets(&mut random, &board, count, care);
         take_pins(&mut random, &mut board);
         assert!(board.convex() && read(&bytes_of(&board.words())).as_ref() == Ok(&board));
         let odd = board.odd_vertices().len();
@@ -842,7 +1033,11 @@ fn main() {
     taken_ill_made_or_out_of_order();
     taken_too_many();
     taken_and_nets();
-    let (made, taken) = (boards_made_for_taken_pins(), boards_with_taken_pins());
+    pins_under_both_books();
+    books_told();
+    corners_under_both_books();
+    the_same_under_both_books();
+    let (made, taken, both) = (boards_made_for_an_answer(), boards_with_taken_pins(), boards_under_both_books());
     pairs();
     refusals_of_pairs();
     pages_by_hand();
@@ -856,8 +1051,8 @@ fn main() {
     revised_cuts();
     let odd = odd_boards();
     let boards = convexity();
-    println!("self test: the ring, boards a to i, the refusals, taken pins by hand, on {made} boards made for an answer and on {taken} others,");
-    println!("pairs of routings; reports by hand and on {lists} lists, {twice} of them");
+    println!("self test: the ring, boards a to i, the refusals, taken pins and books by hand and on {made} boards made for an answer,");
+    println!("taken pins on {taken} others and books on {both}; pairs of routings; reports by hand and on {lists} lists, {twice} of them");
     println!("with a vertex where one net turns twice; pages by hand and {pages} drawn two ways; odd vertices, pairings and the revised cut test");
     println!("by hand and on {odd} boards; convexity on {boards} boards three ways: passed");
 }

@@ -4,8 +4,8 @@
 //!     sessions SEED s CASE     one case again
 //!
 //! The call paths asks for a routing. Which one is handed back is left open, so its words are judged for the nets that the calls before leave,
-//! returns to nets kept under a name among them. After the calls the nets, the pile and what each name holds are compared. Rows and taken pins come
-//! in any order, and each of them starts the session afresh.
+//! returns to nets kept under a name among them. After the calls the nets, the pile, what each name holds and the book are compared. Rows, taken pins
+//! and books come in any order, and each of them starts the session afresh.
 //! The first difference ends the run with status 1 and prints seed, case, the text and both outputs. So does a run whose texts reach too little.
 //! With SESSIONS_COUNTS set in the environment, all that was reached is printed with its count.
 
@@ -14,13 +14,13 @@ mod generate;
 mod independent;
 mod program;
 
-use generate::{convex_rows, Random};
-use independent::{bytes_of, judge, route_refused, Board, Net, Vertex};
+use generate::{any_book, convex_rows, Random};
+use independent::{bytes_of, judge, route_refused, Board, Book, Net, Vertex, BOOKS};
 use std::collections::{BTreeMap, VecDeque};
 use std::time::Instant;
 
 const PROGRAM: &str = "target/bin/replay";
-const CASES: u64 = 3_500;
+const CASES: u64 = 4_000;
 /// The longest text that the program reads.
 const MOST_BYTES: usize = 65_536;
 /// The most changes on a pile.
@@ -52,9 +52,10 @@ struct Machine {
     board: Board,
     pile: VecDeque<Change>,
     names: [Option<Vec<Net>>; NAMES],
-    /// What makes the board unsound, once it was looked for, and whether it was taken pins when last looked for.
+    /// What makes the board unsound, once it was looked for; whether it was taken pins when last looked for, and the new rule for these.
     flaw: Option<Option<&'static str>>,
     wrongly_taken: bool,
+    too_few_by_rule: bool,
     /// How many changes full piles have lost.
     lost: u64,
     output: String,
@@ -65,15 +66,24 @@ struct Machine {
 }
 
 /// What the counts go by besides the session: the last return since the session was started afresh, the names returned to since they were kept,
-/// and the names that lost their nets to a row or to taken pins, by the word that did it. Besides, whether there were taken pins on a sound board,
-/// and a net that was refused by 25 for them alone.
+/// and the names that lost their nets to a row, to taken pins or to a book, by the word that did it.
 #[derive(Clone, Default)]
 struct Past {
     returned: Option<Returned>,
     returned_to: [bool; NAMES],
     forgotten: [Option<&'static str>; NAMES],
+    ever: Ever,
+}
+
+/// What a text reached, however often the session was started afresh: taken pins on a sound board, and a net refused by 25 for them alone; a sound
+/// board under the new rule, and a net refused by 25 for that rule alone; a sound board under the old rule after one under the new.
+#[derive(Clone, Default)]
+struct Ever {
     taken: bool,
     refused_for_taken: bool,
+    new_rule: bool,
+    refused_for_rule: bool,
+    old_again: bool,
 }
 
 /// What a return did.
@@ -109,14 +119,16 @@ fn flaw(board: &Board) -> Option<&'static str> {
         return Some("not convex");
     }
     let wrong = board.taken.iter().find(|(&v, &count)| !board.can_take(v, count));
-    wrong.map(|(&v, _)| match board.all_pins(v) {
+    wrong.map(|(&v, &count)| match board.all_pins(v) {
         _ if !board.vertex(v) => TAKEN_FLAWS[0],
         0 => TAKEN_FLAWS[1],
+        _ if board.clone().under(Book::Old).can_take(v, count) => TAKEN_FLAWS[3],
         _ => TAKEN_FLAWS[2],
     })
 }
 
-const TAKEN_FLAWS: [&str; 3] = ["pins taken at no vertex", "pins taken where there are none", "more pins taken than there are"];
+const TAKEN_FLAWS: [&str; 4] =
+    ["pins taken at no vertex", "pins taken where there are none", "more pins taken than there are", "two pins taken at a corner under the new rule"];
 
 /// The refusal that an add of this net gets on a sound session: the table's lines in their order, at each the first terminal before the second.
 fn add_refused(board: &Board, net: &Net) -> Option<Refused> {
@@ -158,6 +170,7 @@ impl Machine {
             names: Default::default(),
             flaw: None,
             wrongly_taken: false,
+            too_few_by_rule: false,
             lost: 0,
             output: String::new(),
             routed: Vec::new(),
@@ -183,7 +196,16 @@ impl Machine {
         self.afresh("taken");
     }
 
-    /// No nets, an empty pile and nothing kept; rows and taken pins stay.
+    /// The board comes under the book of that number, and the session starts afresh; any other number is passed over.
+    fn book(&mut self, number: usize) {
+        self.count_book(number);
+        if let Some(&book) = BOOKS.get(number) {
+            self.board.book = book;
+            self.afresh("book");
+        }
+    }
+
+    /// No nets, an empty pile and nothing kept; rows, taken pins and the book stay.
     fn afresh(&mut self, word: &'static str) {
         if !self.pile.is_empty() {
             self.count(&format!("{word}: a session with changes dropped"));
@@ -205,6 +227,7 @@ impl Machine {
                 self.count(&format!("session: sound, rows: {rows}"));
             }
             self.count_sound_taken(found);
+            self.count_sound_under(found);
             self.flaw = Some(found);
         }
         match self.flaw {
@@ -319,7 +342,9 @@ impl Machine {
 // ---------------------------------------------------------------- the text and its answers
 
 /// The words that tell a call.
-const CALLS: [&str; 9] = ["row", "add", "adds", "withdraw", "back", "paths", "keep", "return", "taken"];
+const CALLS: [&str; 10] = ["row", "add", "adds", "withdraw", "back", "paths", "keep", "return", "taken", "book"];
+/// Those of them that tell the board and have no answer.
+const OF_BOARDS: [&str; 3] = ["row", "taken", "book"];
 
 /// A word in decimal; above 249 it is read as 255.
 fn number(word: &str) -> usize {
@@ -354,7 +379,7 @@ impl Machine {
             return self.count_passed_over(call);
         }
         let numbers: Vec<usize> = words.map(number).collect();
-        if call != "row" && call != "taken" {
+        if !OF_BOARDS.contains(&call) {
             self.count_call();
         }
         self.count_numbers(call, &numbers);
@@ -363,6 +388,7 @@ impl Machine {
         match call {
             "row" => self.row(n(0), n(1)),
             "taken" => self.taken((n(0), n(1)), n(2)),
+            "book" => self.book(n(0)),
             "adds" => self.list(&numbers),
             "paths" => self.paths(),
             _ => self.single(call, &numbers),
@@ -384,7 +410,7 @@ impl Machine {
         };
         self.count_result(call, result);
         if call == "add" {
-            self.count_refused_for_taken(call, &net_of(numbers), result);
+            self.count_refused_for(call, &net_of(numbers), result);
         }
         self.output += &match result {
             Ok(()) => "accepted\n".to_string(),
@@ -421,7 +447,7 @@ impl Machine {
         self.count_result("adds", result);
         self.count_list(&nets, count, result);
         if count < nets.len() {
-            self.count_refused_for_taken("adds", &nets[count], result);
+            self.count_refused_for("adds", &nets[count], result);
         }
         self.output += &match result {
             Ok(()) => format!("accepted {count}\n"),
@@ -448,12 +474,11 @@ impl Machine {
         };
     }
 
-    /// After the text: the nets, the pile from its top, then each name that holds something, with its nets.
+    /// After the text: the nets, the pile from its top, each name that holds something, with its nets, and the book where it is the new one.
     fn finish(&mut self) {
         assert!(self.lifts(), "the machine's own session became unsound");
         self.count_held();
-        let (taken, refused) = (self.past.taken, self.past.refused_for_taken);
-        self.count_all(&[("text: pins taken, sound", taken), ("text: a net refused 25, accepted with no pins taken", refused)]);
+        self.count_ever();
         self.output += &nets_text(&self.board.nets);
         for change in self.pile.iter().rev() {
             self.output += &match change {
@@ -465,6 +490,9 @@ impl Machine {
             if let Some(nets) = nets {
                 self.output += &format!("kept {name} {}\n{}", nets.len(), nets_text(nets));
             }
+        }
+        if self.board.book == Book::New {
+            self.output += "book 1\n";
         }
     }
 }
@@ -559,9 +587,11 @@ impl Machine {
     fn count_paths(&mut self, refused: Option<u32>) {
         self.count_came_back(refused);
         if let Some(number) = refused {
+            self.count_under(&format!("paths refused {number}"));
             return self.count_since(&format!("paths refused {number}"));
         }
         self.count_since("paths: a routing");
+        self.count_under("paths: a routing");
         if !self.board.odd_vertices().is_empty() {
             self.count("paths: a routing, odd vertices");
         }
@@ -578,8 +608,8 @@ impl Machine {
         if word.starts_with("keep") || word.starts_with("return") {
             self.count("line passed over that begins as keep or return does");
         }
-        if word.starts_with("taken") {
-            self.count("line passed over that begins as taken does");
+        for call in ["taken", "book"].iter().filter(|call| word.starts_with(**call)) {
+            self.count(&format!("line passed over that begins as {call} does"));
         }
         self.count(match word {
             "" => "line without a word",
@@ -597,7 +627,7 @@ impl Machine {
             "taken" => numbers.len() < 3,
             "add" => numbers.len() < 5,
             "adds" => numbers.len() % 5 > 0,
-            "withdraw" | "keep" | "return" => numbers.is_empty(),
+            "withdraw" | "keep" | "return" | "book" => numbers.is_empty(),
             _ => false,
         };
         if missing {
@@ -669,28 +699,112 @@ impl Machine {
             ("session: sound since taken pins were told again", found.is_none() && self.wrongly_taken),
         ];
         self.count_all(&reached);
-        self.past.taken |= sound;
+        self.past.ever.taken |= sound;
         self.wrongly_taken = found.is_some_and(|found| TAKEN_FLAWS.contains(&found));
     }
 
-    /// An add that was refused, by itself or in a list, and how it would be with no pins taken.
-    fn count_refused_for_taken(&mut self, call: &str, net: &Net, result: Result<(), Refused>) {
+    /// An add that was refused, by itself or in a list, and how it would be with no pins taken, or under the old rule.
+    fn count_refused_for(&mut self, call: &str, net: &Net, result: Result<(), Refused>) {
         let Err((25, place)) = result else { return };
-        if self.board.taken.is_empty() {
-            return;
-        }
-        match add_refused(&Board { taken: BTreeMap::new(), ..self.board.clone() }, net) {
-            None => {
-                self.past.refused_for_taken = true;
-                self.count_since(&format!("{call} refused 25 at {place}, accepted with no pins taken"));
-                let end = if place == 0 { net.first } else { net.second };
+        let end = if place == 0 { net.first } else { net.second };
+        if !self.board.taken.is_empty() {
+            let without = Board { taken: BTreeMap::new(), ..self.board.clone() };
+            if self.count_otherwise(call, place, "with no pins taken", add_refused(&without, net)) {
+                self.past.ever.refused_for_taken = true;
                 if self.board.terminals(end) > 0 {
                     self.count(&format!("{call} refused 25 at {place}, one pin taken and one used"));
                 }
             }
-            Some(other) if other != (25, place) => self.count(&format!("{call} refused 25 at {place}, at 1 with no pins taken")),
+        }
+        if self.board.book == Book::New {
+            let old = self.board.clone().under(Book::Old);
+            if self.count_otherwise(call, place, "under the old rule", add_refused(&old, net)) {
+                self.past.ever.refused_for_rule = true;
+                if self.board.taken.contains_key(&end) {
+                    self.count(&format!("{call} refused 25 at {place}, one pin taken, accepted under the old rule"));
+                }
+            }
+        }
+    }
+
+    /// An add that was refused by 25, and what it would have got otherwise. Answers whether it would have been accepted.
+    fn count_otherwise(&mut self, call: &str, place: u32, how: &str, otherwise: Option<Refused>) -> bool {
+        match otherwise {
+            None => self.count_since(&format!("{call} refused 25 at {place}, accepted {how}")),
+            Some(other) if other != (25, place) => self.count(&format!("{call} refused 25 at {place}, at 1 {how}")),
             _ => {}
         }
+        otherwise.is_none()
+    }
+}
+
+// ---------------------------------------------------------------- what was reached of books
+
+impl Machine {
+    /// Counts once more where the board is under the new rule.
+    fn count_under(&mut self, what: &str) {
+        if self.board.book == Book::New {
+            self.count(&format!("{what}, under the new rule"));
+        }
+    }
+
+    /// A line of a book, before it is followed.
+    fn count_book(&mut self, number: usize) {
+        let (told, nets, pile) = (BOOKS.get(number), !self.board.nets.is_empty(), !self.pile.is_empty());
+        let (names, same) = (self.names.iter().any(Option::is_some), told == Some(&self.board.book));
+        let reached = [
+            ("book: the old rule", told == Some(&Book::Old)),
+            ("book: the new rule", told == Some(&Book::New)),
+            ("book: the old rule in place of the new", told == Some(&Book::Old) && !same),
+            ("book: the new rule in place of the old", told == Some(&Book::New) && !same),
+            ("book: the same again", same),
+            ("book: the same again, nets dropped", same && nets),
+            ("book: another, nets dropped", told.is_some() && !same && nets),
+            ("book: before any row", told.is_some() && self.board.rows.is_empty()),
+            ("book: passed over", told.is_none()),
+            ("book: passed over, the number 2", number == 2),
+            ("book: passed over, under the new rule", told.is_none() && self.board.book == Book::New),
+            ("book: passed over, nets and pile stay", told.is_none() && nets && pile),
+            ("book: passed over, names stay", told.is_none() && names),
+        ];
+        self.count_all(&reached);
+    }
+
+    /// What the book makes of the board: `found` is its flaw.
+    fn count_sound_under(&mut self, found: Option<&'static str>) {
+        let (new, sound) = (self.board.book == Book::New, found.is_none());
+        let two_taken = self.board.taken.values().any(|&count| count == 2);
+        let reached = [
+            ("session: sound, under the new rule", sound && new),
+            ("session: sound, under the new rule with pins taken", sound && new && !self.board.taken.is_empty()),
+            ("session: sound, two pins taken at a corner under the old rule", sound && two_taken),
+            ("session: sound under the old rule, for the new one had too few pins", sound && !new && self.too_few_by_rule),
+            ("session: sound under the new rule, since pins were told again", sound && new && self.too_few_by_rule),
+        ];
+        self.count_all(&reached);
+        self.too_few_by_rule = found == Some(TAKEN_FLAWS[3]);
+        let ever = &mut self.past.ever;
+        ever.old_again |= sound && !new && ever.new_rule;
+        ever.new_rule |= sound && new;
+    }
+
+    /// What the text reached, and the book at its end.
+    fn count_ever(&mut self) {
+        let ever = self.past.ever.clone();
+        let new = self.board.book == Book::New;
+        let reached = [
+            ("text: pins taken, sound", ever.taken),
+            ("text: a net refused 25, accepted with no pins taken", ever.refused_for_taken),
+            ("text: under the new rule, sound", ever.new_rule),
+            ("text: a net refused 25, accepted under the old rule", ever.refused_for_rule),
+            ("text: under the old rule after the new, both sound", ever.old_again),
+            ("end: the new rule", new),
+            ("end: the new rule, no nets", new && self.board.nets.is_empty()),
+            ("end: the new rule, nets and changes on the pile", new && !self.board.nets.is_empty() && !self.pile.is_empty()),
+            ("end: the new rule, names held", new && self.names.iter().any(Option::is_some)),
+            ("end: the new rule, session unsound", new && flaw(&self.board).is_some()),
+        ];
+        self.count_all(&reached);
     }
 }
 
@@ -774,14 +888,13 @@ impl Machine {
         self.count_all(&reached);
     }
 
-    /// A row or taken pins make the session forget its names.
+    /// A row, taken pins or a book make the session forget its names.
     fn count_forgotten(&mut self, word: &'static str) {
         if self.names.iter().any(Option::is_some) {
             self.count(&format!("{word}: what names held dropped"));
         }
         let forgotten = std::array::from_fn(|name| self.names[name].as_ref().map(|_| word).or(self.past.forgotten[name]));
-        let Past { taken, refused_for_taken, .. } = self.past;
-        self.past = Past { forgotten, taken, refused_for_taken, ..Past::default() };
+        self.past = Past { forgotten, ever: self.past.ever.clone(), ..Past::default() };
     }
 
     /// What the names hold at the end.
@@ -801,7 +914,7 @@ impl Machine {
 // ---------------------------------------------------------------- what has to be reached
 
 /// What has to be reached in a whole run, and how often at least. Each bound is two thirds or less of what each of the seeds 1985, 1 to 5 reaches.
-const FLOORS: [(&str, u64); 184] = [
+const FLOORS: [(&str, u64); 236] = [
     ("call", 150_000),
     ("add accepted", 20_000),
     ("add refused 20 at 0", 2_000),
@@ -864,7 +977,7 @@ const FLOORS: [(&str, u64); 184] = [
     ("row: a session with changes dropped", 100),
     ("paths refused 20", 750),
     ("paths refused 32", 2_600),
-    ("paths refused 33", 4_900),
+    ("paths refused 33", 4_300),
     ("paths refused 34", 38),
     ("paths: a routing", 2_200),
     ("paths: a routing, 16 nets or more", 70),
@@ -904,7 +1017,7 @@ const FLOORS: [(&str, u64); 184] = [
     ("return: 64 nets", 40),
     ("return: a number above 249", 55),
     ("return: a number missing", 150),
-    ("return: a number with other terminals", 440),
+    ("return: a number with other terminals", 420),
     ("return: changes dropped", 1_800),
     ("return: fewer nets than before", 1_200),
     ("return: more nets than before", 550),
@@ -916,32 +1029,32 @@ const FLOORS: [(&str, u64); 184] = [
     ("return: the name 7", 300),
     ("return: to a name returned to before", 1_200),
     ("add accepted, since a return", 8_600),
-    ("add refused 22 at 0, since a return", 690),
+    ("add refused 22 at 0, since a return", 640),
     ("add refused 25 at 0, since a return", 1_400),
     ("add refused 25 at 1, since a return", 250),
     ("add: a pile of 64 lost changes, since a return", 700),
-    ("adds accepted, since a return", 2_400),
-    ("adds refused 22 at 0, since a return", 1_200),
-    ("adds refused 25 at 0, since a return", 990),
+    ("adds accepted, since a return", 2_300),
+    ("adds refused 22 at 0, since a return", 1_100),
+    ("adds refused 25 at 0, since a return", 940),
     ("adds refused 25 at 1, since a return", 500),
-    ("adds: a pile of 64 lost changes, since a return", 190),
+    ("adds: a pile of 64 lost changes, since a return", 140),
     ("withdraw accepted, since a return", 12_500),
     ("withdraw refused 26 at 0, since a return", 4_400),
     ("withdraw: a pile of 64 lost changes, since a return", 1_100),
-    ("back accepted, since a return", 7_900),
+    ("back accepted, since a return", 7_400),
     ("back refused 27 right after a return", 1_100),
     ("back refused 27 right after a return that dropped 64 changes", 18),
     ("back refused 27 right after a return that dropped changes", 850),
     ("paths refused 32, since a return", 1_100),
-    ("paths refused 33, since a return", 1_600),
+    ("paths refused 33, since a return", 1_300),
     ("paths refused 34, since a return", 19),
     ("paths: a routing of nets that came back", 150),
     ("paths: a routing of nets that came back for others", 100),
     ("paths: a routing, changes since a return", 650),
     ("paths: a routing, since a return", 1_000),
-    ("paths: refused for nets that came back for others", 530),
+    ("paths: refused for nets that came back for others", 520),
     ("row: what names held dropped", 85),
-    ("end: all eight names held", 70),
+    ("end: all eight names held", 64),
     ("end: names held, changes on the pile", 590),
     ("end: names held, since a return", 500),
     ("end: nets kept", 580),
@@ -969,23 +1082,75 @@ const FLOORS: [(&str, u64); 184] = [
     ("taken: beyond line or column 31, changes on the pile", 40),
     ("taken: in the middle of a session", 650),
     ("taken: the same count again", 95),
-    ("taken: what names held dropped", 260),
+    ("taken: what names held dropped", 220),
     ("add refused 25 at 0, accepted with no pins taken", 680),
-    ("add refused 25 at 0, accepted with no pins taken, since a return", 170),
+    ("add refused 25 at 0, accepted with no pins taken, since a return", 160),
     ("add refused 25 at 0, at 1 with no pins taken", 130),
-    ("add refused 25 at 0, one pin taken and one used", 370),
-    ("add refused 25 at 1, accepted with no pins taken", 690),
-    ("add refused 25 at 1, accepted with no pins taken, since a return", 200),
-    ("add refused 25 at 1, one pin taken and one used", 410),
-    ("adds refused 25 at 0, accepted with no pins taken", 480),
-    ("adds refused 25 at 0, accepted with no pins taken, since a return", 150),
-    ("adds refused 25 at 0, at 1 with no pins taken", 60),
-    ("adds refused 25 at 0, one pin taken and one used", 100),
+    ("add refused 25 at 0, one pin taken and one used", 190),
+    ("add refused 25 at 1, accepted with no pins taken", 490),
+    ("add refused 25 at 1, accepted with no pins taken, since a return", 120),
+    ("add refused 25 at 1, one pin taken and one used", 200),
+    ("adds refused 25 at 0, accepted with no pins taken", 470),
+    ("adds refused 25 at 0, accepted with no pins taken, since a return", 100),
+    ("adds refused 25 at 0, at 1 with no pins taken", 56),
+    ("adds refused 25 at 0, one pin taken and one used", 68),
     ("adds refused 25 at 1, accepted with no pins taken", 420),
-    ("adds refused 25 at 1, accepted with no pins taken, since a return", 120),
-    ("adds refused 25 at 1, one pin taken and one used", 85),
+    ("adds refused 25 at 1, accepted with no pins taken, since a return", 90),
+    ("adds refused 25 at 1, one pin taken and one used", 62),
     ("line passed over that begins as taken does", 880),
-    ("return refused 36 at 0, kept before taken", 120),
+    ("return refused 36 at 0, kept before taken", 110),
+    ("text: a net refused 25, accepted under the old rule", 440),
+    ("text: under the new rule, sound", 1_000),
+    ("text: under the old rule after the new, both sound", 170),
+    ("session: sound under the new rule, since pins were told again", 15),
+    ("session: sound under the old rule, for the new one had too few pins", 25),
+    ("session: sound, two pins taken at a corner under the old rule", 520),
+    ("session: sound, under the new rule", 1_700),
+    ("session: sound, under the new rule with pins taken", 790),
+    ("session: two pins taken at a corner under the new rule", 110),
+    ("book: a number above 249", 66),
+    ("book: a number missing", 110),
+    ("book: a session with changes dropped", 700),
+    ("book: another, nets dropped", 310),
+    ("book: before any row", 380),
+    ("book: passed over", 300),
+    ("book: passed over, names stay", 61),
+    ("book: passed over, nets and pile stay", 170),
+    ("book: passed over, the number 2", 63),
+    ("book: passed over, under the new rule", 120),
+    ("book: the new rule", 1_600),
+    ("book: the new rule in place of the old", 1_400),
+    ("book: the old rule", 940),
+    ("book: the old rule in place of the new", 310),
+    ("book: the same again", 850),
+    ("book: the same again, nets dropped", 320),
+    ("book: what names held dropped", 230),
+    ("add refused 25 at 0, accepted under the old rule", 480),
+    ("add refused 25 at 0, accepted under the old rule, since a return", 120),
+    ("add refused 25 at 0, at 1 under the old rule", 480),
+    ("add refused 25 at 0, one pin taken, accepted under the old rule", 71),
+    ("add refused 25 at 1, accepted under the old rule", 370),
+    ("add refused 25 at 1, accepted under the old rule, since a return", 78),
+    ("add refused 25 at 1, one pin taken, accepted under the old rule", 38),
+    ("adds refused 25 at 0, accepted under the old rule", 300),
+    ("adds refused 25 at 0, accepted under the old rule, since a return", 80),
+    ("adds refused 25 at 0, at 1 under the old rule", 110),
+    ("adds refused 25 at 0, one pin taken, accepted under the old rule", 48),
+    ("adds refused 25 at 1, accepted under the old rule", 270),
+    ("adds refused 25 at 1, accepted under the old rule, since a return", 70),
+    ("adds refused 25 at 1, one pin taken, accepted under the old rule", 44),
+    ("line passed over that begins as book does", 890),
+    ("return refused 36 at 0, kept before book", 120),
+    ("paths refused 20, under the new rule", 1_000),
+    ("paths refused 32, under the new rule", 2_300),
+    ("paths refused 33, under the new rule", 1_000),
+    ("paths refused 34, under the new rule", 120),
+    ("paths: a routing, under the new rule", 2_700),
+    ("end: the new rule", 1_100),
+    ("end: the new rule, names held", 270),
+    ("end: the new rule, nets and changes on the pile", 600),
+    ("end: the new rule, no nets", 490),
+    ("end: the new rule, session unsound", 260),
 ];
 
 fn too_little(counts: &Counts) -> Vec<String> {
@@ -1084,20 +1249,24 @@ fn limit_rows(random: &mut Random) -> Rows {
 // ---------------------------------------------------------------- texts
 
 /// Numbers above 249, all read as 255. Some would be small ones in 8, 16, 32 or 64 bits.
-const LARGE: [&str; 16] = [
-    "250", "251", "255", "256", "257", "258", "260", "512", "513", "1000", "65536", "65537", "4294967297", "18446744073709551616",
+const LARGE: [&str; 17] = [
+    "250", "251", "255", "256", "257", "258", "260", "300", "512", "513", "1000", "65536", "65537", "4294967297", "18446744073709551616",
     "18446744073709551617", "99999999999999999999999999999999999999999",
 ];
 
 /// Numbers that are no names. Some would be names in 3, 4 or 8 bits.
 const NO_NAMES: [usize; 12] = [8, 8, 8, 9, 10, 15, 16, 64, 128, 249, 255, 255];
 
+/// Numbers that are no books. Some would be books in 1, 3, 4 or 8 bits.
+const NO_BOOKS: [usize; 14] = [2, 2, 2, 3, 4, 8, 9, 9, 16, 128, 249, 255, 255, 255];
+
 /// Lines that are passed over, whatever numbers follow.
-const PASSED_OVER: [&str; 64] = [
+const PASSED_OVER: [&str; 74] = [
     "", "", "#", "a", "ad", "addsx", "addx", "adds1", "add1", "added", "addadd", "addss", "Add", "ADDS", "xadd", "r", "ro", "rows", "row0", "Row",
     "b", "bac", "backs", "back1", "Back", "backback", "w", "withdra", "withdraws", "withdrawn", "net", "path", "Paths", "pathss", "accepted", "7",
     "k", "kee", "keeps", "keep8", "keep0", "keepkeep", "Keep", "kept", "re", "ret", "retur", "returns", "return1", "returned", "returnrow",
-    "rowreturn", "Return", "RETURN", "t", "take", "takens", "taken0", "taken1", "takentaken", "takenrow", "takenx", "Taken", "TAKEN",
+    "rowreturn", "Return", "RETURN", "t", "take", "takens", "taken0", "taken1", "takentaken", "takenrow", "takenx", "Taken", "TAKEN", "bo", "boo",
+    "books", "book0", "book1", "bookbook", "booktaken", "bookx", "Book", "BOOK",
 ];
 
 /// Writes a text line by line. Its own machine tells what would be right or wrong next.
@@ -1161,20 +1330,27 @@ impl Writer {
         number.to_string()
     }
 
-    /// More rows, with taken pins in between or none.
-    fn rows(&mut self, rows: &[(usize, usize)], taken: &[[usize; 3]]) {
+    /// More rows, with taken pins in between or none, and a book anywhere or none.
+    fn rows(&mut self, rows: &[(usize, usize)], taken: &[[usize; 3]], book: Option<Book>) {
         // All taken pins before the rows, all after them, or anywhere.
         let (from, to) = self.random.pick(&[(0, 0), (rows.len(), rows.len()), (rows.len(), rows.len()), (0, rows.len())]);
         let mut places: Vec<usize> = taken.iter().map(|_| from + self.random.below(to - from + 1)).collect();
         places.sort();
         let many = taken.len() > 100;
-        let mut taken = places.into_iter().zip(taken).peekable();
+        let mut lines: Vec<(usize, &str, Vec<usize>)> = places.into_iter().zip(taken).map(|(place, t)| (place, "taken", t.to_vec())).collect();
+        if let Some(book) = book {
+            // Of the taken pins at its place it comes before all or after all.
+            let (place, at) = (self.random.below(rows.len() + 1), self.random.pick(&[0, lines.len()]));
+            lines.insert(at, (place, "book", vec![book as usize]));
+            lines.sort_by_key(|line| line.0);
+        }
+        let mut lines = lines.into_iter().peekable();
         for place in 0..=rows.len() {
-            while let Some((_, numbers)) = taken.next_if(|t| t.0 == place) {
+            while let Some((_, call, numbers)) = lines.next_if(|line| line.0 == place) {
                 // Of very many, none may go wrong.
                 match many {
-                    true => self.line(&format!("taken {} {} {}", numbers[0], numbers[1], numbers[2])),
-                    false => self.say("taken", numbers),
+                    true => self.line(&format!("{call} {}", numbers.iter().map(usize::to_string).collect::<Vec<_>>().join(" "))),
+                    false => self.say(call, &numbers),
                 }
             }
             if let Some(&(left, right)) = rows.get(place) {
@@ -1200,9 +1376,8 @@ impl Writer {
 // ---------------------------------------------------------------- taken pins, right and wrong
 
 impl Writer {
-    /// Numbers for lines of taken pins on these rows: right ones at some vertices, at times with others before them; seldom wrong ones among them.
-    fn some_taken(&mut self, rows: &[(usize, usize)]) -> Vec<[usize; 3]> {
-        let bare = Board::bare(rows);
+    /// Numbers for lines of taken pins on this board: right ones at some vertices, at times with others before them; seldom wrong ones among them.
+    fn some_taken(&mut self, bare: &Board) -> Vec<[usize; 3]> {
         let mut vertices: Vec<Vertex> = bare.vertices().into_iter().filter(|&v| v.0 <= 31 && bare.all_pins(v) > 0).collect();
         self.random.shuffle(&mut vertices);
         let most = self.random.pick(&[2, 5, 12, 40, 128]);
@@ -1218,7 +1393,7 @@ impl Writer {
             // What is said of a vertex last holds. At times there are more vertices than a board has pins.
             let count = if many { 150 + self.random.below(150) } else { 1 + self.random.below(4) };
             for _ in 0..count {
-                let other = if many { [self.random.below(32), self.random.below(32), 1] } else { self.any_taken(&bare) };
+                let other = if many { [self.random.below(32), self.random.below(32), 1] } else { self.any_taken(bare) };
                 all.push(other);
                 if !last.iter().any(|l| l[..2] == other[..2]) {
                     last.push([other[0], other[1], 0]);
@@ -1227,7 +1402,7 @@ impl Writer {
         }
         all.extend(last);
         if self.random.one_in(9) {
-            all.push(self.any_taken(&bare));
+            all.push(self.any_taken(bare));
         }
         all
     }
@@ -1254,14 +1429,27 @@ impl Writer {
         let numbers = if self.random.below(3) > 0 { self.right_taken(&board) } else { self.any_taken(&board) };
         self.say("taken", &numbers);
         self.look_up();
-        if flaw(&board).is_none() && self.machine.unsound().is_err() && self.random.below(4) > 0 {
-            (0..self.random.below(4)).for_each(|_| self.say_change());
-            self.say_taken_again();
+        if flaw(&board).is_none() {
+            self.mend_taken();
         }
     }
 
-    /// Numbers for a line of taken pins that is right, where there is one.
+    /// Where taken pins have become too many, mostly a few calls, and then all is right again: the pins are told anew, or the old rule holds.
+    fn mend_taken(&mut self) {
+        if self.machine.unsound().is_ok() || self.random.one_in(4) {
+            return;
+        }
+        (0..self.random.below(4)).for_each(|_| self.say_change());
+        if self.machine.too_few_by_rule && self.random.one_in(2) {
+            self.line("book 0");
+            return self.look_up();
+        }
+        self.say_taken_again();
+    }
+
+    /// Numbers for a line of taken pins that is right, where there is one; seldom right under the old rule alone.
     fn right_taken(&mut self, board: &Board) -> [usize; 3] {
+        let board = &board.clone().under(if self.random.one_in(6) { Book::Old } else { board.book });
         let vertices: Vec<Vertex> = board.vertices().into_iter().filter(|&v| v.0 <= 31 && board.all_pins(v) > 0).collect();
         if vertices.is_empty() {
             return [0, 0, 0];
@@ -1278,6 +1466,27 @@ impl Writer {
             self.line(&format!("taken {} {} {count}", v.0, v.1));
         }
         self.look_up();
+    }
+}
+
+// ---------------------------------------------------------------- books, right and wrong
+
+impl Writer {
+    /// A line of a book in the middle: the session starts afresh, unless the number is no book's.
+    fn say_book(&mut self) {
+        let number = match self.random.below(8) {
+            0 | 1 => self.random.pick(&NO_BOOKS),
+            2..=4 => 0,
+            _ => 1,
+        };
+        let numbers = [number];
+        let missing = self.random.one_in(15);
+        let sound = self.machine.unsound().is_ok();
+        self.say("book", if missing { &[] } else { &numbers });
+        self.look_up();
+        if sound {
+            self.mend_taken();
+        }
     }
 }
 
@@ -1577,9 +1786,10 @@ impl Writer {
     fn mixture(&mut self, count: usize) {
         let weights: Vec<usize> = (0..4).map(|_| self.random.pick(&[1, 2, 4, 8])).collect();
         let kinds: Vec<usize> = (0..4).flat_map(|kind| vec![kind; weights[kind]]).collect();
-        // How seldom names are used, and how seldom pins are taken in the middle; 0 for never.
+        // How seldom names are used, and how seldom pins are taken and books told in the middle; 0 for never.
         let seldom = self.random.pick(&[0, 0, 0, 0, 0, 6, 15, 40]);
         let seldom_taken = self.random.pick(&[0, 0, 0, 0, 0, 0, 0, 20, 60]);
+        let seldom_book = self.random.pick(&[0, 0, 0, 0, 0, 0, 20, 60]);
         for _ in 0..count {
             if !self.room() {
                 return;
@@ -1592,6 +1802,9 @@ impl Writer {
             }
             if seldom_taken > 0 && self.random.one_in(seldom_taken) {
                 self.say_taken();
+            }
+            if seldom_book > 0 && self.random.one_in(seldom_book) {
+                self.say_book();
             }
             if self.random.one_in(12) {
                 self.say_paths();
@@ -1725,7 +1938,7 @@ impl Writer {
         }
     }
 
-    /// Calls between rows and taken pins: each of them starts the session afresh.
+    /// Calls between rows, taken pins and books: each of them starts the session afresh.
     fn restarts(&mut self) {
         if self.random.one_in(2) {
             self.mixture(5);
@@ -1738,7 +1951,8 @@ impl Writer {
             if self.random.one_in(2) {
                 self.say("keep", &[name]);
             }
-            self.rows(&rows[from..to], &[]);
+            let book = if self.random.one_in(6) { Some(any_book(&mut self.random)) } else { None };
+            self.rows(&rows[from..to], &[], book);
             from = to;
             if self.random.one_in(2) {
                 self.say("return", &[name]);
@@ -1746,7 +1960,11 @@ impl Writer {
             if self.random.one_in(3) {
                 (0..self.random.below(6)).for_each(|_| self.say_change());
                 self.say("keep", &[name]);
-                self.say_taken();
+                if self.random.one_in(2) {
+                    self.say_taken();
+                } else {
+                    self.say_book();
+                }
                 self.say("return", &[name]);
             }
             let count = 5 + self.random.below(20);
@@ -1788,9 +2006,21 @@ fn text(random: Random) -> String {
         14 => Vec::new(),
         _ => shape(&mut writer.random),
     };
-    // Few of the texts that are to have 64 nets get taken pins.
-    let taken = if writer.random.one_in(if kind == 10 || kind == 11 { 8 } else { 2 }) { writer.some_taken(&rows) } else { Vec::new() };
-    writer.rows(&rows, &taken);
+    // Few of the texts that are to have 64 nets get taken pins or the new rule.
+    let full = kind == 10 || kind == 11;
+    let book = if full && writer.random.below(8) > 0 { Book::Old } else { any_book(&mut writer.random) };
+    let taken = if writer.random.one_in(if full { 8 } else { 2 }) {
+        // Seldom as many pins as the old rule gives.
+        let book = if writer.random.one_in(4) { Book::Old } else { book };
+        writer.some_taken(&Board::bare(&rows).under(book))
+    } else {
+        Vec::new()
+    };
+    let told = (book == Book::New || writer.random.one_in(6)).then_some(book);
+    writer.rows(&rows, &taken, told);
+    if writer.machine.unsound().is_err() && writer.machine.too_few_by_rule {
+        writer.mend_taken();
+    }
     match kind {
         5 | 6 => {
             writer.trials(count / 2);
@@ -2009,6 +2239,76 @@ const TAKEN_BY_HAND: [(&str, &str); 13] = [
     ("row 0 8\ntaken 0 1 1\ntaken 1 7 1\npaths\n", "refused 32 0 1\n"),
 ];
 
+/// The same with books.
+const BOOKS_BY_HAND: [(&str, &str); 14] = [
+    // One cell under the new rule: one net at each corner, and no second one.
+    (
+        "row 0 1\nbook 1\nadd 1 0 0 1 1\nadd 2 0 0 0 1\nadd 2 0 1 1 1\nadd 2 0 1 1 0\n",
+        "accepted\nrefused 25 0\nrefused 25 1\naccepted\nnet 1 0 0 1 1\nnet 2 0 1 1 0\nadded 2 0 1 1 0\nadded 1 0 0 1 1\nbook 1\n",
+    ),
+    // A straight side keeps its one pin; a list stopped at its third net, which the old rule would accept.
+    (
+        "row 0 2\nbook 1\nadd 1 0 1 1 1\nadd 2 0 1 1 0\nadds 3 0 0 1 0 4 0 2 1 2 5 1 2 0 0\n",
+        "accepted\nrefused 25 0\nrefused 25 0 after 2\nnet 1 0 1 1 1\nnet 3 0 0 1 0\nnet 4 0 2 1 2\nadded 4 0 2 1 2\nadded 3 0 0 1 0\n\
+         added 1 0 1 1 1\nbook 1\n",
+    ),
+    // Before the row. The same book again and the other one start afresh: no nets, no pile, no names.
+    (
+        "book 1\nrow 0 1\nadd 1 0 0 1 1\nadd 2 0 0 0 1\nkeep 3\nbook 1\nback\nreturn 3\nadd 1 0 0 1 1\nbook 0\nback\nadd 1 0 0 1 1\n\
+         add 2 0 0 0 1\n",
+        "accepted\nrefused 25 0\naccepted\nrefused 27 0\nrefused 36 0\naccepted\nrefused 27 0\naccepted\naccepted\n\
+         net 1 0 0 1 1\nnet 2 0 0 0 1\nadded 2 0 0 0 1\nadded 1 0 0 1 1\n",
+    ),
+    // Other numbers are passed over: the new rule, the net, the pile and the name stay. A missing number is 0.
+    (
+        "row 0 1\nbook 1\nadd 1 0 0 1 1\nkeep 2\nbook 2\nbook 9\nbook 255\nbook 300\nbook 256\nbook 257\nadd 2 0 0 1 0\nback\nbook 249\n\
+         return 2\nbook\nback\nadd 1 0 0 1 1\nadd 2 0 0 1 0\n",
+        "accepted\naccepted\nrefused 25 0\naccepted\naccepted\nrefused 27 0\naccepted\naccepted\nnet 1 0 0 1 1\nnet 2 0 0 1 0\n\
+         added 2 0 0 1 0\nadded 1 0 0 1 1\n",
+    ),
+    // Two pins taken at a corner: sound under the old rule, not under the new, until one alone is taken.
+    (
+        "row 0 1\ntaken 0 0 2\nback\nbook 1\nadd 1 0 1 1 1\nadds\nkeep 8\npaths\nbook 0\nadd 1 0 1 1 1\nbook 1\ntaken 0 0 1\nadd 1 0 0 1 1\n\
+         add 1 0 1 1 1\n",
+        "refused 27 0\nrefused 20 0\nrefused 20 0 after 0\nrefused 20 0\nrefused 20 0\naccepted\nrefused 25 0\naccepted\n\
+         net 1 0 1 1 1\nadded 1 0 1 1 1\nbook 1\n",
+    ),
+    // Rows and taken pins keep the book: (1,0) is on a straight side once there are two rows, (0,0) and (2,0) are corners.
+    (
+        "book 1\nrow 0 1\nadd 1 0 0 1 0\nrow 0 1\ntaken 32 0 1\nadd 1 0 0 1 0\nadd 2 1 0 0 0\nadd 2 2 0 0 0\nadd 2 2 0 1 1\nadd 3 2 1 2 0\n",
+        "accepted\naccepted\nrefused 25 0\nrefused 25 1\naccepted\nrefused 25 1\nnet 1 0 0 1 0\nnet 2 2 0 1 1\nadded 2 2 0 1 1\n\
+         added 1 0 0 1 0\nbook 1\n",
+    ),
+    // The book alone, after others or with no rows.
+    ("book 1\n", "book 1\n"),
+    ("book 1\nbook 0\n", ""),
+    ("book 1\nback\nbook 7", "refused 20 0\nbook 1\n"),
+    ("book 0\nrow 0 1\nbook  0001 \nkeep 0\nadd 1 0 0 1 1\nkeep 7\nreturn 0\n",
+     "accepted\naccepted\naccepted\naccepted\nkept 0 0\nkept 7 1\nnet 1 0 0 1 1\nbook 1\n"),
+    // Only the whole word.
+    (
+        "row 0 1\nbooks 1\nbook1\nBook 1\nbo 1\nbookrow 1\nadd 1 0 0 1 1\nadd 2 0 0 1 1\n",
+        "accepted\naccepted\nnet 1 0 0 1 1\nnet 2 0 0 1 1\nadded 2 0 0 1 1\nadded 1 0 0 1 1\n",
+    ),
+    // Routings under the new rule: of no nets, of two along two sides, none of two across the cell.
+    (
+        "book 1\nrow 0 1\npaths\nadds 1 0 0 0 1 2 1 1 1 0\npaths\nback\nback\nadds 1 0 0 1 1 2 0 1 1 0\npaths\nback\nback\n",
+        "a routing of the nets on the board\naccepted 2\na routing of the nets on the board\naccepted\naccepted\naccepted 2\nrefused 34 0\n\
+         accepted\naccepted\nbook 1\n",
+    ),
+    // The board of request §4 has one terminal at each corner.
+    (
+        "row 2 3\nrow 1 4\nrow 0 5\nrow 1 4\nrow 2 3\nbook 1\nadds 1 0 2 1 4 2 2 5 4 4 3 5 3 4 1 4 3 0 1 1 5 0 3 5 2 6 3 5 2 0\npaths\n\
+         add 7 0 2 5 3\nback\nback\nback\nback\nback\nback\n",
+        "accepted 6\nrefused 34 0\nrefused 25 0\naccepted\naccepted\naccepted\naccepted\naccepted\naccepted\nbook 1\n",
+    ),
+    // Three nets across the middle one of three narrow rows; 14 odd vertices.
+    (
+        "row 0 1\nrow 0 1\nrow 0 1\nbook 1\nadds 1 0 0 2 0 2 0 1 2 1 3 1 0 3 0\npaths\nrow 0 1\nrow 0 1\nrow 0 1\nrow 0 1\npaths\nrow 0 1\npaths\n",
+        "accepted 3\nrefused 33 0 1\na routing of the nets on the board\nrefused 32 1 0\nbook 1\n",
+    ),
+];
+
 /// A net that comes and goes: of 65 changes the first is lost, and when 64 are taken back the net is there still.
 fn lost_by_hand() -> (String, String) {
     let comes_and_goes = "add 1 0 0 1 1\nwithdraw 1\n".repeat(32);
@@ -2034,7 +2334,7 @@ fn emptied_by_hand() -> (String, String) {
 
 /// The machine's answers, and the program's, to the texts above.
 fn by_hand() {
-    let texts = BY_HAND.iter().chain(&NAMES_BY_HAND).chain(&TAKEN_BY_HAND);
+    let texts = BY_HAND.iter().chain(&NAMES_BY_HAND).chain(&TAKEN_BY_HAND).chain(&BOOKS_BY_HAND);
     let mut all: Vec<(String, String)> = texts.map(|(text, answers)| (text.to_string(), answers.to_string())).collect();
     all.push(lost_by_hand());
     all.push(emptied_by_hand());
@@ -2105,6 +2405,11 @@ fn whole(seed: u64) {
         "{} texts with taken pins, {} of them with a net refused for these alone,",
         seen("text: pins taken, sound"),
         seen("text: a net refused 25, accepted with no pins taken"),
+    );
+    println!(
+        "{} texts under the new rule, {} of them with a net refused for that rule alone,",
+        seen("text: under the new rule, sound"),
+        seen("text: a net refused 25, accepted under the old rule"),
     );
     println!("{} routings and {} refused by 34; {time:.1} s; no difference", seen("paths: a routing"), seen("paths refused 34"));
 }

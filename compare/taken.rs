@@ -1,11 +1,15 @@
 //! Boards with pins that the package has taken, each made for a refusal of reading or for none: taken words ill made, out of order, at vertices
-//! without so many pins; nets where pins are taken; as many words as can be.
+//! without so many pins; nets where pins are taken; as many words as can be. They come under both books, those where an outer corner has two pins
+//! under the old one.
 
 use crate::generate::*;
 use crate::independent::*;
 
 /// A board's words, and the refusal that reading owes them.
-type Made = (Vec<u32>, Option<Refusal>);
+pub type Made = (Vec<u32>, Option<Refusal>);
+
+/// What is asked of a board's vertex.
+pub type Such<'a> = &'a dyn Fn(&Board, Vertex) -> bool;
 
 pub const TAKEN_KINDS: [&str; 35] = [
     "taken: a count of 0", "taken: a count of 3", "taken: an unnamed bit", "taken: a count of 0 and the vertex again, 12 before 13",
@@ -33,17 +37,7 @@ pub fn taken_bytes(random: &mut Random, kind: usize) -> (Vec<u8>, Option<Refusal
     (bytes_of(&words), due)
 }
 
-/// A board's bytes of any kind, every fourth one of those above.
-pub fn any_bytes(random: &mut Random) -> Vec<u8> {
-    if random.one_in(4) {
-        let kind = random.below(TAKEN_KINDS.len());
-        return taken_bytes(random, kind).0;
-    }
-    let kind = random.below(BOARD_KINDS.len());
-    board_bytes(random, kind)
-}
-
-fn due(number: u32, index: usize) -> Option<Refusal> {
+pub fn due(number: u32, index: usize) -> Option<Refusal> {
     Some(Refusal { number, place: [index as u32, 0] })
 }
 
@@ -53,7 +47,8 @@ fn due(number: u32, index: usize) -> Option<Refusal> {
 fn begun(random: &mut Random) -> Board {
     let (most_rows, most_width) = size(random);
     let rows = if random.one_in(2) { stepped_rows(random, most_rows, most_width) } else { convex_rows(random, most_rows, most_width) };
-    let mut board = Board { nets: any_nets(random, &rows), ..Board::bare(&rows) };
+    let mut board = any_bare(random, &rows);
+    board.nets = any_nets(random, &board);
     board.nets.truncate(random.below(20));
     renumber(&mut board);
     board
@@ -75,7 +70,7 @@ fn sought(random: &mut Random, such: &dyn Fn(&Board) -> bool) -> Board {
 }
 
 /// The same with a vertex that is such; taken pins on every second board, none of them there.
-fn with_vertex(random: &mut Random, such: &dyn Fn(&Board, Vertex) -> bool) -> (Board, Vertex) {
+fn with_vertex(random: &mut Random, such: Such) -> (Board, Vertex) {
     loop {
         let mut board = begun(random);
         take_pins(random, &mut board);
@@ -90,7 +85,7 @@ fn with_vertex(random: &mut Random, such: &dyn Fn(&Board, Vertex) -> bool) -> (B
 }
 
 /// The index of the first taken word that is such.
-fn index_of(board: &Board, such: &dyn Fn(Vertex) -> bool) -> usize {
+pub fn index_of(board: &Board, such: &dyn Fn(Vertex) -> bool) -> usize {
     board.rows.len() + board.taken.keys().position(|&v| such(v)).unwrap_or(board.taken.len())
 }
 
@@ -167,7 +162,7 @@ fn row_after(random: &mut Random, name: &str) -> Made {
     if name == "taken: a 32nd row after it, 13 before 14" {
         // The last row as often as it takes; what was taken on the last line would lie inside now.
         let last = board.rows[board.rows.len() - 1];
-        board = Board::bare(&board.rows);
+        board = Board::bare(&board.rows).under(board.book);
         board.rows.resize(31, last);
         while board.taken.is_empty() {
             take_some_pins(random, &mut board);
@@ -188,7 +183,7 @@ fn row_after(random: &mut Random, name: &str) -> Made {
 
 /// A board with a taken word that gets 38, and its vertex. The others are right.
 fn one_too_few(random: &mut Random, name: &str) -> (Board, Vertex) {
-    let such: &dyn Fn(&Board, Vertex) -> bool = match name {
+    let such: Such = match name {
         "taken: no vertex" => &|board, v| !board.vertex(v),
         "taken: a vertex inside" => &|board, v| board.cells(v) == 4,
         "taken: a concave corner" => &|board, v| board.cells(v) == 3,
@@ -207,10 +202,7 @@ fn too_few_pins(random: &mut Random, name: &str) -> Made {
     let at = |board: &Board| index_of(board, &|u| !board.can_take(u, board.taken[&u]));
     match name {
         "taken: 38 before a wrong net" => {
-            // Its first terminal is no vertex or has no pin.
-            let number = random.pick(&[board.nets.len() as u32 + 1, 65, 255]);
-            let second = random.pick(&[v, (0, 0), (31, 31)]);
-            board.nets.push(Net { number, first: v, second });
+            lay_wrong_net(random, &mut board, v);
             (board.words(), due(38, at(&board)))
         }
         "taken: 38 twice, the first is told" => {
@@ -219,10 +211,8 @@ fn too_few_pins(random: &mut Random, name: &str) -> Made {
             (board.words(), due(38, at(&board)))
         }
         "taken: not convex, 16 before 38" => {
-            // Two rows that lie apart, with what rows there were below; the last line has no vertex.
-            let apart = [(0, 1 + random.below(5)), (6 + random.below(5), 12 + random.below(20))];
-            board.rows.truncate(20);
-            board.rows.splice(0..0, apart);
+            // The last line has no vertex.
+            lay_apart(random, &mut board);
             board.taken.insert((31, 31), 1);
             (board.words(), due(16, 0))
         }
@@ -231,13 +221,28 @@ fn too_few_pins(random: &mut Random, name: &str) -> Made {
     }
 }
 
+/// A last net from a vertex that is none or has no pin.
+pub fn lay_wrong_net(random: &mut Random, board: &mut Board, first: Vertex) {
+    let number = random.pick(&[board.nets.len() as u32 + 1, 65, 255]);
+    let second = random.pick(&[first, (0, 0), (31, 31)]);
+    board.nets.push(Net { number, first, second });
+}
+
+/// Two rows that lie apart on top, with what rows there were below.
+pub fn lay_apart(random: &mut Random, board: &mut Board) {
+    let apart = [(0, 1 + random.below(5)), (6 + random.below(5), 12 + random.below(20))];
+    board.rows.truncate(20);
+    board.rows.splice(0..0, apart);
+}
+
 /// A word that is refused by 12, 13 or 15 after all taken words.
-fn later(random: &mut Random, board: &Board) -> Made {
+pub fn later(random: &mut Random, board: &Board) -> Made {
     let mut words = board.words();
     let end = words.len() - 1;
     match random.below(4) {
         0 => {
-            words[end] |= 1 << (16 + random.below(12));
+            // Bit 24 is named: it is the new rule's.
+            words[end] |= 1 << random.pick(&[16, 17, 18, 19, 20, 21, 22, 23, 25, 26, 27]);
             (words, due(12, end))
         }
         1 => {
@@ -258,18 +263,18 @@ fn later(random: &mut Random, board: &Board) -> Made {
 // ---------------------------------------------------------------- nets where pins are taken
 
 /// Puts nets in at any place, one after the other, and numbers all from 1 on. Answers with the index of the first one's word.
-fn lay(random: &mut Random, board: &mut Board, ends: &[(Vertex, Vertex)]) -> usize {
+pub fn lay(random: &mut Random, board: &mut Board, ends: &[(Vertex, Vertex)]) -> usize {
     let at = random.below(board.nets.len() + 1);
     board.nets.splice(at..at, ends.iter().map(|&(first, second)| Net { number: 0, first, second }));
     renumber(board);
     board.rows.len() + board.taken.len() + at
 }
 
-/// A board with a vertex of so many pins and no net there, taken by none; besides, other vertices with free pins, as many as told and one as often
-/// as it has such.
-fn free_vertex(random: &mut Random, pins: &[usize], others: usize) -> (Board, Vertex, Vec<Vertex>) {
+/// A board with a vertex that is such, no net there and no pin taken; besides, other vertices with free pins, as many as told and one as often as it
+/// has such.
+pub fn free_vertex(random: &mut Random, others: usize, such: Such) -> (Board, Vertex, Vec<Vertex>) {
     loop {
-        let (board, v) = with_vertex(random, &|board, v| board.vertex(v) && pins.contains(&board.all_pins(v)) && board.terminals(v) == 0);
+        let (board, v) = with_vertex(random, &|board, v| board.vertex(v) && such(board, v) && board.terminals(v) == 0);
         let mut free: Vec<Vertex> = free_pins(&board).into_iter().filter(|f| f.0 != v).flat_map(|(u, count)| vec![u; count]).collect();
         random.shuffle(&mut free);
         if free.len() >= others {
@@ -280,14 +285,15 @@ fn free_vertex(random: &mut Random, pins: &[usize], others: usize) -> (Board, Ve
 }
 
 fn with_nets(random: &mut Random, name: &str) -> Made {
-    let (pins, others): (&[usize], usize) = match name {
-        "taken: two at an outer corner" => (&[2], 0),
-        "taken: one at a straight side" => (&[1], 0),
-        "taken: one of two at an outer corner, one net there" => (&[2], 1),
-        "taken: one of two at an outer corner, two nets there" => (&[2], 2),
-        _ => (&[1, 2], 1),
+    let two_pins: Such = &|board, v| board.all_pins(v) == 2;
+    let (such, others): (Such, usize) = match name {
+        "taken: two at an outer corner" => (two_pins, 0),
+        "taken: one at a straight side" => (&|board, v| board.cells(v) == 2, 0),
+        "taken: one of two at an outer corner, one net there" => (two_pins, 1),
+        "taken: one of two at an outer corner, two nets there" => (two_pins, 2),
+        _ => (&|board, v| board.all_pins(v) > 0, 1),
     };
-    let (mut board, v, free) = free_vertex(random, pins, others);
+    let (mut board, v, free) = free_vertex(random, others, such);
     let mut ends: Vec<(Vertex, Vertex)> = free.iter().map(|&u| if random.one_in(2) { (v, u) } else { (u, v) }).collect();
     // How many of the nets go on; the next one is refused.
     let mut right = others;
@@ -317,9 +323,12 @@ fn with_nets(random: &mut Random, name: &str) -> Made {
 
 // ---------------------------------------------------------------- many words
 
-/// 31 rows of 31 cells, with a pin taken at each of the 124 vertices that have some: one is left at each corner.
+/// 31 rows of 31 cells, with a pin taken at each of the 124 vertices that have some: under the old rule one is left at each corner.
 fn lengths(random: &mut Random, name: &str) -> Made {
-    let mut board = Board::bare(&[(0, 31); 31]);
+    let mut board = any_bare(random, &[(0, 31); 31]);
+    if name == "taken: 158 words, all that can be accepted" {
+        board.book = Book::Old;
+    }
     board.taken = free_pins(&board).into_iter().map(|(v, _)| (v, 1)).collect();
     let mut corners = [(0, 0), (0, 31), (31, 0), (31, 31)];
     random.shuffle(&mut corners);
@@ -342,9 +351,10 @@ fn lengths(random: &mut Random, name: &str) -> Made {
     ends.splice(0..0, [(corners[0], corners[1]), (corners[2], corners[3])].into_iter().take(nets));
     board.nets = (1..).zip(ends).map(|(number, (first, second))| Net { number, first, second }).collect();
     let first_net = board.rows.len() + board.taken.len();
+    let right = if board.book == Book::Old { 2 } else { 0 };
     let refused = match more - nets {
         _ if length > MOST_WORDS => due(11, 0),
-        0 if nets > 2 => due(25, first_net + 2),
+        0 if nets > right => due(25, first_net + right),
         0 => None,
         _ => due(38, index_of(&board, &|v| board.cells(v) == 4)),
     };
