@@ -1,4 +1,6 @@
 pub mod Board
+pub mod Order
+pub mod OrderLaws
 pub mod Path
 pub mod Degree
 pub mod View

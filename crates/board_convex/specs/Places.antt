@@ -1,6 +1,7 @@
 -- Vertices and edges of a board as numbers: a vertex is a column of a row, on the row's top or bottom line;
 -- a vertical edge is a column of its row; a horizontal edge is the top or the bottom of a cell.
--- Assumes that rows are not empty, where a vertex or an edge is made.
+-- Assumes that rows are not empty, where a vertex or an edge is made, and that the board is within the limits, where vertices have lines and columns
+-- below 32 (`vertex-placed`).
 use mathlib.Core.Path.{_≡_, refl}
 use mathlib.Core.Logic.{_⊎_, inl, inr}
 use Prim.Native.Nat.{ℕ, suc, _-_, _≤_, _<_}
@@ -8,6 +9,7 @@ use native.Mathlib.Omega.{arith}
 use Rattle.count.specs.TruthLaws.{le-or-lt}
 use Rattle.board.specs.Board.{
   Board,
+  Within,
   height,
   left,
   right,
@@ -56,6 +58,12 @@ vertex-in-row b v (i, j, c, k) = let n = corner-near k in (
     to = omega (arith, c .to, n .3);
   },
 )
+
+-- lines and columns of vertices are below 32
+pub vertex-placed : (b : Board) → Within b → (v : Vertex) → IsVertex b v → (v .line < 32) × (v .column < 32)
+vertex-placed b W v p =
+    let k = vertex-in-row b v p in let m = k .1 in let f = W .fits (k .0) (m .row) in
+    (omega (arith, W .few, m .row, m .high), omega (arith, m .to))
 
 -- ── columns of a row ──
 -- DEFINITION: column c is one of row i's

@@ -2,13 +2,11 @@
 -- Assumes nothing.
 use mathlib.Core.Path.{_≡_, refl, ap, sym, _∙_}
 use mathlib.Core.Bool.{true}
-use mathlib.Core.List.{List, [], _∷_, _++_, append-nil, append-assoc}
+use mathlib.Core.List.{List, [], _∷_, _++_, append-nil}
 use mathlib.Core.Option.{Option, none, some}
-use Prim.Native.Nat.{ℕ, suc, _≤_, _<_}
+use Prim.Native.Nat.{ℕ, suc}
 use native.Mathlib.Omega.{arith}
-use borrow.Author.Tests.{le-ltb}
-use Rattle.count.specs.TruthLaws.{clash, and-true, and-yes}
-use Rattle.count.specs.Each.{each-append}
+use Rattle.count.specs.TruthLaws.{and-true, and-yes}
 use Rattle.board_block.specs.Block.{Block}
 use Rattle.net.specs.declared.Net.{Net}
 use Rattle.session_rules.specs.Refusal.{Refusal}
@@ -16,34 +14,13 @@ use Rattle.session_rules.specs.Session.{insert}
 use Rattle.session_rules.specs.Add.{addRefused, isNone, accepts}
 use Rattle.session_rules.specs.Sound.{addable?}
 use Rattle.session_laws.specs.Rising.{From}
+use Rattle.session_laws.specs.InOrder.{Below, below-more, one-more, below-next, accepted-none}
 use Rattle.call_rules.specs.Result.{yes}
 use Rattle.call_rules.specs.Reading.{Listed, placedAt, addListed}
-use Rattle.board_roundtrip.specs.Parts.{netsIn, Below}
+use Rattle.board_roundtrip.specs.Parts.{netsIn}
 use Rattle.call_rules.specs.Results.{yes-same, passed}
 
--- ── a net above all others goes to the end ──
-pub insert-last : (n : Net) (on : List Net) → Below (n .number) on → insert n on ≡ on ++ (n ∷ [])
-unfolding insert
-insert-last n [] h = refl
-insert-last n (m ∷ ms) h = let l = h .0 in rw (le-ltb (n .number) (m .number) (omega arith), insert-last n ms (h .1)) refl
-
-below-more : (k l : ℕ) (ns : List Net) → k ≤ l → Below k ns → Below l ns
-below-more k l [] e h = tt
-below-more k l (n ∷ ns) e h = let g = h .0 in (omega arith, below-more k l ns e (h .1))
-
-below-last : (n : Net) (ns : List Net) → Below (n .number) ns → Below (suc (n .number)) (ns ++ (n ∷ []))
-below-last n ns h =
-    each-append (λ (m : Net). m .number < suc (n .number)) ns (n ∷ []) (below-more (n .number) (suc (n .number)) ns (omega arith) h) (omega arith, tt)
-
--- ── a net that was accepted ──
-accepted-none : (b : Block) (on : List Net) (n : Net) → accepts b on n ≡ true → addRefused b on n ≡ none
-unfolding accepts
-accepted-none b on n e = go (addRefused b on n) e
-  where
-    go : (o : Option Refusal) → isNone o ≡ true → o ≡ none
-    go none e = refl
-    go (some r) e = absurd (clash e refl)
-
+-- ── nets as adds ──
 none-accepted : (b : Block) (on : List Net) (n : Net) (i : ℕ) → placedAt i (addRefused b on n) ≡ none → accepts b on n ≡ true
 unfolding accepts
 none-accepted b on n i e = go (addRefused b on n) e
@@ -51,13 +28,6 @@ none-accepted b on n i e = go (addRefused b on n) e
     go : (o : Option Refusal) → placedAt i o ≡ none → isNone o ≡ true
     go none e = refl
     go (some r) e = absurd (let z : _≡_ {A = ℕ} 0 1 = cc in omega arith)
-
--- ── nets as adds ──
-one-more : (n : Net) (on ns : List Net) → Below (n .number) on → insert n on ++ ns ≡ on ++ (n ∷ ns)
-one-more n on ns h = rw (insert-last n on h) (append-assoc on (n ∷ []) ns)
-
-below-next : (n : Net) (on : List Net) → Below (n .number) on → Below (suc (n .number)) (insert n on)
-below-next n on h = rw (insert-last n on h) (below-last n on h)
 
 pub addable-listed : (b : Block) (on : List Net) (ls : List Listed) (k : ℕ) → Below k on → From k (netsIn ls) → addable? b on (netsIn ls) ≡ true
     → addListed b on ls ≡ yes (on ++ netsIn ls)

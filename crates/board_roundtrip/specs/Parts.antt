@@ -54,10 +54,6 @@ abbrev pub Falling : List Listed → Type 0
 Falling [] = Unit {0}
 Falling (l ∷ ls) = (notAbove (l .net .number) ls ≡ false) × Falling ls
 
--- every number is below k
-abbrev pub Below : ℕ → List Net → Type 0
-Below k ns = Each (λ (n : Net). n .number < k) ns
-
 -- ── fields that fit ──
 abbrev pub RowsFit : List Row → Type 0
 RowsFit rs = Each (λ (r : Row). (r .left < r .right) × (r .right ≤ 31)) rs

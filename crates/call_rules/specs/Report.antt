@@ -12,7 +12,7 @@ use Rattle.board.specs.declared.Vertex.{Vertex}
 use Rattle.board.specs.declared.Direction.{Direction}
 use Rattle.net.specs.Terminals.{same}
 use Rattle.net.specs.declared.Pair.{Pair}
-use Rattle.cut.specs.Odd.{readingOrder}
+use Rattle.board.specs.Order.{readingOrder}
 use Rattle.call_rules.specs.Shape.{RunAt}
 
 -- the directions of a path's runs

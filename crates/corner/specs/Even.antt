@@ -14,7 +14,8 @@ use Rattle.board.specs.Tests.{vertex-exact}
 use Rattle.board.specs.declared.Vertex.{Vertex}
 use Rattle.net.specs.declared.Pair.{Pair}
 use Rattle.net.specs.Terminals.{terminals}
-use Rattle.cut.specs.Odd.{odd?, readingOrder, oddVertices}
+use Rattle.cut.specs.Odd.{odd?, oddVertices}
+use Rattle.board.specs.Order.{readingOrder}
 use Rattle.count.specs.Parity.{oddNumber, odd-case}
 use Rattle.count.specs.Each.{Each, each-upTo, upTo-each, each-map, map-each, each-flatMap, flatMap-each, select-none, none-select}
 use Rattle.corner.specs.Problem.{AllEven}

@@ -65,5 +65,11 @@ le-or-lt m n = elim (bool (leb m n)) [ inl e ↦ inl (leb-true m n e) | inr e �
 pub eq-or-ne : (m n : ℕ) → (m ≡ n) ⊎ (m ≡ n → ⊥)
 eq-or-ne m n = elim (bool (eqb m n)) [ inl e ↦ inl (eqb-true m n e) | inr e ↦ inr (eqb-false m n e) ]
 
+pub number-order : (m n : ℕ) → (m < n) ⊎ ((m ≡ n) ⊎ (n < m))
+number-order m n = elim (le-or-lt n m) [
+  | inr h ↦ inl h
+  | inl h ↦ elim (eq-or-ne m n) [ inl e ↦ inr (inl e) | inr d ↦ inr (inr (omega arith)) ]
+]
+
 pub decides : {P : Type 0} (r t : Bool) → ((t ≡ true) ↔ P) → r ≡ t → Decides r t P
 decides r t x e = record { same = e; exact = (λ h. x .0 (sym e ∙ h), λ p. e ∙ x .1 p) }

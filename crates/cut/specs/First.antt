@@ -1,37 +1,32 @@
 -- What the lists of overfull cuts and of odd vertices say: they are empty exactly when there is none, and their head is the first in order.
 -- Assumes for vertices that the board is within the limits: the reading order has lines and columns 0 to 31.
-use mathlib.Core.Path.{_≡_, refl, ap, sym}
+use mathlib.Core.Path.{_≡_, refl, ap}
 use mathlib.Core.Bool.{true, false}
 use mathlib.Core.List.{List, [], map, head?}
-use mathlib.Core.Logic.{_⊎_, inl, inr, _↔_}
+use mathlib.Core.Logic.{inl, inr, _↔_}
 use mathlib.Core.Option.{some}
 use Prim.Native.Nat.{ℕ, _+_, _%_, _≤_, _<_}
 use native.Mathlib.Omega.{arith}
 use lib.Dec.{eqb}
 use borrow.Author.Tests.{eqb-true, eq-eqb}
-use Rattle.count.specs.TruthLaws.{clash, not-true, and-true, and-yes, le-or-lt, eq-or-ne}
-use Rattle.count.specs.Lists.{upTo, none-append, first-append, none-map, first-map, none-flat, first-flat, Ordered, first-only, head-is}
-use Rattle.board.specs.Board.{Board, Within, height, at, IsVertex}
+use Rattle.count.specs.TruthLaws.{clash, not-true, and-true, and-yes, number-order}
+use Rattle.count.specs.Lists.{upTo, none-append, first-append, none-map, first-map, Ordered, first-only, head-is}
+use Rattle.board.specs.Board.{Board, Within, height, IsVertex}
 use Rattle.board.specs.Degree.{vertex?, degree}
+use Rattle.board.specs.OrderLaws.{none-passes, first-passes}
 use Rattle.board.specs.Tests.{vertex-exact}
 use Rattle.board.specs.declared.Vertex.{Vertex}
-use Rattle.board_convex.specs.Places.{vertex-in-row}
+use Rattle.board_convex.specs.Places.{vertex-placed}
 use Rattle.net.specs.declared.Pair.{Pair}
 use Rattle.net.specs.Terminals.{terminals}
 use Rattle.cut.specs.Cut.{Overfull, overfull?, cuts, overfullCuts}
 use Rattle.cut.specs.Odd.{odd?, oddVertices}
-use Rattle.cut.specs.Order.{IsCut, CutBefore, higher, row-first, further-left, FirstOverfull, VertexBefore, Even, Odd, FirstOdd}
+use Rattle.cut.specs.Order.{IsCut, CutBefore, higher, row-first, further-left, FirstOverfull, Even, Odd, FirstOdd}
 use Rattle.cut.specs.Laws.{overfull-exact}
 use Rattle.cut.specs.declared.Cut.{Cut}
 use Rattle.cut.specs.declared.Cut.the-variants.{Row, Column}
 
 -- ── overfull cuts ──
-number-order : (i k : ℕ) → (i < k) ⊎ ((i ≡ k) ⊎ (k < i))
-number-order i k = elim (le-or-lt k i) [
-  | inr h ↦ inl h
-  | inl h ↦ elim (eq-or-ne i k) [ inl e ↦ inr (inl e) | inr n ↦ inr (inr (omega arith)) ]
-]
-
 pub cut-order : Ordered CutBefore
 cut-order (Row i) (Row k) = elim (number-order i k) [
   | inl h ↦ inl (higher h)
@@ -107,17 +102,6 @@ module _ (b : Board) (ps : List Pair) where
   )
 
 -- ── odd vertices ──
-pub vertex-order : Ordered VertexBefore
-vertex-order u v = elim (number-order (u .line) (v .line)) [
-  | inl h ↦ inl (inl h)
-  | inr (inr h) ↦ inr (inr (inl h))
-  | inr (inl e) ↦ elim (number-order (u .column) (v .column)) [
-    | inl h ↦ inl (inr (e, h))
-    | inr (inr h) ↦ inr (inr (inr (sym e, h)))
-    | inr (inl f) ↦ inr (inl (let s : at (u .line) (u .column) ≡ at (v .line) (v .column) = rw (e, f) refl in s))
-  ]
-]
-
 module _ (b : Board) (ps : List Pair) where
   pub odd-exact : (v : Vertex) → (odd? b ps v ≡ true) ↔ (IsVertex b v × Odd b ps v)
   unfolding odd?
@@ -137,47 +121,18 @@ module _ (b : Board) (ps : List Pair) where
   even-not-odd v h = not-true (odd? b ps v) (λ e. let k = odd-exact v .0 e in let m = h (k .0) in omega (arith, k .1))
 
   module _ (W : Within b) where
-    -- lines and columns of vertices are below 32
-    placed : (v : Vertex) → IsVertex b v → (v .line < 32) × (v .column < 32)
-    placed v p =
-        let k = vertex-in-row b v p in let m = k .1 in let f = W .fits (k .0) (m .row) in
-        (omega (arith, W .few, m .row, m .high), omega (arith, m .to))
+    framed : (v : Vertex) → odd? b ps v ≡ true → (v .line < 32) × (v .column < 32)
+    framed v e = vertex-placed b W v (odd-exact v .0 e .0)
 
     pub no-odd : (oddVertices b ps ≡ []) ↔ ((v : Vertex) → IsVertex b v → Even b ps v)
     unfolding oddVertices
-    no-odd =
-        let t = odd? b ps in let all = none-flat t (λ l. map (at l) (upTo 32)) 0 32 in (
-          λ e v p. let q = placed v p in
-              not-odd v p (none-map t (at (v .line)) 0 32 .0 (all .0 e (v .line) (omega arith) (omega arith)) (v .column) (omega arith)
-              (omega arith)),
-          λ h. all .1 (λ l a k. none-map t (at l) 0 32 .1 (λ c d m. even-not-odd (at l c) (h (at l c)))),
-        )
-
-    head-odd : (v : Vertex) → head? (oddVertices b ps) ≡ some v → FirstOdd b ps v
-    unfolding oddVertices
-    head-odd v e =
-        let t = odd? b ps in
-        let lines = first-flat t (λ l. map (at l) (upTo 32)) 0 32 v e in
-        let columns = first-map t (at (lines .k)) 0 32 v (lines .here) in
-        let here = columns .here in let k = odd-exact v .0 (here .1) in
-        record {
-          vertex = k .0;
-          odd = k .1;
-          before = λ u p h. let q = placed u p in elim (rw (here .0) at h) [
-            | inl a ↦ not-odd u p (none-map t (at (u .line)) 0 32 .0 (lines .before (u .line) (omega arith) a) (u .column) (omega arith)
-                (omega arith))
-            | inr a ↦ not-odd u p (rw (← a .0) at (columns .before (u .column) (omega arith) (a .1)))
-          ];
-        }
-
-    only-odd : (u v : Vertex) → FirstOdd b ps u → FirstOdd b ps v → u ≡ v
-    only-odd u v p q = first-only (λ w. IsVertex b w × Odd b ps w) VertexBefore vertex-order u v
-        (p .vertex, p .odd) (λ w g h. let e = p .before w (g .0) h in omega (arith, g .1))
-        (q .vertex, q .odd) (λ w g h. let e = q .before w (g .0) h in omega (arith, g .1))
+    no-odd = let k = none-passes (odd? b ps) framed in (λ e v p. not-odd v p (k .0 e v), λ h. k .1 (λ v. even-not-odd v (h v)))
 
     pub first-odd : (v : Vertex) → (head? (oddVertices b ps) ≡ some v) ↔ FirstOdd b ps v
-    first-odd v = (
-      head-odd v,
-      λ p. head-is (oddVertices b ps) v (λ e. let k = no-odd .0 e v (p .vertex) in let o = p .odd in omega arith)
-          (λ u e. only-odd u v (head-odd u e) p),
+    unfolding oddVertices
+    first-odd v = let k = first-passes (odd? b ps) framed v in (
+      λ e.
+          let f = k .0 e in let o = odd-exact v .0 (f .passes) in
+          record { vertex = o .0; odd = o .1; before = λ u p h. not-odd u p (f .before u h) },
+      λ p. k .1 (record { passes = odd-exact v .1 (p .vertex, p .odd); before = λ u h. even-not-odd u (λ q. p .before u q h) }),
     )

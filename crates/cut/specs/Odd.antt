@@ -1,11 +1,12 @@
 -- Definitions only: document 01, "Cuts", last sentence, and the order of refusal 32. Nothing is proved here.
 use mathlib.Core.Bool.{Bool, _&&_}
-use mathlib.Core.List.{List, flatMap, map}
+use mathlib.Core.List.{List}
 use Prim.Native.Nat.{_+_, _%_}
 use lib.Dec.{eqb}
-use Rattle.count.specs.Lists.{upTo, select}
-use Rattle.board.specs.Board.{Board, at}
+use Rattle.count.specs.Lists.{select}
+use Rattle.board.specs.Board.{Board}
 use Rattle.board.specs.Degree.{vertex?, degree}
+use Rattle.board.specs.Order.{readingOrder}
 use Rattle.board.specs.declared.Vertex.{Vertex}
 use Rattle.net.specs.declared.Pair.{Pair}
 use Rattle.net.specs.Terminals.{terminals}
@@ -14,9 +15,6 @@ use Rattle.net.specs.Terminals.{terminals}
 unfoldable pub odd? : Board → List Pair → Vertex → Bool
 odd? b ps v = vertex? b v && eqb ((degree b v + terminals ps v) % 2) 1
 
--- "in reading order, line by line and column by column"; lines and columns are 0 to 31
-abbrev pub readingOrder : List Vertex
-readingOrder = flatMap (λ l. map (at l) (upTo 32)) (upTo 32)
-
+-- in reading order
 unfoldable pub oddVertices : Board → List Pair → List Vertex
 oddVertices b ps = select (odd? b ps) readingOrder

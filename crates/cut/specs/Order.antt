@@ -1,10 +1,10 @@
 -- Definitions only: which cut or vertex is the first one overfull or odd. Nothing is proved here: First has the laws.
 use mathlib.Core.Path.{_≡_}
 use mathlib.Core.List.{List}
-use mathlib.Core.Logic.{_⊎_}
 use Prim.Native.Nat.{ℕ, _+_, _%_, _<_}
 use Rattle.board.specs.Board.{Board, height, IsVertex}
 use Rattle.board.specs.Degree.{degree}
+use Rattle.board.specs.Order.{VertexBefore}
 use Rattle.board.specs.declared.Vertex.{Vertex}
 use Rattle.net.specs.declared.Pair.{Pair}
 use Rattle.net.specs.Terminals.{terminals}
@@ -27,10 +27,6 @@ pub record FirstOverfull (b : Board) (ps : List Pair) (x : Cut) : Type 0 where
   pub cut : IsCut b x
   pub overfull : Overfull b ps x
   pub before : (y : Cut) → IsCut b y → CutBefore y x → Overfull b ps y → ⊥
-
--- "line by line and column by column"
-abbrev pub VertexBefore : Vertex → Vertex → Type 0
-VertexBefore u v = (u .line < v .line) ⊎ ((u .line ≡ v .line) × (u .column < v .column))
 
 -- "A vertex is odd when its degree plus its terminals is odd."
 abbrev pub Even : Board → List Pair → Vertex → Type 0

@@ -6,7 +6,7 @@ use Prim.Native.Nat.{ℕ, _+_, _-_, _<_}
 use Rattle.count.specs.Lists.{rising, upTo, rising-more}
 use Rattle.board.specs.Board.{at}
 use Rattle.board.specs.declared.Vertex.{Vertex}
-use Rattle.cut.specs.Odd.{readingOrder}
+use Rattle.board.specs.Order.{readingOrder}
 
 -- the places of lines l to 31; from line 0 on it is the whole reading order
 unfoldable pub linesFrom : ℕ → List Vertex

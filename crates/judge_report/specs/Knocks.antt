@@ -2,7 +2,7 @@
 -- Assumes nothing.
 use mathlib.Core.Path.{_≡_, refl, ap, _∙_}
 use mathlib.Core.Bool.{Bool, true, false, cond}
-use mathlib.Core.List.{List, [], _∷_, map, flatMap}
+use mathlib.Core.List.{List, [], _∷_, map}
 use Prim.Native.Nat.{ℕ, suc, _+_, _/_, _%_, _<_, _≤_}
 use native.Mathlib.Numerals.{add-one}
 use native.Mathlib.Omega.{arith}
@@ -10,10 +10,11 @@ use lib.Dec.{ltb}
 use lib.ListN.{length, drop, getD, drop-of-length-le}
 use lib.Seq.{drop-cons}
 use Rattle.count.specs.Truth.{one}
-use Rattle.count.specs.Lists.{rising, upTo, select}
+use Rattle.count.specs.Lists.{rising, select}
 use Rattle.board.specs.Board.{at}
 use Rattle.board.specs.declared.Vertex.{Vertex}
-use Rattle.cut.specs.Odd.{readingOrder}
+use Rattle.board.specs.Order.{readingOrder}
+use Rattle.board.specs.OrderLaws.{reading-by-index}
 use Rattle.judge_report.specs.Traces.{knocksIn}
 
 pub knocks-more : (a : List ℕ) (i : ℕ) → i < length a → knocksIn (drop i a) ≡ one (ltb 1 (getD a i 0)) + knocksIn (drop (i + 1) a)
@@ -27,10 +28,6 @@ knocks-none a i h = rw (drop-of-length-le a h) refl
 -- ── the vertices by their index ──
 abbrev pub vertexAt : ℕ → Vertex
 vertexAt i = at (i / 32) (i % 32)
-
-pub reading-by-index : readingOrder ≡ map vertexAt (upTo 1024)
-unfolding flatMap
-reading-by-index = refl
 
 length-select : {A : Type 0} (p : A → Bool) (x : A) (xs : List A) → length (select p (x ∷ xs)) ≡ one (p x) + length (select p xs)
 unfolding select

@@ -16,7 +16,8 @@ use Rattle.board.specs.declared.Vertex.{Vertex}
 use Rattle.net.specs.declared.Pair.{Pair}
 use Rattle.net.specs.Terminals.{same, terminals}
 use Rattle.net.specs.Same.{same-true, same-self}
-use Rattle.cut.specs.Odd.{odd?, readingOrder, oddVertices}
+use Rattle.cut.specs.Odd.{odd?, oddVertices}
+use Rattle.board.specs.Order.{readingOrder}
 use Rattle.cut.specs.First.{odd-exact}
 use Rattle.corner.specs.Pairs.{All}
 use Rattle.corner.specs.Tallies.{standing-none}

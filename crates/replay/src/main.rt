@@ -23,9 +23,6 @@
 // each a line "kept" with the name and how many nets it holds, and these nets as above; then, where the board is under the new rule, a line "book 1".
 ghost use Prim.Native.Nat.{_≤_};
 ghost use lib.ListN.{length};
-ghost use Rattle.text.specs.Put.{Holds};
-ghost use Rattle.session_answers.specs.Answers.{addAllAnswer};
-ghost use Rattle.replay.specs.Text.{answerLine, toldAnswer};
 use board::Board;
 use board::Row;
 use board::Vertex;
@@ -217,41 +214,15 @@ fn net_list(s: &[u8], from: usize) -> NetList {
 
 // ── writing ──
 
-// The line of an answer, at the start of the buffer; how many bytes it is.
-fn told_line(told: Told, out: &mut [u8; 128]) -> usize
-    ensures { λ r. ⌜ Holds (answerLine (toldAnswer told)) r (now (out .exit)) ⌝ }
-{
-    let number = told.number;
-    if number == 0 {
-        text::line(b"accepted", &[0usize; 0], out)
-    } else {
-        text::refused(wide(number), wide(told.place), out)
-    }
-}
-
-// The same of what adding a list of nets answered.
-fn list_line(answer: AddAllAnswer, out: &mut [u8; 128]) -> usize
-    ensures { λ r. ⌜ Holds (answerLine (addAllAnswer answer)) r (now (out .exit)) ⌝ }
-{
-    let last = answer.last;
-    let told = session_answers::add_told(last);
-    let number = told.number;
-    if number == 0 {
-        text::line(b"accepted", &[answer.count], out)
-    } else {
-        text::refused_after(wide(number), wide(told.place), answer.count, out)
-    }
-}
-
 fn print_told(told: Told) {
     let mut out = [0u8; 128];
-    let n = told_line(told, &mut out);
+    let n = session_text::told_line(told, &mut out);
     io::write_all(1, &out[..n]);
 }
 
 fn print_list_answer(answer: AddAllAnswer) {
     let mut out = [0u8; 128];
-    let n = list_line(answer, &mut out);
+    let n = session_text::list_line(answer, &mut out);
     io::write_all(1, &out[..n]);
 }
 

@@ -2,6 +2,7 @@ pub mod Accept
 pub mod Exact
 pub mod Insert
 pub mod Rising
+pub mod InOrder
 pub mod Fine
 pub mod Addable
 pub mod Names

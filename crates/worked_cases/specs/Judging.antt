@@ -12,7 +12,7 @@ use Rattle.board.specs.declared.Direction.{Direction}
 use Rattle.board.specs.declared.Direction.the-variants.{Up, Right, Down, Left}
 use Rattle.net.specs.declared.Net.{Net}
 use Rattle.net.specs.declared.Change.the-variants.{Withdrawn}
-use Rattle.cut.specs.Odd.{readingOrder}
+use Rattle.board.specs.Order.{readingOrder}
 use Rattle.words.specs.RoutingWord.{routingWords}
 use Rattle.words.specs.Bytes.{bytesOf}
 use Rattle.session_rules.specs.Session.{Session, withNets, pairs}

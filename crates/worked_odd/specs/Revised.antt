@@ -15,7 +15,7 @@ use Rattle.board.specs.declared.Direction.{Direction}
 use Rattle.board.specs.declared.Direction.the-variants.{Right, Down}
 use Rattle.net.specs.declared.Pair.{Pair}
 use Rattle.cut.specs.Cut.{edges, side, crossing}
-use Rattle.cut.specs.Odd.{readingOrder}
+use Rattle.board.specs.Order.{readingOrder}
 use Rattle.cut.specs.declared.Cut.{Cut}
 use Rattle.cut.specs.declared.Cut.the-variants.{Row, Column}
 

@@ -1,10 +1,10 @@
 -- Number 0 is told as accepted.
 use borrow.Author.Needs.{needs}
 use borrow.Author.Tests.{eq-eqb, ne-eqb}
-use Rattle.replay.proofs.told_line.Statement.{statement}
-use Rattle.replay.proofs.told_line.Tie as tie
-use Rattle.replay.proofs.told_line.Reads as reads
-use Rattle.replay.proofs.told_line.Lts as lts
+use Rattle.session_text.proofs.told_line.Statement.{statement}
+use Rattle.session_text.proofs.told_line.Tie as tie
+use Rattle.session_text.proofs.told_line.Reads as reads
+use Rattle.session_text.proofs.told_line.Lts as lts
 use Rattle.numbers.proofs.wide.Reads as wide-reads
 use Rattle.text.proofs.line.Reads as line-reads
 use Rattle.text.proofs.refused.Reads as refused-reads

@@ -1,5 +1,5 @@
--- Definitions only: what a call that changes a session prints: "accepted", or "refused" with the number and the place; of a list of nets also how
--- many went on. Nothing is proved here.
+-- Definitions only: the line of what a call that changes a session answers: "accepted", or "refused" with the number and the place; of a list of nets
+-- also how many went on. Nothing is proved here.
 use mathlib.Core.Bool.{cond}
 use mathlib.Core.List.{List, [], _∷_}
 use mathlib.Core.Option.{none, some}

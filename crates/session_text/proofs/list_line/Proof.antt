@@ -9,9 +9,9 @@ use Rattle.session_rules.specs.Machine.{wentOn, refusalOf}
 use Rattle.session_answers.specs.Answers.{addAnswer, told}
 use Rattle.session_answers.specs.declared.AddAnswer.{AddAnswer}
 use Rattle.session_answers.specs.declared.AddAnswer.the-variants.{Accepted, Unsound, BadNumber, NumberTaken, NoVertex, SameVertex, PinsTaken}
-use Rattle.replay.specs.Text.{answerLine}
-use Rattle.replay.proofs.list_line.Statement.{statement}
-use Rattle.replay.proofs.list_line.Tie as tie
+use Rattle.session_text.specs.Text.{answerLine}
+use Rattle.session_text.proofs.list_line.Statement.{statement}
+use Rattle.session_text.proofs.list_line.Tie as tie
 
 all-on : (k : ℕ) (a : AddAnswer) → told (addAnswer a) .number ≡ 0 → answerLine (wentOn k (refusalOf (addAnswer a))) ≡ lineOf acceptedName (k ∷ [])
 all-on k Accepted e = refl
