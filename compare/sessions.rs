@@ -5,7 +5,7 @@
 //!
 //! The call paths asks for a routing. Which one is handed back is left open, so its words are judged for the nets that the calls before leave,
 //! returns to nets kept under a name among them. After the calls the nets, the pile, what each name holds and the book are compared. Rows, taken pins
-//! and books come in any order, and each of them starts the session afresh.
+//! and books come in any order, and each of them starts the session afresh; a move brings the session under the new rule with its nets.
 //! The first difference ends the run with status 1 and prints seed, case, the text and both outputs. So does a run whose texts reach too little.
 //! With SESSIONS_COUNTS set in the environment, all that was reached is printed with its count.
 
@@ -14,13 +14,13 @@ mod generate;
 mod independent;
 mod program;
 
-use generate::{any_book, convex_rows, Random};
+use generate::{any_book, convex_rows, free_pins, Random};
 use independent::{bytes_of, judge, route_refused, Board, Book, Net, Vertex, BOOKS};
 use std::collections::{BTreeMap, VecDeque};
 use std::time::Instant;
 
 const PROGRAM: &str = "target/bin/replay";
-const CASES: u64 = 4_000;
+const CASES: u64 = 4_500;
 /// The longest text that the program reads.
 const MOST_BYTES: usize = 65_536;
 /// The most changes on a pile.
@@ -34,6 +34,8 @@ const ROUTING: &str = "a routing of the nets on the board";
 
 /// A refusal's number and place.
 type Refused = (u32, u32);
+/// The same where the place may be two numbers.
+type RefusedAt = (u32, Vec<u32>);
 type Rows = Vec<(usize, usize)>;
 type Counts = BTreeMap<String, u64>;
 
@@ -65,18 +67,29 @@ struct Machine {
     past: Past,
 }
 
-/// What the counts go by besides the session: the last return since the session was started afresh, the names returned to since they were kept,
-/// and the names that lost their nets to a row, to taken pins or to a book, by the word that did it.
+/// What the counts go by besides the session: the last return since the session was started afresh or came over to the new rule, the names returned
+/// to since they were kept, and the names that lost their nets to a row, to taken pins, to a book or to a move, by the word that did it. Of moves
+/// since the session was started afresh: the one that brought it over, the last one with how it went and the calls since, and whether one was refused
+/// by 39 and none brought it over since.
 #[derive(Clone, Default)]
 struct Past {
     returned: Option<Returned>,
     returned_to: [bool; NAMES],
     forgotten: [Option<&'static str>; NAMES],
+    over: Option<Over>,
+    last_move: Option<(&'static str, u64)>,
+    crowded: bool,
     ever: Ever,
 }
 
+/// How a move went.
+const OVER: &str = "a move";
+const STAYED: &str = "a move that left all as it was";
+const CROWDED: &str = "a move refused 39";
+
 /// What a text reached, however often the session was started afresh: taken pins on a sound board, and a net refused by 25 for them alone; a sound
-/// board under the new rule, and a net refused by 25 for that rule alone; a sound board under the old rule after one under the new.
+/// board under the new rule, and a net refused by 25 for that rule alone; a sound board under the old rule after one under the new; how many moves
+/// brought a session over, and whether one left it as it was, was refused by 39, or brought it over in spite of such a refusal.
 #[derive(Clone, Default)]
 struct Ever {
     taken: bool,
@@ -84,6 +97,10 @@ struct Ever {
     new_rule: bool,
     refused_for_rule: bool,
     old_again: bool,
+    over: u64,
+    stayed: bool,
+    crowded: bool,
+    relieved: bool,
 }
 
 /// What a return did.
@@ -93,6 +110,17 @@ struct Returned {
     dropped: usize,
     /// Whether the nets were others before it.
     changed: bool,
+    /// How many changes full piles had lost by then.
+    lost: u64,
+    /// The calls since, the one that is looked at among them.
+    calls: u64,
+}
+
+/// What a move did that brought the session over.
+#[derive(Clone, Copy)]
+struct Over {
+    /// How many changes it dropped from the pile.
+    dropped: usize,
     /// How many changes full piles had lost by then.
     lost: u64,
     /// The calls since, the one that is looked at among them.
@@ -162,6 +190,42 @@ fn take(board: &mut Board, number: u32) -> Option<Net> {
     Some(board.nets.remove(at))
 }
 
+/// How many pins of a vertex the package and the nets use together.
+fn in_use(board: &Board, v: Vertex) -> usize {
+    board.terminals(v) + board.taken.get(&v).copied().unwrap_or(0)
+}
+
+/// The vertices in reading order where more pins are in use than the board's rule gives before any are taken.
+fn crowded(board: &Board) -> Vec<Vertex> {
+    board.vertices().into_iter().filter(|&v| in_use(board, v) > board.all_pins(v)).collect()
+}
+
+/// The board again, from its rows and its book: the taken pins are entered one by one, then the nets. Or the number of the first refusal.
+fn entered_afresh(board: &Board) -> Result<Board, u32> {
+    let mut afresh = Board::bare(&board.rows).under(board.book);
+    for (&v, &count) in &board.taken {
+        if !afresh.can_take(v, count) {
+            return Err(38);
+        }
+        afresh.taken.insert(v, count);
+    }
+    for net in &board.nets {
+        if let Some((number, _)) = add_refused(&afresh, net) {
+            return Err(number);
+        }
+        put(&mut afresh, net);
+    }
+    Ok(afresh)
+}
+
+/// What has to hold of a sound session that is to be moved, its board here under the new book: where no vertex is crowded, it can be entered afresh
+/// and is the same then; otherwise a taken pin gets 38 or a net 25.
+fn check_move(new: &Board, crowded: &[Vertex]) {
+    let afresh = entered_afresh(new);
+    let holds = if crowded.is_empty() { afresh.as_ref() == Ok(new) } else { matches!(afresh, Err(38 | 25)) };
+    assert!(holds, "the machine's own move: crowded at {crowded:?}, entered afresh as {afresh:?}: {new:?}");
+}
+
 impl Machine {
     fn new() -> Machine {
         Machine {
@@ -209,6 +273,9 @@ impl Machine {
     fn afresh(&mut self, word: &'static str) {
         if !self.pile.is_empty() {
             self.count(&format!("{word}: a session with changes dropped"));
+        }
+        if self.past.over.is_some() {
+            self.count(&format!("{word}: the session afresh after a move"));
         }
         self.count_forgotten(word);
         self.board.nets.clear();
@@ -308,6 +375,28 @@ impl Machine {
         Ok(())
     }
 
+    /// Moves the session to the new rule with its nets; the pile is emptied and the names are forgotten. Where the new rule holds, all stays.
+    fn move_over(&mut self) -> Result<(), RefusedAt> {
+        self.unsound().map_err(|(number, place)| (number, vec![place]))?;
+        if self.board.book == Book::New {
+            self.count_stayed();
+            return Ok(());
+        }
+        let new = self.board.clone().under(Book::New);
+        let crowded = crowded(&new);
+        check_move(&new, &crowded);
+        if let Some(&(line, column)) = crowded.first() {
+            self.count_crowded(&crowded);
+            return Err((39, vec![line as u32, column as u32]));
+        }
+        self.count_over();
+        self.board = new;
+        self.pile.clear();
+        self.names = Default::default();
+        self.flaw = None;
+        Ok(())
+    }
+
     /// The bare board with these nets added one by one, where each of them is accepted.
     fn with_all(&self, nets: &[Net]) -> Option<Board> {
         let mut board = Board { nets: Vec::new(), ..self.board.clone() };
@@ -342,7 +431,7 @@ impl Machine {
 // ---------------------------------------------------------------- the text and its answers
 
 /// The words that tell a call.
-const CALLS: [&str; 10] = ["row", "add", "adds", "withdraw", "back", "paths", "keep", "return", "taken", "book"];
+const CALLS: [&str; 11] = ["row", "add", "adds", "withdraw", "back", "paths", "keep", "return", "taken", "book", "move"];
 /// Those of them that tell the board and have no answer.
 const OF_BOARDS: [&str; 3] = ["row", "taken", "book"];
 
@@ -370,6 +459,10 @@ fn nets_text(nets: &[Net]) -> String {
     nets.iter().map(|net| format!("net {}\n", net_text(net))).collect()
 }
 
+fn refused_text((number, place): &RefusedAt) -> String {
+    format!("refused {number} {}\n", place.iter().map(u32::to_string).collect::<Vec<_>>().join(" "))
+}
+
 impl Machine {
     /// One line of the text: its first word, whole, tells the call; other lines are passed over.
     fn line(&mut self, line: &str) {
@@ -391,6 +484,7 @@ impl Machine {
             "book" => self.book(n(0)),
             "adds" => self.list(&numbers),
             "paths" => self.paths(),
+            "move" => self.moved(),
             _ => self.single(call, &numbers),
         }
         if self.lost > lost {
@@ -411,6 +505,7 @@ impl Machine {
         self.count_result(call, result);
         if call == "add" {
             self.count_refused_for(call, &net_of(numbers), result);
+            self.count_added(&net_of(numbers), result);
         }
         self.output += &match result {
             Ok(()) => "accepted\n".to_string(),
@@ -466,11 +561,23 @@ impl Machine {
         };
         self.count_paths(refused.as_ref().map(|r| r.0));
         self.output += &match refused {
-            Some((number, place)) => format!("refused {number} {}\n", place.iter().map(u32::to_string).collect::<Vec<_>>().join(" ")),
+            Some(refused) => refused_text(&refused),
             None => {
                 self.routed.push(self.board.clone());
                 format!("{ROUTING}\n")
             }
+        };
+    }
+
+    /// The call move and its answer: a refusal has two numbers for the place of 39.
+    fn moved(&mut self) {
+        let result = self.move_over();
+        if let Err((20, _)) = result {
+            self.count_move_unsound();
+        }
+        self.output += &match result {
+            Ok(()) => "accepted\n".to_string(),
+            Err(refused) => refused_text(&refused),
         };
     }
 
@@ -544,20 +651,27 @@ impl Machine {
         }
     }
 
-    /// Counts what a call came to, and once more where a return came before it.
+    /// Counts what a call came to, and once more where a return came before it, or a move.
     fn count_since(&mut self, what: &str) {
         self.count(what);
         if self.past.returned.is_some_and(|returned| returned.calls > 0) {
             self.count(&format!("{what}, since a return"));
         }
+        if self.past.over.is_some_and(|over| over.calls > 0) {
+            self.count(&format!("{what}, since a move"));
+        }
+        if let Some((way, 1)) = self.past.last_move {
+            self.count(&format!("{what} right after {way}"));
+        }
     }
 
-    /// One more call, and one more since the last return.
+    /// One more call, and one more since the last return and since moves.
     fn count_call(&mut self) {
         self.count("call");
-        if let Some(returned) = &mut self.past.returned {
-            returned.calls += 1;
-        }
+        let past = &mut self.past;
+        past.returned.iter_mut().for_each(|returned| returned.calls += 1);
+        past.over.iter_mut().for_each(|over| over.calls += 1);
+        past.last_move.iter_mut().for_each(|(_, calls)| *calls += 1);
     }
 
     fn count_result(&mut self, call: &str, result: Result<(), Refused>) {
@@ -570,14 +684,19 @@ impl Machine {
         }
     }
 
-    /// A take back refused by 27: right after a return, or with nets left though more changes were made than the pile holds.
+    /// A take back refused by 27: right after a return or a move, or with nets left though more changes were made than the pile holds.
     fn count_pile_empty(&mut self) {
-        let right_after = self.past.returned.filter(|returned| returned.calls == 1).map(|returned| returned.dropped);
-        let lost = self.lost > self.past.returned.map_or(0, |returned| returned.lost);
+        let (returned, over) = (self.past.returned, self.past.over);
+        let right_after = returned.filter(|returned| returned.calls == 1).map(|returned| returned.dropped);
+        let came_over = over.filter(|over| over.calls == 1).map(|over| over.dropped);
+        // Of a return and a move the return is the later one.
+        let lost = self.lost > returned.map(|returned| returned.lost).or(over.map(|over| over.lost)).unwrap_or(0);
         let reached = [
             ("back refused 27 right after a return", right_after.is_some()),
             ("back refused 27 right after a return that dropped changes", right_after.is_some_and(|dropped| dropped > 0)),
             ("back refused 27 right after a return that dropped 64 changes", right_after == Some(PILE)),
+            ("back refused 27 right after a move that dropped changes", came_over.is_some_and(|dropped| dropped > 0)),
+            ("back refused 27 right after a move that dropped 64 changes", came_over == Some(PILE)),
             ("back: pile empty, nets left, since changes were lost", lost && !self.board.nets.is_empty()),
         ];
         self.count_all(&reached);
@@ -586,6 +705,7 @@ impl Machine {
     /// What a call of paths came to: the number of its refusal, or a routing.
     fn count_paths(&mut self, refused: Option<u32>) {
         self.count_came_back(refused);
+        self.count_came_over(refused);
         if let Some(number) = refused {
             self.count_under(&format!("paths refused {number}"));
             return self.count_since(&format!("paths refused {number}"));
@@ -608,7 +728,7 @@ impl Machine {
         if word.starts_with("keep") || word.starts_with("return") {
             self.count("line passed over that begins as keep or return does");
         }
-        for call in ["taken", "book"].iter().filter(|call| word.starts_with(**call)) {
+        for call in ["taken", "book", "move"].iter().filter(|call| word.starts_with(**call)) {
             self.count(&format!("line passed over that begins as {call} does"));
         }
         self.count(match word {
@@ -766,6 +886,9 @@ impl Machine {
             ("book: passed over, under the new rule", told.is_none() && self.board.book == Book::New),
             ("book: passed over, nets and pile stay", told.is_none() && nets && pile),
             ("book: passed over, names stay", told.is_none() && names),
+            ("book: the old rule after a move", told == Some(&Book::Old) && self.past.over.is_some()),
+            ("book: the new rule after a move", told == Some(&Book::New) && self.past.over.is_some()),
+            ("book: passed over after a move", told.is_none() && self.past.over.is_some()),
         ];
         self.count_all(&reached);
     }
@@ -798,11 +921,160 @@ impl Machine {
             ("text: under the new rule, sound", ever.new_rule),
             ("text: a net refused 25, accepted under the old rule", ever.refused_for_rule),
             ("text: under the old rule after the new, both sound", ever.old_again),
+            ("text: a move", ever.over > 0),
+            ("text: two moves or more", ever.over > 1),
+            ("text: a move, and one that left all as it was", ever.over > 0 && ever.stayed),
+            ("text: a move refused 39", ever.crowded),
+            ("text: a move refused 39, then a move of the same session", ever.relieved),
             ("end: the new rule", new),
             ("end: the new rule, no nets", new && self.board.nets.is_empty()),
             ("end: the new rule, nets and changes on the pile", new && !self.board.nets.is_empty() && !self.pile.is_empty()),
             ("end: the new rule, names held", new && self.names.iter().any(Option::is_some)),
             ("end: the new rule, session unsound", new && flaw(&self.board).is_some()),
+        ];
+        self.count_all(&reached);
+        self.count_moved();
+    }
+}
+
+// ---------------------------------------------------------------- what was reached of moves
+
+impl Machine {
+    /// Nets on the board, changes on the pile and names that hold something: all three.
+    fn all_three(&self) -> bool {
+        !self.board.nets.is_empty() && !self.pile.is_empty() && self.names.iter().any(Option::is_some)
+    }
+
+    /// A move refused by 20.
+    fn count_move_unsound(&mut self) {
+        self.count("move refused 20");
+        self.count_under("move refused 20");
+        let reached = [
+            ("move refused 20, for taken pins", self.wrongly_taken),
+            ("move refused 20, for taken pins under the new rule alone", self.too_few_by_rule),
+        ];
+        self.count_all(&reached);
+    }
+
+    /// A move of a session that is under the new rule.
+    fn count_stayed(&mut self) {
+        self.count_since("move: all stays");
+        let (all, over) = (self.all_three(), self.past.over.is_some());
+        let reached = [
+            ("move: all stays, nets, changes and names", all),
+            ("move: all stays, nets, changes and names, since a move", all && over),
+            ("move: all stays, 64 changes", self.pile.len() == PILE),
+            ("move: all stays, under the new rule by a line book", !over),
+        ];
+        self.count_all(&reached);
+        self.past.last_move = Some((STAYED, 0));
+        self.past.ever.stayed = true;
+    }
+
+    /// A move that brings the session over, before it does.
+    fn count_over(&mut self) {
+        self.count_since("move: over");
+        let (board, dropped) = (self.board.clone(), self.pile.len());
+        let with = |degree: usize, taken: usize| {
+            let alone = |&v: &Vertex| board.taken.get(&v).copied().unwrap_or(0) == taken && in_use(&board, v) == 1;
+            board.vertices().iter().filter(|&&v| board.degree(v) == degree).any(alone)
+        };
+        let right_after = self.past.returned.is_some_and(|returned| returned.calls == 1);
+        let reached = [
+            ("move: over, no nets", board.nets.is_empty()),
+            ("move: over with nets", !board.nets.is_empty()),
+            ("move: over with 40 nets or more", board.nets.len() >= 40),
+            ("move: over, changes dropped", dropped > 0),
+            ("move: over, 64 changes dropped", dropped == PILE),
+            ("move: over with nets, changes dropped and what names held", self.all_three()),
+            ("move: over right after a return to nets", right_after && !board.nets.is_empty()),
+            ("move: over, refused 39 before", self.past.crowded),
+            ("move: over, a pin taken at a corner, no terminal", with(2, 1)),
+            ("move: over, a terminal at a corner, no pin taken", with(2, 0)),
+            ("move: over, the pin of a straight side taken", with(3, 1)),
+            ("move: over, a terminal at a straight side", with(3, 0)),
+        ];
+        self.count_all(&reached);
+        self.past.ever.over += 1;
+        self.past.ever.relieved |= self.past.crowded;
+        self.count_forgotten("move");
+        self.past.over = Some(Over { dropped, lost: self.lost, calls: 0 });
+        self.past.last_move = Some((OVER, 0));
+    }
+
+    /// A move refused by 39 for these vertices.
+    fn count_crowded(&mut self, crowded: &[Vertex]) {
+        self.count_since("move refused 39");
+        self.count_why(crowded[0]);
+        let (first, board) = (crowded[0], &self.board);
+        let by_columns = crowded.iter().min_by_key(|v| (v.1, v.0));
+        let full = |&v: &Vertex| v < first && in_use(board, v) == 1;
+        let (corners, sides): (Vec<Vertex>, Vec<Vertex>) = board.vertices().into_iter().filter(full).partition(|&v| board.degree(v) == 2);
+        let reached = [
+            ("move refused 39: one vertex alone", crowded.len() == 1),
+            ("move refused 39: another on the same line", crowded.iter().any(|&v| v != first && v.0 == first.0)),
+            ("move refused 39: another on a later line", crowded.iter().any(|v| v.0 > first.0)),
+            ("move refused 39: another is the first column by column", by_columns != Some(&first)),
+            ("move refused 39: after corners with one pin in use", !corners.is_empty()),
+            ("move refused 39: after straight sides with their pin in use", !sides.is_empty()),
+            ("move refused 39: line and column differ", first.0 != first.1),
+            ("move refused 39: on the last line", first.0 == board.rows.len()),
+            ("move refused 39: at line 31", first.0 == 31),
+            ("move refused 39: at column 31", first.1 == 31),
+            ("move refused 39: nets, changes and names", self.all_three()),
+            ("move refused 39: 64 nets", board.nets.len() == 64),
+        ];
+        self.count_all(&reached);
+        self.past.last_move = Some((CROWDED, 0));
+        self.past.crowded = true;
+        self.past.ever.crowded = true;
+    }
+
+    /// Which two pins are in use at a corner that is in the way.
+    fn count_why(&mut self, v: Vertex) {
+        let count = |ends: &dyn Fn(&Net) -> Vertex| self.board.nets.iter().filter(|net| ends(net) == v).count();
+        self.count(match (count(&|net| net.first), count(&|net| net.second), self.board.taken.get(&v)) {
+            (2, 0, None) => "move refused 39: two first terminals",
+            (0, 2, None) => "move refused 39: two second terminals",
+            (1, 1, None) => "move refused 39: a first and a second terminal",
+            (1, 0, Some(1)) => "move refused 39: a first terminal and a pin taken",
+            (0, 1, Some(1)) => "move refused 39: a second terminal and a pin taken",
+            (0, 0, Some(2)) => "move refused 39: two pins taken",
+            other => panic!("the machine's own session has {other:?} at {v:?}"),
+        });
+    }
+
+    /// An add accepted by the old rule alone, though a move was refused by 39 before it.
+    fn count_added(&mut self, net: &Net, result: Result<(), Refused>) {
+        if result.is_err() || !self.past.crowded {
+            return;
+        }
+        let crowded = crowded(&self.board.clone().under(Book::New));
+        if crowded.contains(&net.first) || crowded.contains(&net.second) {
+            self.count("add accepted by the old rule alone, since a move refused 39");
+        }
+    }
+
+    /// A routing given or refused, where the nets are those that came over: nothing was lost since, and nothing is on the pile.
+    fn count_came_over(&mut self, refused: Option<u32>) {
+        let since = self.past.over.is_some_and(|over| over.lost == self.lost) && self.past.returned.is_none();
+        if since && self.pile.is_empty() && !self.board.nets.is_empty() {
+            self.count(&match refused {
+                Some(number) => format!("paths refused {number} for nets that came over"),
+                None => "paths: a routing of nets that came over".to_string(),
+            });
+        }
+    }
+
+    /// What moves have left at the end.
+    fn count_moved(&mut self) {
+        let (over, crowded) = (self.past.over.is_some(), self.past.crowded);
+        let reached = [
+            ("end: the new rule, since a move", over),
+            ("end: the new rule, since a move, nets and an empty pile", over && !self.board.nets.is_empty() && self.pile.is_empty()),
+            ("end: the new rule, since a move, nets, changes and names", over && self.all_three()),
+            ("end: the old rule, since a move refused 39", crowded),
+            ("end: the old rule, since a move refused 39, nets, changes and names", crowded && self.all_three()),
         ];
         self.count_all(&reached);
     }
@@ -888,7 +1160,7 @@ impl Machine {
         self.count_all(&reached);
     }
 
-    /// A row, taken pins or a book make the session forget its names.
+    /// A row, taken pins, a book or a move make the session forget its names.
     fn count_forgotten(&mut self, word: &'static str) {
         if self.names.iter().any(Option::is_some) {
             self.count(&format!("{word}: what names held dropped"));
@@ -914,7 +1186,7 @@ impl Machine {
 // ---------------------------------------------------------------- what has to be reached
 
 /// What has to be reached in a whole run, and how often at least. Each bound is two thirds or less of what each of the seeds 1985, 1 to 5 reaches.
-const FLOORS: [(&str, u64); 236] = [
+const FLOORS: [(&str, u64); 338] = [
     ("call", 150_000),
     ("add accepted", 20_000),
     ("add refused 20 at 0", 2_000),
@@ -945,7 +1217,7 @@ const FLOORS: [(&str, u64); 236] = [
     ("add: a pile of 64 lost changes", 4_000),
     ("adds: a number above 249", 500),
     ("adds: a number missing", 350),
-    ("adds: a pile of 64 lost changes", 1_300),
+    ("adds: a pile of 64 lost changes", 1_200),
     ("withdraw: a number above 249", 1_000),
     ("withdraw: a number missing", 650),
     ("withdraw: a pile of 64 lost changes", 10_000),
@@ -977,7 +1249,7 @@ const FLOORS: [(&str, u64); 236] = [
     ("row: a session with changes dropped", 100),
     ("paths refused 20", 750),
     ("paths refused 32", 2_600),
-    ("paths refused 33", 4_300),
+    ("paths refused 33", 4_200),
     ("paths refused 34", 38),
     ("paths: a routing", 2_200),
     ("paths: a routing, 16 nets or more", 70),
@@ -985,7 +1257,7 @@ const FLOORS: [(&str, u64); 236] = [
     ("paths: a routing, odd vertices", 1_900),
     ("line passed over", 3_500),
     ("line passed over that begins as a call does", 3_000),
-    ("line passed over that begins as keep or return does", 1_200),
+    ("line passed over that begins as keep or return does", 1_100),
     ("keep accepted", 4_000),
     ("keep accepted, since a return", 2_500),
     ("keep refused 20 at 0", 200),
@@ -1029,7 +1301,7 @@ const FLOORS: [(&str, u64); 236] = [
     ("return: the name 7", 300),
     ("return: to a name returned to before", 1_200),
     ("add accepted, since a return", 8_600),
-    ("add refused 22 at 0, since a return", 640),
+    ("add refused 22 at 0, since a return", 610),
     ("add refused 25 at 0, since a return", 1_400),
     ("add refused 25 at 1, since a return", 250),
     ("add: a pile of 64 lost changes, since a return", 700),
@@ -1040,13 +1312,13 @@ const FLOORS: [(&str, u64); 236] = [
     ("adds: a pile of 64 lost changes, since a return", 140),
     ("withdraw accepted, since a return", 12_500),
     ("withdraw refused 26 at 0, since a return", 4_400),
-    ("withdraw: a pile of 64 lost changes, since a return", 1_100),
+    ("withdraw: a pile of 64 lost changes, since a return", 1_000),
     ("back accepted, since a return", 7_400),
     ("back refused 27 right after a return", 1_100),
     ("back refused 27 right after a return that dropped 64 changes", 18),
     ("back refused 27 right after a return that dropped changes", 850),
     ("paths refused 32, since a return", 1_100),
-    ("paths refused 33, since a return", 1_300),
+    ("paths refused 33, since a return", 1_100),
     ("paths refused 34, since a return", 19),
     ("paths: a routing of nets that came back", 150),
     ("paths: a routing of nets that came back for others", 100),
@@ -1054,8 +1326,8 @@ const FLOORS: [(&str, u64); 236] = [
     ("paths: a routing, since a return", 1_000),
     ("paths: refused for nets that came back for others", 520),
     ("row: what names held dropped", 85),
-    ("end: all eight names held", 64),
-    ("end: names held, changes on the pile", 590),
+    ("end: all eight names held", 62),
+    ("end: names held, changes on the pile", 560),
     ("end: names held, since a return", 500),
     ("end: nets kept", 580),
     ("end: no nets kept under a name", 250),
@@ -1088,7 +1360,7 @@ const FLOORS: [(&str, u64); 236] = [
     ("add refused 25 at 0, at 1 with no pins taken", 130),
     ("add refused 25 at 0, one pin taken and one used", 190),
     ("add refused 25 at 1, accepted with no pins taken", 490),
-    ("add refused 25 at 1, accepted with no pins taken, since a return", 120),
+    ("add refused 25 at 1, accepted with no pins taken, since a return", 100),
     ("add refused 25 at 1, one pin taken and one used", 200),
     ("adds refused 25 at 0, accepted with no pins taken", 470),
     ("adds refused 25 at 0, accepted with no pins taken, since a return", 100),
@@ -1097,7 +1369,7 @@ const FLOORS: [(&str, u64); 236] = [
     ("adds refused 25 at 1, accepted with no pins taken", 420),
     ("adds refused 25 at 1, accepted with no pins taken, since a return", 90),
     ("adds refused 25 at 1, one pin taken and one used", 62),
-    ("line passed over that begins as taken does", 880),
+    ("line passed over that begins as taken does", 860),
     ("return refused 36 at 0, kept before taken", 110),
     ("text: a net refused 25, accepted under the old rule", 440),
     ("text: under the new rule, sound", 1_000),
@@ -1151,6 +1423,108 @@ const FLOORS: [(&str, u64); 236] = [
     ("end: the new rule, nets and changes on the pile", 600),
     ("end: the new rule, no nets", 490),
     ("end: the new rule, session unsound", 260),
+    ("text: a move", 510),
+    ("text: a move refused 39", 400),
+    ("text: a move refused 39, then a move of the same session", 200),
+    ("text: a move, and one that left all as it was", 390),
+    ("text: two moves or more", 240),
+    ("move refused 20", 870),
+    ("move refused 20, for taken pins", 640),
+    ("move refused 20, for taken pins under the new rule alone", 38),
+    ("move refused 20, under the new rule", 310),
+    ("move refused 39", 1_200),
+    ("move refused 39 right after a move refused 39", 76),
+    ("move refused 39, since a return", 150),
+    ("move refused 39: 64 nets", 7),
+    ("move refused 39: a first and a second terminal", 350),
+    ("move refused 39: a first terminal and a pin taken", 94),
+    ("move refused 39: a second terminal and a pin taken", 100),
+    ("move refused 39: after corners with one pin in use", 450),
+    ("move refused 39: after straight sides with their pin in use", 430),
+    ("move refused 39: another is the first column by column", 210),
+    ("move refused 39: another on a later line", 720),
+    ("move refused 39: another on the same line", 400),
+    ("move refused 39: at column 31", 23),
+    ("move refused 39: at line 31", 6),
+    ("move refused 39: line and column differ", 1_000),
+    ("move refused 39: nets, changes and names", 260),
+    ("move refused 39: on the last line", 180),
+    ("move refused 39: one vertex alone", 400),
+    ("move refused 39: two first terminals", 160),
+    ("move refused 39: two pins taken", 190),
+    ("move refused 39: two second terminals", 160),
+    ("move: all stays", 3_200),
+    ("move: all stays right after a move", 89),
+    ("move: all stays right after a move that left all as it was", 220),
+    ("move: all stays, 64 changes", 46),
+    ("move: all stays, nets, changes and names", 530),
+    ("move: all stays, nets, changes and names, since a move", 190),
+    ("move: all stays, since a move", 1_400),
+    ("move: all stays, since a return", 440),
+    ("move: all stays, under the new rule by a line book", 1_700),
+    ("move: over", 1_200),
+    ("move: over right after a return to nets", 10),
+    ("move: over with 40 nets or more", 28),
+    ("move: over with nets", 750),
+    ("move: over with nets, changes dropped and what names held", 210),
+    ("move: over, 64 changes dropped", 35),
+    ("move: over, a pin taken at a corner, no terminal", 350),
+    ("move: over, a terminal at a corner, no pin taken", 670),
+    ("move: over, a terminal at a straight side", 640),
+    ("move: over, changes dropped", 890),
+    ("move: over, no nets", 520),
+    ("move: over, refused 39 before", 260),
+    ("move: over, since a return", 100),
+    ("move: over, the pin of a straight side taken", 490),
+    ("move: what names held dropped", 350),
+    ("add accepted by the old rule alone, since a move refused 39", 860),
+    ("add accepted, since a move", 2_200),
+    ("add refused 25 at 0, accepted under the old rule, since a move", 180),
+    ("add refused 25 at 0, accepted with no pins taken, since a move", 21),
+    ("add refused 25 at 1, accepted under the old rule, since a move", 170),
+    ("add refused 25 at 1, accepted with no pins taken, since a move", 23),
+    ("adds accepted, since a move", 690),
+    ("adds refused 25 at 0, accepted under the old rule, since a move", 250),
+    ("adds refused 25 at 0, accepted with no pins taken, since a move", 24),
+    ("adds refused 25 at 1, accepted under the old rule, since a move", 220),
+    ("adds refused 25 at 1, accepted with no pins taken, since a move", 20),
+    ("withdraw accepted right after a move", 90),
+    ("withdraw accepted right after a move refused 39", 180),
+    ("withdraw accepted right after a move that left all as it was", 350),
+    ("withdraw: a pile of 64 lost changes, since a move", 140),
+    ("back accepted right after a move refused 39", 210),
+    ("back accepted right after a move that left all as it was", 440),
+    ("back accepted, since a move", 2_300),
+    ("back refused 27 at 0 right after a move", 260),
+    ("back refused 27 right after a move that dropped 64 changes", 17),
+    ("back refused 27 right after a move that dropped changes", 180),
+    ("keep accepted, since a move", 260),
+    ("return accepted right after a move refused 39", 50),
+    ("return accepted right after a move that left all as it was", 110),
+    ("return accepted, since a move", 200),
+    ("return refused 36 at 0 right after a move", 45),
+    ("return refused 36 at 0, kept before move", 190),
+    ("paths refused 32 for nets that came over", 56),
+    ("paths refused 32, since a move", 460),
+    ("paths refused 33 for nets that came over", 20),
+    ("paths refused 33, since a move", 190),
+    ("paths refused 34 for nets that came over", 2),
+    ("paths refused 34, since a move", 23),
+    ("paths: a routing of nets that came over", 94),
+    ("paths: a routing right after a move", 95),
+    ("paths: a routing right after a move refused 39", 68),
+    ("paths: a routing, since a move", 590),
+    ("book: passed over after a move", 49),
+    ("book: the new rule after a move", 79),
+    ("book: the old rule after a move", 650),
+    ("row: the session afresh after a move", 57),
+    ("taken: the session afresh after a move", 210),
+    ("line passed over that begins as move does", 680),
+    ("end: the new rule, since a move", 220),
+    ("end: the new rule, since a move, nets and an empty pile", 52),
+    ("end: the new rule, since a move, nets, changes and names", 25),
+    ("end: the old rule, since a move refused 39", 130),
+    ("end: the old rule, since a move refused 39, nets, changes and names", 34),
 ];
 
 fn too_little(counts: &Counts) -> Vec<String> {
@@ -1261,12 +1635,13 @@ const NO_NAMES: [usize; 12] = [8, 8, 8, 9, 10, 15, 16, 64, 128, 249, 255, 255];
 const NO_BOOKS: [usize; 14] = [2, 2, 2, 3, 4, 8, 9, 9, 16, 128, 249, 255, 255, 255];
 
 /// Lines that are passed over, whatever numbers follow.
-const PASSED_OVER: [&str; 74] = [
+const PASSED_OVER: [&str; 84] = [
     "", "", "#", "a", "ad", "addsx", "addx", "adds1", "add1", "added", "addadd", "addss", "Add", "ADDS", "xadd", "r", "ro", "rows", "row0", "Row",
     "b", "bac", "backs", "back1", "Back", "backback", "w", "withdra", "withdraws", "withdrawn", "net", "path", "Paths", "pathss", "accepted", "7",
     "k", "kee", "keeps", "keep8", "keep0", "keepkeep", "Keep", "kept", "re", "ret", "retur", "returns", "return1", "returned", "returnrow",
     "rowreturn", "Return", "RETURN", "t", "take", "takens", "taken0", "taken1", "takentaken", "takenrow", "takenx", "Taken", "TAKEN", "bo", "boo",
-    "books", "book0", "book1", "bookbook", "booktaken", "bookx", "Book", "BOOK",
+    "books", "book0", "book1", "bookbook", "booktaken", "bookx", "Book", "BOOK", "m", "mov", "moves", "moved", "move1", "movemove", "moverow",
+    "bookmove", "Move", "MOVE",
 ];
 
 /// Writes a text line by line. Its own machine tells what would be right or wrong next.
@@ -1440,6 +1815,9 @@ impl Writer {
             return;
         }
         (0..self.random.below(4)).for_each(|_| self.say_change());
+        if self.random.one_in(3) {
+            self.say("move", &[]);
+        }
         if self.machine.too_few_by_rule && self.random.one_in(2) {
             self.line("book 0");
             return self.look_up();
@@ -1486,6 +1864,132 @@ impl Writer {
         self.look_up();
         if sound {
             self.mend_taken();
+        }
+    }
+}
+
+// ---------------------------------------------------------------- moves
+
+impl Writer {
+    /// A move, with what may stand in its way or make way for it, and calls that show what it left.
+    fn say_move(&mut self) {
+        let before = self.random.below(7);
+        if before < 4 {
+            self.make_way();
+        }
+        match before {
+            3 | 4 => self.say_crowding(),
+            5 => self.say_return(),
+            _ => {}
+        }
+        let held: Vec<usize> = (0..NAMES).filter(|&name| self.machine.names[name].is_some()).collect();
+        self.say("move", &[]);
+        self.look_up();
+        (0..self.random.pick(&[0, 1, 1, 2, 4])).for_each(|_| self.say_after_move(&held));
+    }
+
+    /// A call after a move; `held` are the names that held something before it.
+    fn say_after_move(&mut self, held: &[usize]) {
+        match self.random.below(11) {
+            0 | 1 => self.say_back(),
+            2 | 3 if !held.is_empty() => {
+                let name = self.random.pick(held);
+                self.say("return", &[name]);
+            }
+            4 | 5 => self.say_paths(),
+            6 | 7 => self.say_crowding(),
+            8 => self.say_withdraw(),
+            9 => {
+                self.say("move", &[]);
+                self.look_up();
+            }
+            _ => self.say_change(),
+        }
+    }
+
+    /// Nets that end at a corner, until both its pins are in use, taken ones among them: the old rule allows that, the new one does not.
+    fn say_crowding(&mut self) {
+        let board = &self.machine.board;
+        let corners: Vec<Vertex> = board.vertices().into_iter().filter(|&v| board.degree(v) == 2 && in_use(board, v) < 2).collect();
+        if self.machine.unsound().is_err() || corners.is_empty() {
+            return;
+        }
+        let corner = self.random.pick(&corners);
+        for _ in in_use(&self.machine.board, corner)..2 {
+            let length = self.random.pick(&[1, 1, 1, 2, 4]);
+            let mut nets = self.list_of(length, None, "");
+            // The second or the first terminal of the last net.
+            let at = nets.len() - self.random.pick(&[2, 4]);
+            (nets[at], nets[at + 1]) = corner;
+            let call = if length > 1 || self.random.one_in(3) { "adds" } else { "add" };
+            self.say(call, &nets);
+        }
+    }
+
+    /// Nets that stand in the way of a move are withdrawn, and some of them put elsewhere.
+    fn make_way(&mut self) {
+        while let Some(net) = self.in_the_way() {
+            self.line(&format!("withdraw {}", net.number));
+            let free: Vec<Vertex> = free_pins(&self.machine.board.clone().under(Book::New)).into_iter().map(|(v, _)| v).collect();
+            if free.len() > 1 && self.random.one_in(2) {
+                let first = self.random.pick(&free);
+                let others: Vec<Vertex> = free.into_iter().filter(|&v| v != first).collect();
+                let second = self.random.pick(&others);
+                self.line(&format!("add {} {} {} {} {}", net.number, first.0, first.1, second.0, second.1));
+            }
+        }
+    }
+
+    /// A net at one of the vertices that keep the session from the new rule.
+    fn in_the_way(&self) -> Option<Net> {
+        let new = self.machine.board.clone().under(Book::New);
+        let crowded = crowded(&new);
+        new.nets.into_iter().find(|net| crowded.contains(&net.first) || crowded.contains(&net.second))
+    }
+
+    /// Where the package alone stands in the way of a move, its pins are told again, one of two or none.
+    fn say_taken_for_move(&mut self) {
+        let taken = self.machine.board.taken.clone();
+        for (v, _) in taken.into_iter().filter(|&(_, count)| count == 2) {
+            let count = self.random.below(2);
+            self.line(&format!("taken {} {} {count}", v.0, v.1));
+        }
+        self.look_up();
+    }
+
+    /// A block begun under the old rule and moved to the new one, with changes and trial layouts before and after; then begun again.
+    fn moves(&mut self, count: usize) {
+        let last = self.calls + count;
+        while self.calls < last && self.room() {
+            (0..self.random.pick(&[0, 2, 5, 9])).for_each(|_| self.say_change());
+            match self.random.below(6) {
+                0..=2 => self.say_keep_or_return(),
+                3 => self.say_nothing(),
+                _ => {}
+            }
+            self.say_move();
+            match self.random.below(9) {
+                0 => self.say_book(),
+                1 => self.say_taken(),
+                2..=4 if self.machine.board.book == Book::New => self.say_old_rule(),
+                2..=4 => self.say_taken_for_move(),
+                5 if self.random.one_in(4) => self.say_row(),
+                _ => {}
+            }
+        }
+    }
+
+    /// The old rule again; the session starts afresh.
+    fn say_old_rule(&mut self) {
+        self.line("book 0");
+        self.look_up();
+    }
+
+    /// One row more, from and to where the last one goes; the session starts afresh.
+    fn say_row(&mut self) {
+        if let Some(&(left, right)) = self.machine.board.rows.last() {
+            self.line(&format!("row {left} {right}"));
+            self.look_up();
         }
     }
 }
@@ -1786,10 +2290,11 @@ impl Writer {
     fn mixture(&mut self, count: usize) {
         let weights: Vec<usize> = (0..4).map(|_| self.random.pick(&[1, 2, 4, 8])).collect();
         let kinds: Vec<usize> = (0..4).flat_map(|kind| vec![kind; weights[kind]]).collect();
-        // How seldom names are used, and how seldom pins are taken and books told in the middle; 0 for never.
+        // How seldom names are used, and how seldom pins are taken, books told and moves made in the middle; 0 for never.
         let seldom = self.random.pick(&[0, 0, 0, 0, 0, 6, 15, 40]);
         let seldom_taken = self.random.pick(&[0, 0, 0, 0, 0, 0, 0, 20, 60]);
         let seldom_book = self.random.pick(&[0, 0, 0, 0, 0, 0, 20, 60]);
+        let seldom_move = self.random.pick(&[0, 0, 0, 0, 0, 15, 60]);
         for _ in 0..count {
             if !self.room() {
                 return;
@@ -1805,6 +2310,9 @@ impl Writer {
             }
             if seldom_book > 0 && self.random.one_in(seldom_book) {
                 self.say_book();
+            }
+            if seldom_move > 0 && self.random.one_in(seldom_move) {
+                self.say_move();
             }
             if self.random.one_in(12) {
                 self.say_paths();
@@ -1879,6 +2387,9 @@ impl Writer {
             (0..backs).for_each(|_| self.say_back());
             if self.random.one_in(4) {
                 self.say_return();
+            }
+            if self.random.one_in(6) {
+                self.say_move();
             }
         }
         self.mixture(10);
@@ -1957,6 +2468,9 @@ impl Writer {
             if self.random.one_in(2) {
                 self.say("return", &[name]);
             }
+            if self.random.one_in(4) {
+                self.say_move();
+            }
             if self.random.one_in(3) {
                 (0..self.random.below(6)).for_each(|_| self.say_change());
                 self.say("keep", &[name]);
@@ -1998,20 +2512,22 @@ impl Writer {
 fn text(random: Random) -> String {
     let mut writer = Writer::new(random);
     let count = 20 + writer.random.below(181);
-    let kind = writer.random.below(17);
+    let kind = writer.random.below(19);
     let rows = match kind {
         10 | 11 => full_shape(&mut writer.random),
         12 => bent_rows(&mut writer.random),
         13 | 16 => limit_rows(&mut writer.random),
         14 => Vec::new(),
+        17 => convex_rows(&mut writer.random, 4, 4),
+        18 if writer.random.one_in(6) => full_shape(&mut writer.random),
         _ => shape(&mut writer.random),
     };
-    // Few of the texts that are to have 64 nets get taken pins or the new rule.
-    let full = kind == 10 || kind == 11;
-    let book = if full && writer.random.below(8) > 0 { Book::Old } else { any_book(&mut writer.random) };
+    // Few of the texts that are to have 64 nets get taken pins or the new rule, and few that are to be moved to it begin under it.
+    let (full, moves) = (kind == 10 || kind == 11, kind > 16);
+    let book = if (full || moves) && writer.random.below(8) > 0 { Book::Old } else { any_book(&mut writer.random) };
     let taken = if writer.random.one_in(if full { 8 } else { 2 }) {
         // Seldom as many pins as the old rule gives.
-        let book = if writer.random.one_in(4) { Book::Old } else { book };
+        let book = if writer.random.one_in(4) { Book::Old } else if moves { Book::New } else { book };
         writer.some_taken(&Board::bare(&rows).under(book))
     } else {
         Vec::new()
@@ -2032,6 +2548,11 @@ fn text(random: Random) -> String {
                 writer.say_return();
                 writer.say_back();
             }
+            if writer.random.one_in(3) {
+                writer.make_way();
+                writer.say("move", &[]);
+                writer.say_back();
+            }
         }
         10 => writer.full_board(),
         12 | 13 | 16 => writer.mixture(20 + count / 10),
@@ -2040,6 +2561,7 @@ fn text(random: Random) -> String {
             writer.long_list();
             writer.mixture(count / 2);
         }
+        17 | 18 => writer.moves(count),
         _ => writer.mixture(count),
     }
     if writer.random.one_in(4) {
@@ -2309,6 +2831,105 @@ const BOOKS_BY_HAND: [(&str, &str); 14] = [
     ),
 ];
 
+/// The same with moves.
+const MOVES_BY_HAND: [(&str, &str); 16] = [
+    // The net stays, the pile and the names are gone, no nets under one of them. By the new rule (0,0) has no second pin, for a list (0,1) neither;
+    // the withdrawn net's terminals are free.
+    (
+        "row 0 1\nkeep 5\nadd 1 0 0 1 1\nadd 2 0 1 1 0\nkeep 3\nwithdraw 2\nmove\nback\nreturn 3\nreturn 5\nadd 3 0 0 1 0\n\
+         adds 3 0 1 1 0 4 0 1 1 0\n",
+        "accepted\naccepted\naccepted\naccepted\naccepted\naccepted\nrefused 27 0\nrefused 36 0\nrefused 36 0\nrefused 25 0\n\
+         refused 25 0 after 1\nnet 1 0 0 1 1\nnet 3 0 1 1 0\nadded 3 0 1 1 0\nbook 1\n",
+    ),
+    // Two nets at (0,0), later two at (1,2): nets, pile, name and rule stay, until no corner has two.
+    (
+        "row 0 2\nadds 1 0 0 1 1 2 0 2 0 0\nkeep 7\nmove\nreturn 6\nadd 3 1 2 1 0\nadd 4 0 1 1 2\nmove\nwithdraw 2\nmove\nback\nreturn 7\n\
+         withdraw 2\nmove\nreturn 7\nback\n",
+        "accepted 2\naccepted\nrefused 39 0 0\nrefused 36 0\naccepted\naccepted\nrefused 39 0 0\naccepted\nrefused 39 1 2\naccepted\naccepted\n\
+         accepted\naccepted\nrefused 36 0\nrefused 27 0\nnet 1 0 0 1 1\nbook 1\n",
+    ),
+    // After a refused one at the end all is printed as it was.
+    (
+        "row 0 1\nadd 9 1 1 0 0\nkeep 0\nadd 2 0 0 1 0\nwithdraw 9\nback\nmove\n",
+        "accepted\naccepted\naccepted\naccepted\naccepted\nrefused 39 0 0\nnet 2 0 0 1 0\nnet 9 1 1 0 0\nadded 2 0 0 1 0\nadded 9 1 1 0 0\n\
+         kept 0 1\nnet 9 1 1 0 0\n",
+    ),
+    // Under the new rule already, by the book or by a move: pile and name stay.
+    (
+        "book 1\nrow 0 1\nmove\nadd 1 0 0 1 1\nkeep 2\nwithdraw 1\nmove\nback\nback\nreturn 2\nmove\nreturn 2\nback\n",
+        "accepted\naccepted\naccepted\naccepted\naccepted\naccepted\naccepted\naccepted\naccepted\naccepted\nrefused 27 0\n\
+         net 1 0 0 1 1\nkept 2 1\nnet 1 0 0 1 1\nbook 1\n",
+    ),
+    (
+        "row 0 1\nadd 1 0 0 1 1\nkeep 4\nmove\nadd 2 0 1 1 0\nkeep 5\nwithdraw 1\nmove\nmove\nback\nreturn 4\nreturn 5\nadd 3 0 0 0 1\nback\n\
+         withdraw 2\nmove\n",
+        "accepted\naccepted\naccepted\naccepted\naccepted\naccepted\naccepted\naccepted\naccepted\nrefused 36 0\naccepted\nrefused 25 0\n\
+         refused 27 0\naccepted\naccepted\nnet 1 0 0 1 1\nwithdrawn 2 0 1 1 0\nkept 5 2\nnet 1 0 0 1 1\nnet 2 0 1 1 0\nbook 1\n",
+    ),
+    // 20 comes first: no rows, under either rule; two pins taken of one, where 39 would be due; then not convex.
+    (
+        "move\nbook 1\nmove\nrow 0 2\ntaken 0 1 2\nmove\nbook 0\nmove\ntaken 0 1 1\nrow 1 3\nmove\n",
+        "refused 20 0\nrefused 20 0\nrefused 20 0\nrefused 20 0\nrefused 20 0\n",
+    ),
+    // Two pins taken at a corner: no net is there, and a move is refused under the old rule, as is every call under the new one.
+    (
+        "row 0 1\ntaken 1 0 2\nmove\nadd 1 0 0 1 1\nmove\nback\nbook 1\nmove\nbook 0\ntaken 1 0 1\nmove\nadd 1 0 1 1 0\nadd 1 0 0 1 1\n",
+        "refused 39 1 0\naccepted\nrefused 39 1 0\naccepted\nrefused 20 0\naccepted\nrefused 25 1\naccepted\nnet 1 0 0 1 1\n\
+         added 1 0 0 1 1\nbook 1\n",
+    ),
+    // A pin taken and a terminal at (1,2), at either end of the net. One of the two alone is not too many there, nor is it on a straight side.
+    (
+        "row 0 2\ntaken 1 2 1\ntaken 0 1 1\nadd 1 0 0 1 2\nmove\nwithdraw 1\nadd 2 1 2 1 1\nmove\nback\nadd 3 0 0 1 1\nmove\nadd 1 0 2 1 2\n\
+         add 1 0 1 1 0\nadd 1 0 2 1 1\nadd 1 0 2 1 0\n",
+        "accepted\nrefused 39 1 2\naccepted\naccepted\nrefused 39 1 2\naccepted\naccepted\naccepted\nrefused 25 1\nrefused 25 0\n\
+         refused 25 1\naccepted\nnet 1 0 2 1 0\nnet 3 0 0 1 1\nadded 1 0 2 1 0\nbook 1\n",
+    ),
+    // Board h, the first of six corners and then of fewer: line by line, (1,3) before (2,0), and on one line (0,1) before (0,2).
+    (
+        "row 1 2\nrow 0 3\nrow 1 2\ntaken 2 0 2\ntaken 1 3 2\nmove\nadds 1 0 1 3 1 2 0 1 3 2 3 0 2 3 1 4 3 2 0 2\nmove\nwithdraw 1\nmove\n\
+         withdraw 3\nmove\ntaken 1 3 0\nadds 1 3 1 0 1 2 0 2 3 1\nmove\ntaken 2 0 1\nadds 1 3 1 0 1 2 0 2 3 1\nmove\nback\nmove\n",
+        "refused 39 1 3\naccepted 4\nrefused 39 0 1\naccepted\nrefused 39 0 2\naccepted\nrefused 39 1 3\naccepted 2\nrefused 39 2 0\naccepted 2\n\
+         refused 39 3 1\naccepted\naccepted\nnet 1 3 1 0 1\nbook 1\n",
+    ),
+    // Rows and taken pins keep the rule that a move brought, a book does not; each starts afresh.
+    (
+        "row 0 1\nadd 1 0 0 1 1\nmove\nrow 0 1\nback\nadd 1 0 0 2 1\nadd 2 2 1 0 1\ntaken 2 0 1\nadd 2 2 0 0 1\nadd 2 1 0 0 1\nbook 0\nback\n\
+         adds 1 0 0 2 0 2 0 0 2 1\nmove\nback\nmove\nwithdraw 1\nmove\n",
+        "accepted\naccepted\nrefused 27 0\naccepted\nrefused 25 0\nrefused 25 0\naccepted\nrefused 27 0\naccepted 2\nrefused 39 0 0\naccepted\n\
+         refused 39 2 0\naccepted\naccepted\nbook 1\n",
+    ),
+    (
+        "row 0 1\nmove\nadds 1 0 0 1 1 2 0 1 1 0\nbook 7\nback\nbook 1\nback\nmove\nbook 0\n",
+        "accepted\naccepted 2\naccepted\nrefused 27 0\naccepted\n",
+    ),
+    // Only the whole word.
+    (
+        "row 0 1\nmoves\nmove1\nMove\nmov\nmoverow 0 1\nbookmove 1\nmoved\nadd 1 0 0 1 1\nadd 2 0 0 1 1\nmove  \nback\nmove",
+        "accepted\naccepted\nrefused 39 0 0\naccepted\naccepted\nnet 1 0 0 1 1\nbook 1\n",
+    ),
+    // Routings after moves: of two nets along two sides, none of two across the cell, by a move before or after them.
+    (
+        "row 0 1\nadds 1 0 0 0 1 2 1 1 1 0\nmove\npaths\nwithdraw 1\nwithdraw 2\nadds 1 0 0 1 1 2 0 1 1 0\npaths\nbook 0\n\
+         adds 1 0 0 1 1 2 0 1 1 0\nmove\npaths\nwithdraw 2\npaths\n",
+        "accepted 2\naccepted\na routing of the nets on the board\naccepted\naccepted\naccepted 2\nrefused 34 0\naccepted 2\naccepted\n\
+         refused 34 0\naccepted\na routing of the nets on the board\nnet 1 0 0 1 1\nwithdrawn 2 0 1 1 0\nbook 1\n",
+    ),
+    // Three nets across the middle one of three narrow rows; 14 odd vertices.
+    (
+        "row 0 1\nrow 0 1\nrow 0 1\nadds 1 0 0 2 0 2 0 1 2 1 3 1 0 3 0\nmove\npaths\nwithdraw 3\npaths\n",
+        "accepted 3\naccepted\nrefused 33 0 1\naccepted\na routing of the nets on the board\nnet 1 0 0 2 0\nnet 2 0 1 2 1\n\
+         withdrawn 3 1 0 3 0\nbook 1\n",
+    ),
+    ("row 0 8\nmove\npaths\n", "accepted\nrefused 32 0 1\nbook 1\n"),
+    // The board of request §4 has one terminal at each corner.
+    (
+        "row 2 3\nrow 1 4\nrow 0 5\nrow 1 4\nrow 2 3\nadds 1 0 2 1 4 2 2 5 4 4 3 5 3 4 1 4 3 0 1 1 5 0 3 5 2 6 3 5 2 0\npaths\nmove\npaths\n\
+         add 7 0 2 5 3\nback\n",
+        "accepted 6\nrefused 34 0\naccepted\nrefused 34 0\nrefused 25 0\nrefused 27 0\nnet 1 0 2 1 4\nnet 2 2 5 4 4\nnet 3 5 3 4 1\nnet 4 3 0 1 1\n\
+         net 5 0 3 5 2\nnet 6 3 5 2 0\nbook 1\n",
+    ),
+];
+
 /// A net that comes and goes: of 65 changes the first is lost, and when 64 are taken back the net is there still.
 fn lost_by_hand() -> (String, String) {
     let comes_and_goes = "add 1 0 0 1 1\nwithdraw 1\n".repeat(32);
@@ -2332,12 +2953,28 @@ fn emptied_by_hand() -> (String, String) {
     (text, answers)
 }
 
+/// A full pile that has lost a change is emptied by a move; another one, with none lost, is left as it is by the next, and is then taken back.
+fn moved_by_hand() -> (String, String) {
+    let (comes_and_goes, goes_and_comes) = ("add 1 0 0 1 1\nwithdraw 1\n".repeat(32), "withdraw 1\nadd 1 0 0 1 1\n".repeat(32));
+    let text = format!(
+        "row 0 1\n{comes_and_goes}add 1 0 0 1 1\nkeep 6\nmove\nback\n{goes_and_comes}keep 7\nmove\n{}return 6\n",
+        "back\n".repeat(65),
+    );
+    let accepted = "accepted\n".repeat(64);
+    let answers = format!(
+        "{accepted}accepted\naccepted\naccepted\nrefused 27 0\n{accepted}accepted\naccepted\n{accepted}refused 27 0\nrefused 36 0\nnet 1 0 0 1 1\n\
+         kept 7 1\nnet 1 0 0 1 1\nbook 1\n"
+    );
+    (text, answers)
+}
+
 /// The machine's answers, and the program's, to the texts above.
 fn by_hand() {
-    let texts = BY_HAND.iter().chain(&NAMES_BY_HAND).chain(&TAKEN_BY_HAND).chain(&BOOKS_BY_HAND);
+    let texts = BY_HAND.iter().chain(&NAMES_BY_HAND).chain(&TAKEN_BY_HAND).chain(&BOOKS_BY_HAND).chain(&MOVES_BY_HAND);
     let mut all: Vec<(String, String)> = texts.map(|(text, answers)| (text.to_string(), answers.to_string())).collect();
     all.push(lost_by_hand());
     all.push(emptied_by_hand());
+    all.push(moved_by_hand());
     for (text, answers) in all {
         let machine = answered(&text);
         assert_eq!(machine.output, answers, "the machine on a text answered by hand:\n{text}");
@@ -2410,6 +3047,12 @@ fn whole(seed: u64) {
         "{} texts under the new rule, {} of them with a net refused for that rule alone,",
         seen("text: under the new rule, sound"),
         seen("text: a net refused 25, accepted under the old rule"),
+    );
+    println!(
+        "{} moves to the new rule, {} that left a session under it as it was and {} refused by 39,",
+        seen("move: over"),
+        seen("move: all stays"),
+        seen("move refused 39"),
     );
     println!("{} routings and {} refused by 34; {time:.1} s; no difference", seen("paths: a routing"), seen("paths refused 34"));
 }

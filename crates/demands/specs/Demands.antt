@@ -7,10 +7,10 @@
 use mathlib.Core.Path.{_≡_}
 use mathlib.Core.Bool.{Bool, true}
 use mathlib.Core.List.{List, [], _∷_, _++_}
-use mathlib.Core.Logic.{_↔_}
+use mathlib.Core.Logic.{_↔_, _⊎_}
 use mathlib.Core.Option.{none, some}
 use Prim.Native.Nat.{ℕ, _+_, _/_, _%_, _≤_, _<_}
-use lib.ListN.{length, take}
+use lib.ListN.{length, take, replicate}
 use Rattle.count.specs.Truth.{Decides}
 use Rattle.board.specs.Board.{Board, Within, Edge, IsEdge}
 use Rattle.board.specs.Path.{Convex}
@@ -19,6 +19,7 @@ use Rattle.board.specs.declared.Board as code-board
 use Rattle.board_block.specs.Taken.{takenFine?}
 use Rattle.board_block.specs.View.{blockOf}
 use Rattle.board_block.specs.declared.Block as code-block
+use Rattle.board_block.specs.declared.Book.the-variants.{Old, New}
 use Rattle.board.specs.declared.Vertex.{Vertex}
 use Rattle.board.specs.declared.Direction.{Direction}
 use Rattle.board_convex.specs.Test.{isConvex}
@@ -26,12 +27,14 @@ use Rattle.net.specs.declared.Net.{Net}
 use Rattle.routing_rules.specs.Routing.{trails, uses, Routing, Routable}
 use Rattle.session_rules.specs.Refusal.{Refusal, refusal}
 use Rattle.session_rules.specs.Machine as calls
-use Rattle.session_rules.specs.Machine.{accepted, wentOn}
+use Rattle.session_rules.specs.Machine.{accepted, refused, wentOn}
 use Rattle.session_rules.specs.Session as machine
 use Rattle.session_rules.specs.Session.{lastName, nothingKept, withNets, untaken, keptUnder, pairs}
 use Rattle.session_rules.specs.Sound.{Sound, Fresh, bare, blank, call}
 use Rattle.session_rules.specs.OneByOne.{singly, OneByOne}
 use Rattle.session_rules.specs.Names.{Keeps, Returns, ChangesName, Untouched}
+use Rattle.session_rules.specs.NewRule.{underNew, overRefusal}
+use Rattle.session_rules.specs.Moves.{Moves, RefusedAfresh}
 use Rattle.session.specs.declared.Session.{Session}
 use Rattle.session.specs.declared.AfterAdd.{AfterAdd}
 use Rattle.session.specs.declared.AfterAddAll.{AfterAddAll}
@@ -39,9 +42,11 @@ use Rattle.session.specs.declared.AfterWithdraw.{AfterWithdraw}
 use Rattle.session.specs.declared.AfterTakeBack.{AfterTakeBack}
 use Rattle.session.specs.declared.AfterKeep.{AfterKeep}
 use Rattle.session.specs.declared.AfterReturn.{AfterReturn}
+use Rattle.session_move.specs.declared.AfterMove.{AfterMove}
+use Rattle.session_move.specs.Promise.{MovePromise}
 use Rattle.session.specs.View.{sessionOf}
 use Rattle.session.specs.Value.{addAllOf}
-use Rattle.session_answers.specs.Answers.{addAnswer, addAllAnswer, withdrawAnswer, takeBackAnswer, keepAnswer, returnAnswer}
+use Rattle.session_answers.specs.Answers.{addAnswer, addAllAnswer, withdrawAnswer, takeBackAnswer, keepAnswer, returnAnswer, moveAnswer}
 use Rattle.session.specs.Promise.{AddPromise, AddAllPromise, WithdrawPromise, TakeBackPromise, KeepPromise, ReturnPromise, FreshPromise, BlankPromise}
 use Rattle.words.specs.Bytes.{wordsIn, bytesOf}
 use Rattle.words.specs.RoutingWord.{routingWords}
@@ -204,8 +209,19 @@ pub record Demand1 : Type 0 where
       × (sessionOf (r .session) ≡ call (sessionOf s) (calls.returnTo k) .next)
       × Returns (sessionOf s) k (returnAnswer (r .answer)) (sessionOf (r .session))
       × ((returnAnswer (r .answer) ≡ accepted → ⊥) → r .session ≡ s)
-  -- 02, §8: "Taken pins belong to the board", and so does its book (§9): no call on a session changes any of them
-  pub board-stays : (s : machine.Session) (c : calls.Call) → call s c .next .block ≡ s .block
+  -- 02, §10: `Moves` has the request's sentences, 39 among them; 39 comes exactly where, under the new book, a taken pin would get 38 or one of the
+  -- nets, entered afresh one by one, would be refused. "Moving a session already under the new rule changes nothing at all."
+  pub move : (s : Session) (r : AfterMove) → MovePromise s r
+      → (moveAnswer (r .answer) ≡ call (sessionOf s) calls.moveOver .answer) × (sessionOf (r .session) ≡ call (sessionOf s) calls.moveOver .next)
+      × Moves (sessionOf s) (moveAnswer (r .answer)) (sessionOf (r .session))
+      × (Sound (sessionOf s) → sessionOf s .block .book ≡ Old
+      → ((v : Vertex) × (moveAnswer (r .answer) ≡ refused (overRefusal v))) ↔ RefusedAfresh (sessionOf s .block) (sessionOf s .nets))
+      × ((moveAnswer (r .answer) ≡ accepted → ⊥) → r .session ≡ s)
+      × (s .block .book ≡ New → r .session ≡ s)
+  -- 02, §8: "Taken pins belong to the board", and so does its book (§9): no call on a session changes any of them, but for a move (§10), which leaves
+  -- the same board and taken pins under the new rule
+  pub board-stays : (s : machine.Session) (c : calls.Call)
+      → (call s c .next .block ≡ s .block) ⊎ ((c ≡ calls.moveOver) × (call s c .next .block ≡ underNew (s .block)))
   -- what adds, lists of nets, withdrawals, take-backs, returns and keeps under other names do to a name: nothing
   pub names-stay : (s : machine.Session) (c : calls.Call) (k : ℕ) → (ChangesName k c → ⊥) → keptUnder k (call s c .next) ≡ keptUnder k s
   -- "a fresh, read or blank one has nothing kept": the sessions that `fresh`, `blank` and readings hand back, refused readings too
@@ -275,7 +291,7 @@ pub record Demand1 : Type 0 where
       → Sound (sessionOf s) → routeRoom (sessionOf s) ≤ length before / 4
       → history.RightlyBoth (sessionOf s) (routeAnswer r) (HandsBackBytes (sessionOf s) before after)
   -- 02, §9: what is shown of cuts and routings is shown "for both books together". On two sound sessions with the same board and nets, whatever their
-  -- books and taken pins, routing, judging, comparing and drawing answer just the same, in words and in bytes
+  -- books and taken pins, routing may answer the same, and judging, comparing and drawing answer the same, in words and in bytes
   pub same-board : (s t : machine.Session) → Sound s → Sound t → s .block .board ≡ t .block .board → s .nets ≡ t .nets → AnsweredAlike s t
   -- 02, §8: "Taken pins don't make a vertex odd or even. .. They limit which nets can stand on a board, and routing such nets is judged as always." A
   -- sound session is sound with none taken, and these calls then answer just the same
@@ -335,13 +351,14 @@ pub record Demand2 : Type 0 where
 -- ── 3 ──
 -- "For every list of adds, withdrawals, take-backs and routing calls, refused ones included, from a fresh session on any convex board": what then
 -- holds is `Demand3` of crate session_history, file Demand, in the demand's own words. "its lists take in every call that changes a session"
--- (document 02, §5), a list of nets in one call (§1), keeps and returns among them. A session that `fresh` hands back on a convex board, under
--- either book (§9), with pins taken that are there (§8), is fresh.
+-- (document 02, §5), a list of nets in one call (§1), keeps, returns and moves to the new rule (§10) among them. A session that `fresh` hands back on
+-- a convex board, under either book (§9), with pins taken that are there (§8), is fresh.
 pub record Demand3 : Type 0 where
   pub whole : (s : Session) (calls : List Made) → Fresh (sessionOf s) → Chain s calls → history.Demand3 s calls
   pub start : (b : code-block.Block) (s : Session) → Within (blockOf b .board) → Convex (blockOf b .board) → takenFine? (blockOf b) ≡ true
       → FreshPromise b s → Fresh (sessionOf s) × (sessionOf s ≡ bare (blockOf b))
-  -- adds, lists of nets, withdrawals, take-backs, keeps and returns that kept their promises are calls of such a list, as the machine is fed them
+  -- adds, lists of nets, withdrawals, take-backs, keeps, returns and moves that kept their promises are calls of such a list, as the machine is fed
+  -- them
   pub add-made : (s : Session) (n : Net) (r : AfterAdd) → AddPromise s n r → Meets s (changed (calls.add n) (addAnswer (r .answer)) (r .session))
   pub add-all-made : (s : Session) (ns : List Net) (r : AfterAddAll) → AddAllPromise s ns r
       → Meets s (changed (calls.addAll ns) (addAllAnswer (r .answer)) (r .session))
@@ -353,8 +370,10 @@ pub record Demand3 : Type 0 where
       → Meets s (changed (calls.keep k) (keepAnswer (r .answer)) (r .session))
   pub return-made : (s : Session) (k : ℕ) (r : AfterReturn) → ReturnPromise s k r
       → Meets s (changed (calls.returnTo k) (returnAnswer (r .answer)) (r .session))
+  pub move-made : (s : Session) (r : AfterMove) → MovePromise s r → Meets s (changed calls.moveOver (moveAnswer (r .answer)) (r .session))
   -- 02, §5: a return to a name is accepted and brings back the nets that were on the board at the keep, with an empty pile, whatever calls came
-  -- between, routings and other returns included, but for another keep under that name; the board and the names are as before the return
+  -- between, routings and other returns included, but for another keep under that name and moves to the new rule; the board and the names are as
+  -- before the return
   pub comes-back : (s : Session) (k : ℕ) (between : List calls.Call) (ms : List Made) → Sound (sessionOf s) → k ≤ lastName → Untouched k between
       → callsOf ms ≡ (calls.keep k ∷ between) ++ (calls.returnTo k ∷ []) → Chain s ms
       → (sessionOf (last s ms) ≡ withNets (calls.after (sessionOf s) (calls.keep k ∷ between)) (sessionOf s .nets) [])
@@ -372,3 +391,13 @@ pub record Demand3 : Type 0 where
       → (before : List ℕ) (x y : RouteAnswer) (after after′ : List ℕ)
       → (Meets s (routed before x after) → Meets t (routed before y after′) → history.RefusedAlike x y)
       × (Meets s (routedBytes before x after) → Meets t (routedBytes before y after′) → history.RefusedAlike x y)
+  -- 02, §10: "A routing after the move is given or refused as if the nets had been entered afresh under the new book": the nets, added one by one to
+  -- the bare board under the new book, are refused nowhere and leave the same board and nets, and two routing calls with the same buffer are refused
+  -- alike, so also given alike
+  pub as-afresh : (s u : Session) (r : AfterMove) (singles : List Made) → MovePromise s r → moveAnswer (r .answer) ≡ accepted
+      → sessionOf u ≡ bare (underNew (sessionOf s .block)) → Chain u singles → callsOf singles ≡ singly (sessionOf s .nets)
+      → (answersOf singles ≡ replicate (length (sessionOf s .nets)) accepted)
+      × (sessionOf (last u singles) .block ≡ sessionOf (r .session) .block) × (sessionOf (last u singles) .nets ≡ sessionOf (r .session) .nets)
+      × ((before : List ℕ) (x y : RouteAnswer) (after after′ : List ℕ)
+      → (Meets (r .session) (routed before x after) → Meets (last u singles) (routed before y after′) → history.RefusedAlike x y)
+      × (Meets (r .session) (routedBytes before x after) → Meets (last u singles) (routedBytes before y after′) → history.RefusedAlike x y))

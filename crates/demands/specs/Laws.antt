@@ -11,18 +11,23 @@ use lib.ListN.{length, take}
 use borrow.Author.Tests.{le-ltb, eqb-true}
 use Rattle.count.specs.TruthLaws.{bool, not-true}
 use Rattle.board_block.specs.Block.{Block}
+use Rattle.board_block.specs.declared.Book.the-variants.{Old}
 use Rattle.board.specs.declared.Direction.{Direction}
+use Rattle.board.specs.declared.Vertex.{Vertex}
 use Rattle.net.specs.declared.Net.{Net}
 use Rattle.session_rules.specs.Refusal.{Refusal, refusal}
 use Rattle.session_rules.specs.Session as machine
 use Rattle.session_rules.specs.Session.{nothingKept, pairs}
-use Rattle.session_rules.specs.Machine.{addAll, keep, returnTo, Answer, wentOn, refusalOf, step}
+use Rattle.session_rules.specs.Machine.{addAll, keep, returnTo, moveOver, Answer, refused, wentOn, refusalOf, step}
 use Rattle.session_rules.specs.Sound.{Sound, sound?, call}
 use Rattle.session_rules.specs.OneByOne.{OneByOne}
 use Rattle.session_rules.specs.Names.{Keeps, Returns}
+use Rattle.session_rules.specs.NewRule.{overRefusal}
+use Rattle.session_rules.specs.Moves.{Moves, RefusedAfresh}
 use Rattle.session_laws.specs.Exact.{sound-exact}
 use Rattle.session_laws.specs.OneByOne.{one-by-one}
 use Rattle.session_laws.specs.Names.{keeps, returns, names-stay}
+use Rattle.session_laws.specs.Moves.{moves, refused-exactly}
 use Rattle.session_laws.specs.Few.{few-nets}
 use Rattle.session_laws.specs.BoardStays.{board-stays}
 use Rattle.session_laws.specs.Untaken.{sound-untaken}
@@ -65,6 +70,7 @@ use Rattle.session_history.specs.Listed as history-listed
 use Rattle.session_history.specs.Names as history-names
 use Rattle.session_history.specs.SameBoard as history-board
 use Rattle.session_history.specs.Untaken as history-untaken
+use Rattle.session_history.specs.Moved as history-moved
 use Rattle.demands.specs.Demands.{Reads, WholeWords, Passes, OfRouting, Demand1, Demand2, Demand3}
 use Rattle.demands.specs.Routing.{words-shown, bytes-shown, itself, differ-itself, c-routed, c-routed-rightly}
 use Rattle.demands.specs.Judging.{
@@ -144,6 +150,14 @@ returned-by : (m : machine.Session) (k : ℕ) {a : Answer} {t : machine.Session}
     → Returns m k a t
 returned-by m k e f = rw (e, f) (returns m k)
 
+-- a move too
+moved-by : (m : machine.Session) {a : Answer} {t : machine.Session} → a ≡ call m moveOver .answer → t ≡ call m moveOver .next → Moves m a t
+moved-by m e f = rw (e, f) (moves m)
+
+refused-afresh : (m : machine.Session) {a : Answer} → a ≡ call m moveOver .answer → Sound m → m .block .book ≡ Old
+    → ((v : Vertex) × (a ≡ refused (overRefusal v))) ↔ RefusedAfresh (m .block) (m .nets)
+refused-afresh m e h o = rw e (refused-exactly m h o)
+
 pub demand-1 : Demand1
 demand-1 = record {
   add = λ s n r P. (P .call .answers, P .call .next, P .kept);
@@ -159,6 +173,14 @@ demand-1 = record {
   take-back = λ s r P. (P .call .answers, P .call .next, P .kept);
   keep = λ s k r P. (P .call .answers, P .call .next, kept-by (sessionOf s) k (P .call .answers) (P .call .next), P .kept);
   return-to = λ s k r P. (P .call .answers, P .call .next, returned-by (sessionOf s) k (P .call .answers) (P .call .next), P .kept);
+  move = λ s r P. (
+    P .call .answers,
+    P .call .next,
+    moved-by (sessionOf s) (P .call .answers) (P .call .next),
+    refused-afresh (sessionOf s) (P .call .answers),
+    P .kept,
+    P .already,
+  );
   board-stays = board-stays;
   names-stay = λ s c k d. names-stay s c k d;
   none-kept = (
@@ -302,6 +324,7 @@ demand-3 = record {
   take-back-made = λ s r P. P .call;
   keep-made = λ s k r P. P .call;
   return-made = λ s k r P. P .call;
+  move-made = λ s r P. P .call;
   comes-back = λ s k between ms h l n e each.
       (history-names.comes-back s k between ms h l n e each, history-names.accepted-last s k between ms h l n e each);
   as-singly = λ s ns r singles P k e.
@@ -310,4 +333,11 @@ demand-3 = record {
         history-listed.routed-as-singly s (r .session) ns (r .answer .count) why singles (P .call) k e,
       );
   as-untaken = history-untaken.untaken-alike;
+  as-afresh = λ s u r singles P a start each single.
+      let c = rw a at (P .call) in (
+        history-moved.none-refused s (r .session) u c start singles each single,
+        history-moved.same-block s (r .session) u c start singles each single,
+        history-moved.same-nets s (r .session) u c start singles each single,
+        history-moved.routed-alike s (r .session) u c start singles each single,
+      );
 }

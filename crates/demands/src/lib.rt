@@ -11,6 +11,7 @@ ghost use Rattle.session.specs.View.{sessionOf};
 ghost use lib.ListN.{take};
 ghost use Rattle.session.specs.Promise.{FreshPromise, AddPromise, AddAllPromise, WithdrawPromise, TakeBackPromise};
 ghost use Rattle.session.specs.Promise.{KeepPromise, ReturnPromise};
+ghost use Rattle.session_move.specs.Promise.{MovePromise};
 ghost use Rattle.call_rules.specs.Reading.{readWords, readBytes};
 ghost use Rattle.call_rules.specs.Judge.{judgeWords, judgeBytes, compareWords, compareBytes};
 ghost use Rattle.call_rules.specs.Route.{Routes, RoutesBytes};
@@ -37,6 +38,7 @@ use session::AfterReturn;
 use session::AfterTakeBack;
 use session::AfterWithdraw;
 use session::Session;
+use session_move::AfterMove;
 
 // Is the board within the limits and convex?
 pub fn is_convex(b: Board) -> bool
@@ -111,6 +113,13 @@ pub fn return_to(s: Session, name: u8) -> AfterReturn
     ensures { λ r. ⌜ ReturnPromise s name r ⌝ }
 {
     s.return_to(name)
+}
+
+// Moves the session to the new rule, with its nets; the pile is emptied and the names are forgotten.
+pub fn move_over(s: Session) -> AfterMove
+    ensures { λ r. ⌜ MovePromise s r ⌝ }
+{
+    session_move::move_over(s)
 }
 
 // A session from a board's words, or bytes.

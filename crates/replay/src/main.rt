@@ -13,14 +13,17 @@
 //     back                                  takes the last change back
 //     keep NAME                             stores the nets under the name, 0 to 7
 //     return NAME                           puts the nets that are kept under the name on the board, and empties the pile
+//     move                                  moves the session to the new rule, with its nets, empties the pile and forgets the names; one that is
+//                                           under the new rule already stays as it is
 //     paths                                 routes the nets
 // The word stands at the line's start, whole, and ends at a space or with the line. Numbers stand in decimal, parted by spaces; one above 249 is read
 // as 255, and one that is missing as 0. Other lines are passed over.
 //
-// Each call prints a line: "accepted", or "refused", the number and the place. Of a list it is "accepted" and how many nets went on, or "refused",
-// the number, the place, "after" and how many went on before. Routing prints its words, each on a line. Then come the nets in rising number, each a
-// line "net" with what add was given, and the pile from its top, each a line "added" or "withdrawn" with the net; then the names that hold something,
-// each a line "kept" with the name and how many nets it holds, and these nets as above; then, where the board is under the new rule, a line "book 1".
+// Each call prints a line: "accepted", or "refused", the number and the place, which of 39 is line and column. Of a list it is "accepted" and how
+// many nets went on, or "refused", the number, the place, "after" and how many went on before. Routing prints its words, each on a line. Then come the
+// nets in rising number, each a line "net" with what add was given, and the pile from its top, each a line "added" or "withdrawn" with the net; then
+// the names that hold something, each a line "kept" with the name and how many nets it holds, and these nets as above; then, where the board is under
+// the new rule, a line "book 1".
 ghost use Prim.Native.Nat.{_≤_};
 ghost use lib.ListN.{length};
 use board::Board;
@@ -37,6 +40,7 @@ use net::Place;
 use numbers::wide;
 use session::Session;
 use session_answers::AddAllAnswer;
+use session_answers::MoveAnswer;
 use session_answers::Told;
 use session_list::LISTED;
 use session_names::LAST_NAME;
@@ -226,6 +230,12 @@ fn print_list_answer(answer: AddAllAnswer) {
     io::write_all(1, &out[..n]);
 }
 
+fn print_move_answer(answer: MoveAnswer) {
+    let mut out = [0u8; 128];
+    let n = session_text::move_line(answer, &mut out);
+    io::write_all(1, &out[..n]);
+}
+
 // A net with what add was given.
 fn print_net(name: &[u8], n: Net)
     requires { ⌜ length (now name) ≤ 16 ⌝ }
@@ -403,6 +413,13 @@ fn return_line(session: Session, s: &[u8], at: usize) -> Session {
     after.session
 }
 
+fn move_line(session: Session) -> Session {
+    let after = session_move::move_over(session);
+    let answer = after.answer;
+    print_move_answer(answer);
+    after.session
+}
+
 fn paths_line(session: Session) -> Session {
     let mut out = [0u8; 18441];
     let n = route_text::session_text(session, &mut out);
@@ -437,6 +454,9 @@ fn line(session: Session, s: &[u8], at: usize) -> Session {
     }
     if is_word(s, at, b"return") {
         return return_line(session, s, at);
+    }
+    if is_word(s, at, b"move") {
+        return move_line(session);
     }
     if is_word(s, at, b"paths") {
         return paths_line(session);

@@ -5,6 +5,7 @@ use Prim.Native.Nat.{ℕ, _+_}
 use lib.Dec.{ltb}
 use lib.ListN.{getD}
 use Rattle.session_rules.specs.Refusal.{Refusal, refusal}
+use Rattle.session_rules.specs.NewRule.{overRefusal}
 use Rattle.session_rules.specs.Machine.{Answer, accepted, refused, wentOn, refusalOf}
 use Rattle.session_answers.specs.declared.AddAnswer.{AddAnswer}
 use Rattle.session_answers.specs.declared.AddAnswer.the-variants.{Accepted, Unsound, BadNumber, NumberTaken, NoVertex, SameVertex, PinsTaken}
@@ -16,6 +17,8 @@ use Rattle.session_answers.specs.declared.KeepAnswer as keep
 use Rattle.session_answers.specs.declared.KeepAnswer.the-variants as keep-is
 use Rattle.session_answers.specs.declared.ReturnAnswer as return
 use Rattle.session_answers.specs.declared.ReturnAnswer.the-variants as return-is
+use Rattle.session_answers.specs.declared.MoveAnswer as move
+use Rattle.session_answers.specs.declared.MoveAnswer.the-variants as move-is
 use Rattle.session_answers.specs.declared.AddAllAnswer.{AddAllAnswer}
 use Rattle.session_answers.specs.declared.Told.{Told}
 
@@ -48,6 +51,11 @@ returnAnswer return-is.Accepted = accepted
 returnAnswer return-is.Unsound = refused (refusal 20 0)
 returnAnswer return-is.NoName = refused (refusal 35 0)
 returnAnswer return-is.NothingKept = refused (refusal 36 0)
+
+abbrev pub moveAnswer : move.MoveAnswer → Answer
+moveAnswer move-is.Accepted = accepted
+moveAnswer move-is.Unsound = refused (refusal 20 0)
+moveAnswer (move-is.PinsMissing v) = refused (overRefusal v)
 
 -- of a list of nets: how many went on, and the refusal that stopped it, if one did
 abbrev pub addAllAnswer : AddAllAnswer → Answer

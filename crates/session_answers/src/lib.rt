@@ -1,4 +1,5 @@
 // What the calls that change a session answer, and the number and place by which each answer is told.
+use board::Vertex;
 ghost use mathlib.Core.Path.{_≡_};
 ghost use Prim.Native.Nat.{_+_, _<_, _^_};
 ghost use Rattle.session_answers.specs.Answers.{isAccepted, goesOn, counting, addAnswer, withdrawAnswer, takeBackAnswer, told};
@@ -45,6 +46,13 @@ pub enum ReturnAnswer {
     Unsound,
     NoName,
     NothingKept,
+}
+
+// The vertex is one that the new rule gives too few pins for what stands there.
+pub enum MoveAnswer {
+    Accepted,
+    Unsound,
+    PinsMissing(Vertex),
 }
 
 // An answer by its number and place; both are 0 where the call is accepted.

@@ -8,8 +8,13 @@ use mathlib.Core.Option.{Option, none, some}
 use Prim.Native.Nat.{ℕ, _+_}
 use native.Mathlib.Omega.{arith}
 use lib.Dec.{leb}
+use Rattle.count.specs.Lists.{first}
 use Rattle.count.specs.TruthLaws.{bool}
 use Rattle.board.specs.Degree.{vertex?}
+use Rattle.board.specs.Order.{readingOrder}
+use Rattle.board.specs.declared.Vertex.{Vertex}
+use Rattle.board_block.specs.declared.Book.{Book}
+use Rattle.board_block.specs.declared.Book.the-variants.{Old, New}
 use Rattle.net.specs.Terminals.{same}
 use Rattle.net.specs.declared.Net.{Net}
 use Rattle.net.specs.declared.Change.{Change}
@@ -17,6 +22,7 @@ use Rattle.session_rules.specs.Session as machine
 use Rattle.session_rules.specs.Session.{lastName, Kept, keptUnder, holds, netOf}
 use Rattle.session_rules.specs.Refusal.{Refusal, line, firstRefusal}
 use Rattle.session_rules.specs.Add.{goodNumber, full, addLines, addRefused}
+use Rattle.session_rules.specs.NewRule.{overNew?, overRefused, moveRefused}
 use Rattle.session_rules.specs.Machine.{
   Call,
   add,
@@ -25,6 +31,7 @@ use Rattle.session_rules.specs.Machine.{
   takeBack,
   keep,
   returnTo,
+  moveOver,
   Answer,
   accept,
   Step,
@@ -36,6 +43,8 @@ use Rattle.session_rules.specs.Machine.{
   takeBackStep,
   ifName,
   returnStep,
+  moveStep,
+  unlessNew,
   stored,
   added,
   after,
@@ -96,14 +105,24 @@ return-not-20 : (x : Kept) (s : machine.Session) → numberOf (returnStep x s .a
 return-not-20 none s h = omega arith
 return-not-20 (some ns) s h = omega arith
 
+move-not-20 : (x : Option Vertex) (s : machine.Session) → numberOf (moveStep (overRefused x) s .answer) ≡ 20 → ⊥
+move-not-20 none s h = omega arith
+move-not-20 (some v) s h = omega arith
+
+new-not-20 : (k : Book) (s : machine.Session) (x : Step) → (numberOf (x .answer) ≡ 20 → ⊥) → numberOf (unlessNew k s x .answer) ≡ 20 → ⊥
+new-not-20 Old s x f = f
+new-not-20 New s x f = λ h. omega arith
+
 pub step-not-20 : (s : machine.Session) (c : Call) → numberOf (step s c .answer) ≡ 20 → ⊥
-unfolding step
+unfolding step moveRefused
 step-not-20 s (add n) = add-not-20 s n
 step-not-20 s (addAll ns) = all-not-20 0 ns s
 step-not-20 s (withdraw k) = withdraw-not-20 (netOf k (s .nets)) s
 step-not-20 s takeBack = back-not-20 (s .pile) s
 step-not-20 s (keep k) = named-not-20 k s (accept (stored k s)) (λ h. omega arith)
 step-not-20 s (returnTo k) = named-not-20 k s (returnStep (keptUnder k s) s) (return-not-20 (keptUnder k s) s)
+step-not-20 s moveOver =
+    new-not-20 (s .block .book) s (moveStep (moveRefused (s .block) (s .nets)) s) (move-not-20 (first (overNew? (s .block) (s .nets)) readingOrder) s)
 
 -- ── a call that met its promise ──
 -- DEFINITION: after one call from the session s, all is as the machine has it

@@ -88,7 +88,7 @@ RefusedAlike x y = (q : Refusal) → (routeAnswer x ≡ no q) ↔ (routeAnswer y
 pub record Demand3 (s : code.Session) (ms : List Made) : Type 0 where
   -- "after it the board, nets and pile are those of 01's list machine", which "holds the names too" (02, §5),
   pub session : sessionOf (last s ms) ≡ after (bare (sessionOf s .block)) (callsOf ms)
-  -- "and each add, withdrawal and take-back", and each list of nets, keep and return, "was answered as the machine answers."
+  -- "and each add, withdrawal and take-back", and each list of nets, keep, return and move, "was answered as the machine answers."
   pub answered : answersOf ms ≡ answers (bare (sessionOf s .block)) (callsOf ms)
   -- "a routing after any mixture concerns the nets that the history, returns included, leaves on the board" (02, §5): those that the machine then
   -- holds

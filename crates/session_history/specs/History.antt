@@ -1,5 +1,5 @@
--- Demand 3 for adds, lists of nets, withdrawals, take-backs, keeps and returns: over every list of calls from a fresh session, refused ones included,
--- the session handed back last is the list machine's, and each answer is the machine's.
+-- Demand 3 for adds, lists of nets, withdrawals, take-backs, keeps, returns and moves to the new rule: over every list of calls from a fresh session,
+-- refused ones included, the session handed back last is the list machine's, and each answer is the machine's.
 -- Assumes of each call only its promise.
 use mathlib.Core.Path.{_≡_, refl, ap, subst}
 use mathlib.Core.Bool.{true}

@@ -8,3 +8,4 @@ pub mod Names
 pub mod Answered
 pub mod SameBoard
 pub mod Untaken
+pub mod Moved

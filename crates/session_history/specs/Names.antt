@@ -1,5 +1,5 @@
 -- Back to a trial layout (document 02, §5): the nets that were on the board at a keep are on it again after a return to that name, whatever calls
--- came between but another keep under it (`comes-back`); the return was accepted (`accepted-last`).
+-- came between but another keep under it and moves to the new rule (§10) (`comes-back`); the return was accepted (`accepted-last`).
 -- Assumes of each call only its promise.
 use mathlib.Core.Path.{_≡_, ap, _∙_}
 use mathlib.Core.List.{List, [], _∷_, _++_}

@@ -1,17 +1,21 @@
--- No call on a session changes its block: the board stays, with its book (document 02, §9), and "Taken pins belong to the board" (§8).
+-- No call on a session changes its block: the board stays, with its book (document 02, §9), and "Taken pins belong to the board" (§8). A move to the
+-- new rule alone (§10) changes the book, and nothing else of the block.
 -- Assumes nothing.
 use mathlib.Core.Path.{_≡_, refl}
 use mathlib.Core.List.{List, [], _∷_}
-use mathlib.Core.Logic.{inl, inr}
+use mathlib.Core.Logic.{_⊎_, inl, inr}
 use mathlib.Core.Option.{Option, none, some}
 use Prim.Native.Nat.{ℕ, _+_}
 use lib.Dec.{leb}
 use Rattle.count.specs.TruthLaws.{bool}
+use Rattle.board_block.specs.declared.Book.{Book}
+use Rattle.board_block.specs.declared.Book.the-variants.{Old, New}
 use Rattle.net.specs.declared.Net.{Net}
 use Rattle.net.specs.declared.Change.{Change}
 use Rattle.session_rules.specs.Refusal.{Refusal}
 use Rattle.session_rules.specs.Session.{lastName, Kept, Session, keptUnder, netOf}
 use Rattle.session_rules.specs.Add.{addRefused}
+use Rattle.session_rules.specs.NewRule.{underNew, moveRefused}
 use Rattle.session_rules.specs.Machine.{
   Call,
   add,
@@ -20,6 +24,7 @@ use Rattle.session_rules.specs.Machine.{
   takeBack,
   keep,
   returnTo,
+  moveOver,
   Step,
   accept,
   stopOr,
@@ -29,12 +34,15 @@ use Rattle.session_rules.specs.Machine.{
   takeBackStep,
   ifName,
   returnStep,
+  moveStep,
+  unlessNew,
   step,
   added,
   withdrawn,
   takenBack,
   stored,
   returned,
+  moved,
 }
 use Rattle.session_rules.specs.Sound.{sound?, call}
 
@@ -74,15 +82,31 @@ unfolding returned
 return-leaves none s = refl
 return-leaves (some ns) s = refl
 
-step-leaves : (s : Session) (c : Call) → Leaves s (step s c)
-unfolding step stored
-step-leaves s (add n) = add-leaves (addRefused (s .block) (s .nets) n) n s
-step-leaves s (addAll ns) = all-leave 0 ns s
-step-leaves s (withdraw k) = withdraw-leaves (netOf k (s .nets)) s
-step-leaves s takeBack = back-leaves (s .pile) s
-step-leaves s (keep k) = named-leaves k s (accept (stored k s)) refl
-step-leaves s (returnTo k) = named-leaves k s (returnStep (keptUnder k s) s) (return-leaves (keptUnder k s) s)
+-- DEFINITION: or it is of a move, and leaves it under the new rule
+abbrev LeavesBoard : Session → Call → Step → Type 0
+LeavesBoard s c x = Leaves s x ⊎ ((c ≡ moveOver) × (x .next .block ≡ underNew (s .block)))
 
-pub board-stays : (s : Session) (c : Call) → call s c .next .block ≡ s .block
+move-leaves : (r : Option Refusal) (s : Session) → LeavesBoard s moveOver (moveStep r s)
+unfolding moved
+move-leaves none s = inr (refl, refl)
+move-leaves (some r) s = inl refl
+
+new-leaves : (k : Book) (s : Session) (x : Step) → LeavesBoard s moveOver x → LeavesBoard s moveOver (unlessNew k s x)
+new-leaves Old s x e = e
+new-leaves New s x e = inl refl
+
+step-leaves : (s : Session) (c : Call) → LeavesBoard s c (step s c)
+unfolding step stored
+step-leaves s (add n) = inl (add-leaves (addRefused (s .block) (s .nets) n) n s)
+step-leaves s (addAll ns) = inl (all-leave 0 ns s)
+step-leaves s (withdraw k) = inl (withdraw-leaves (netOf k (s .nets)) s)
+step-leaves s takeBack = inl (back-leaves (s .pile) s)
+step-leaves s (keep k) = inl (named-leaves k s (accept (stored k s)) refl)
+step-leaves s (returnTo k) = inl (named-leaves k s (returnStep (keptUnder k s) s) (return-leaves (keptUnder k s) s))
+step-leaves s moveOver =
+    let r = moveRefused (s .block) (s .nets) in new-leaves (s .block .book) s (moveStep r s) (move-leaves r s)
+
+pub board-stays : (s : Session) (c : Call)
+    → (call s c .next .block ≡ s .block) ⊎ ((c ≡ moveOver) × (call s c .next .block ≡ underNew (s .block)))
 unfolding call
-board-stays s c = elim (bool (sound? s)) [ inl e ↦ rw e (step-leaves s c) | inr e ↦ rw e refl ]
+board-stays s c = elim (bool (sound? s)) [ inl e ↦ rw e (step-leaves s c) | inr e ↦ rw e (inl refl) ]

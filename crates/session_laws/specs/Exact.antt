@@ -1,4 +1,4 @@
--- The test of soundness is exact; a call on a sound session is the machine's step (`call-step`).
+-- The test of soundness is exact; a call on a sound session is the machine's step (`call-step`), and on another it gets 20 (`unsound-call`).
 -- Assumes nothing.
 use mathlib.Core.Path.{_≡_, refl}
 use mathlib.Core.Bool.{true, _&&_}
@@ -10,15 +10,16 @@ use native.Mathlib.Omega.{arith}
 use lib.Dec.{eqb, leb}
 use lib.ListN.{length, getD}
 use borrow.Author.Tests.{leb-true, le-leb, eqb-true, eq-eqb}
-use Rattle.count.specs.TruthLaws.{and-true, and-yes}
+use Rattle.count.specs.TruthLaws.{not-true, and-true, and-yes}
 use Rattle.board_block.specs.Block.{Block}
 use Rattle.board_block.specs.Taken.{takenFine?}
 use Rattle.board_convex.specs.Test.{isConvex}
 use Rattle.board_convex.specs.Exact.{is-convex}
 use Rattle.net.specs.declared.Net.{Net}
+use Rattle.session_rules.specs.Refusal.{refusal}
 use Rattle.session_rules.specs.Session.{nameCount, Kept, Session}
 use Rattle.session_rules.specs.Machine.{Call, step, pileLimit}
-use Rattle.session_rules.specs.Sound.{rising?, addable?, lifts?, fine?, keptFine?, allFine?, Sound, sound?, call}
+use Rattle.session_rules.specs.Sound.{rising?, addable?, lifts?, fine?, keptFine?, allFine?, Sound, sound?, refusedWhole, call}
 
 -- ── what is kept under the names ──
 -- DEFINITION: where x holds nets, they stand in rising number and could all be added to the bare board
@@ -87,3 +88,7 @@ sound-exact s = (
 pub call-step : (s : Session) (c : Call) → Sound s → call s c ≡ step s c
 unfolding call
 call-step s c h = rw (sound-exact s .1 h) refl
+
+pub unsound-call : (s : Session) (c : Call) → (Sound s → ⊥) → call s c ≡ record { answer = refusedWhole c (refusal 20 0); next = s }
+unfolding call
+unsound-call s c n = rw (not-true (sound? s) (λ e. n (sound-exact s .0 e))) refl

@@ -46,6 +46,13 @@ pub record Fine (b : Block) (ns : List Net) : Type 0 where
 pub good-of : (b : Block) (ns : List Net) (n : Net) → Free b ns n → Good b n
 good-of b ns n f = record { low = f .low; high = f .high; first = f .first; second = f .second; apart = f .apart }
 
+-- that goes by the board alone
+pub good-on : (b c : Block) → c .board ≡ b .board → (ns : List Net) → AllGood b ns → AllGood c ns
+good-on b c e [] g = tt
+good-on b c e (n ∷ ns) g =
+    let k = g .0 in
+    (record { low = k .low; high = k .high; first = rw e (k .first); second = rw e (k .second); apart = k .apart }, good-on b c e ns (g .1))
+
 -- ── the terminals of one net ──
 pub same-vertex : (u v : Vertex) → same u v ≡ true → u ≡ v
 same-vertex u v e =

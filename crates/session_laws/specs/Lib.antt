@@ -5,9 +5,11 @@ pub mod Rising
 pub mod InOrder
 pub mod Fine
 pub mod Addable
+pub mod NewRule
 pub mod Names
 pub mod Stays
 pub mod OneByOne
+pub mod Moves
 pub mod Few
 pub mod BoardStays
 pub mod Untaken

@@ -1,6 +1,6 @@
 -- The names of a session (document 02, §5): the machine's keep and return do what the request says (`keeps`, `returns`), no call but a keep under it
--- changes what a name holds (`names-stay`), and so a return to the name brings back the nets that were kept, whatever calls came between but another
--- keep under it (`comes-back`).
+-- and a move to the new rule (§10) changes what a name holds (`names-stay`), and so a return to the name brings back the nets that were kept,
+-- whatever calls came between but these (`comes-back`).
 -- Assumes nothing.
 use mathlib.Core.Path.{_≡_, refl, ap, sym, _∙_}
 use mathlib.Core.List.{List, [], _∷_}
@@ -12,7 +12,7 @@ use lib.Dec.{leb}
 use lib.ListN.{length, getD, length-set}
 use lib.Seq.{getD-set-same, getD-set-other}
 use borrow.Author.Tests.{le-leb, lt-leb}
-use Rattle.count.specs.TruthLaws.{bool, not-true}
+use Rattle.count.specs.TruthLaws.{bool}
 use Rattle.net.specs.declared.Net.{Net}
 use Rattle.net.specs.declared.Change.{Change}
 use Rattle.session_rules.specs.Session.{lastName, Kept, Session, withNets, keptUnder, netOf}
@@ -26,6 +26,7 @@ use Rattle.session_rules.specs.Machine.{
   takeBack,
   keep,
   returnTo,
+  moveOver,
   refuse,
   accept,
   Step,
@@ -44,9 +45,9 @@ use Rattle.session_rules.specs.Machine.{
   returned,
   after,
 }
-use Rattle.session_rules.specs.Sound.{Sound, sound?, refusedWhole, call}
+use Rattle.session_rules.specs.Sound.{Sound, sound?, call}
 use Rattle.session_rules.specs.Names.{Keeps, Returns, ChangesName, Untouched}
-use Rattle.session_laws.specs.Exact.{sound-exact, call-step}
+use Rattle.session_laws.specs.Exact.{call-step, unsound-call}
 
 -- ── the calls that leave all names as they are ──
 add-same : (r : Option Refusal) (n : Net) (s : Session) → addStep r n s .next .names ≡ s .names
@@ -98,6 +99,7 @@ step-stays s (withdraw n) k d = under k (withdraw-same (netOf n (s .nets)) s)
 step-stays s takeBack k d = under k (back-same (s .pile) s)
 step-stays s (keep j) k d = named-stay j k s (accept (stored j s)) (keep-other s j k d)
 step-stays s (returnTo j) k d = named-stay j k s (returnStep (keptUnder j s) s) (under k (return-same (keptUnder j s) s))
+step-stays s moveOver k d = absurd (d tt)
 
 -- no other call, and no keep under another name, changes what a name holds
 pub names-stay : (s : Session) (c : Call) (k : ℕ) → (ChangesName k c → ⊥) → keptUnder k (call s c .next) ≡ keptUnder k s
@@ -109,10 +111,6 @@ unfolding stored
 keep-stores s k h l = getD-set-same (s .names) k (some (s .nets)) none (let n = h .eight in omega arith)
 
 -- ── keep and return, sentence by sentence ──
-unsound-call : (s : Session) (c : Call) → (Sound s → ⊥) → call s c ≡ record { answer = refusedWhole c (refusal 20 0); next = s }
-unfolding call
-unsound-call s c n = rw (not-true (sound? s) (λ e. n (sound-exact s .0 e))) refl
-
 module _ (s : Session) (k : ℕ) where
   keep-refused : Sound s → lastName < k → call s (keep k) ≡ refuse (refusal 35 0) s
   unfolding step

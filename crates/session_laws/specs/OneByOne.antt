@@ -42,7 +42,7 @@ answer-refused none q n s e = absurd (let z : _≡_ {A = ℕ} 0 1 = cc in omega 
 answer-refused (some p) q n s e = cc
 
 module _ (s : Session) (n : Net) where
-  add-accepted : addRefused (s .block) (s .nets) n ≡ none → (step s (add n) .answer ≡ accepted) × (step s (add n) .next ≡ added n s)
+  pub add-accepted : addRefused (s .block) (s .nets) n ≡ none → (step s (add n) .answer ≡ accepted) × (step s (add n) .next ≡ added n s)
   unfolding step
   add-accepted e = (rw e refl, rw e refl)
 
@@ -50,7 +50,7 @@ module _ (s : Session) (n : Net) where
   unfolding step
   add-refused r e = rw e refl
 
-  accepted-only : step s (add n) .answer ≡ accepted → addRefused (s .block) (s .nets) n ≡ none
+  pub accepted-only : step s (add n) .answer ≡ accepted → addRefused (s .block) (s .nets) n ≡ none
   unfolding step
   accepted-only e = answer-accepted (addRefused (s .block) (s .nets) n) n s e
 
@@ -128,7 +128,7 @@ only-none k s left none e = rw (e, add-zero k) refl
 only-none k s [] (some q) e = absurd e
 only-none k s (n ∷ ns) (some q) e = rw (refused-only s n q e, add-zero k) refl
 
-head-same : (a b : Answer) (xs ys : List Answer) → a ∷ xs ≡ b ∷ ys → (a ≡ b) × (xs ≡ ys)
+pub head-same : (a b : Answer) (xs ys : List Answer) → a ∷ xs ≡ b ∷ ys → (a ≡ b) × (xs ≡ ys)
 head-same a b xs ys e = (cc, cc)
 
 only-from : (k : ℕ) (on : List Net) (s : Session) (left : List Net) (r : Option Refusal) → answers s (singly on) ≡ replicate (length on) accepted

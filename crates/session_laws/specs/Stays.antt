@@ -10,17 +10,24 @@ use native.Mathlib.Omega.{arith}
 use lib.Dec.{leb}
 use lib.ListN.{length, take, length-take, length-set, getD, getD-replicate, List·getD-eq-default}
 use borrow.Author.Tests.{leb-true}
+use Rattle.count.specs.Lists.{first}
 use Rattle.count.specs.TruthLaws.{bool, and-true, and-yes, eq-or-ne, le-or-lt}
 use Rattle.board.specs.Board.{Within}
 use Rattle.board.specs.Path.{Convex}
+use Rattle.board.specs.Order.{readingOrder}
+use Rattle.board.specs.declared.Vertex.{Vertex}
 use Rattle.board_block.specs.Block.{Block}
 use Rattle.board_block.specs.Taken.{takenFine?}
+use Rattle.board_block.specs.declared.Book.{Book}
+use Rattle.board_block.specs.declared.Book.the-variants.{Old, New}
 use Rattle.net.specs.declared.Net.{Net}
 use Rattle.net.specs.declared.Change.{Change}
 use Rattle.net.specs.declared.Change.the-variants.{Added, Withdrawn}
 use Rattle.session_rules.specs.Session.{lastName, nameCount, nothingKept, Kept, Session, keptUnder, insert, remove, netOf}
 use Rattle.session_rules.specs.Add.{addRefused, accepts}
 use Rattle.session_rules.specs.Refusal.{Refusal}
+use Rattle.session_rules.specs.NewRule.{underNew, overNew?, overRefused, moveRefused}
+use Rattle.session_rules.specs.Moves.{NoneOver}
 use Rattle.session_rules.specs.Machine.{
   Call,
   add,
@@ -29,6 +36,7 @@ use Rattle.session_rules.specs.Machine.{
   takeBack,
   keep,
   returnTo,
+  moveOver,
   accept,
   Step,
   stopOr,
@@ -38,6 +46,8 @@ use Rattle.session_rules.specs.Machine.{
   takeBackStep,
   ifName,
   returnStep,
+  moveStep,
+  unlessNew,
   step,
   lay,
   pileLimit,
@@ -47,6 +57,7 @@ use Rattle.session_rules.specs.Machine.{
   takenBack,
   stored,
   returned,
+  moved,
 }
 use Rattle.session_rules.specs.Sound.{rising?, addable?, liftable?, lifts?, Sound, Fresh, bare}
 use Rattle.session_laws.specs.Names.{keep-stores, keep-other}
@@ -55,6 +66,7 @@ use Rattle.session_laws.specs.Insert.{netOf-number, recorded-insert, rem
 use Rattle.session_laws.specs.Rising.{rising-from, from-rising, insert-remove}
 use Rattle.session_laws.specs.Fine.{Fine, fine-insert, fine-remove, free-removed}
 use Rattle.session_laws.specs.Addable.{fine-of, fine-addable}
+use Rattle.session_laws.specs.NewRule.{taken-new, fine-new, over-none}
 
 pub sound-fine : (s : Session) → Sound s → Fine (s .block) (s .nets)
 sound-fine s h = fine-of (s .block) (s .nets) (rising-from (s .nets) (h .rising)) (h .addable)
@@ -95,6 +107,38 @@ short-lay c cs = short pileLimit (c ∷ cs)
   where
     short : (k : ℕ) (cs : List Change) → length (take k cs) ≤ k
     short k cs = omega (arith, length-take k cs)
+
+-- ── a session to start from ──
+-- nothing is kept under any name
+none-kept : (k : ℕ) → getD nothingKept k none ≡ none
+none-kept k = elim (le-or-lt nameCount k) [
+  | inl l ↦ List·getD-eq-default nothingKept none {n = k} (omega arith)
+  | inr l ↦ getD-replicate nameCount k none none l
+]
+
+-- A bare board that is within the limits and convex, with pins taken that are there, is a fresh session.
+pub fresh-bare : (b : Block) → Within (b .board) → Convex (b .board) → takenFine? b ≡ true → Fresh (bare b)
+unfolding rising? addable? lifts?
+fresh-bare b w c t = record {
+  sound = record {
+    within = w;
+    convex = c;
+    taken = t;
+    rising = refl;
+    addable = refl;
+    short = omega arith;
+    lifts = refl;
+    eight = refl;
+    kept-rising = λ k ns e. absurd (never k ns e);
+    kept-addable = λ k ns e. absurd (never k ns e);
+  };
+  no-nets = refl;
+  no-pile = refl;
+  none-kept = refl;
+}
+  where
+    never : (k : ℕ) (ns : List Net) → getD nothingKept k none ≡ some ns → ⊥
+    never k ns e = let n : none ≡ some ns = sym (none-kept k) ∙ e in let z : _≡_ {A = ℕ} 0 1 = cc in omega arith
 
 -- ── each call ──
 sound-added : (s : Session) (n : Net) → Sound s → accepts (s .block) (s .nets) n ≡ true → Sound (added n s)
@@ -169,6 +213,26 @@ sound-returned s k ns h e = record {
   kept-addable = h .kept-addable;
 }
 
+-- what the new rule has pins for stands under it as well, and an empty pile and no names are fine on any board
+sound-moved : (s : Session) → Sound s → NoneOver (s .block) (s .nets) → Sound (moved s)
+unfolding moved lifts?
+sound-moved s h n =
+    let f = sound-fine s h in
+    let t = taken-new (s .block) (s .nets) (h .taken) f n in
+    let none = fresh-bare (underNew (s .block)) (h .within) (h .convex) t .sound in
+    record {
+      within = h .within;
+      convex = h .convex;
+      taken = t;
+      rising = h .rising;
+      addable = fine-addable (underNew (s .block)) (s .nets) (fine-new (s .block) (s .nets) (h .taken) f n);
+      short = omega arith;
+      lifts = refl;
+      eight = none .eight;
+      kept-rising = none .kept-rising;
+      kept-addable = none .kept-addable;
+    }
+
 pub add-stays : (s : Session) (n : Net) (r : Option Refusal) → addRefused (s .block) (s .nets) n ≡ r → Sound s → Sound (addStep r n s .next)
 unfolding accepts
 add-stays s n none e h = sound-added s n h (rw e refl)
@@ -201,43 +265,24 @@ return-stays : (s : Session) (k : ℕ) (x : Kept) → keptUnder k s ≡ x → So
 return-stays s k none e h = h
 return-stays s k (some ns) e h = sound-returned s k ns h e
 
+move-stays : (s : Session) (x : Option Vertex) → first (overNew? (s .block) (s .nets)) readingOrder ≡ x → Sound s
+    → Sound (moveStep (overRefused x) s .next)
+move-stays s none e h = sound-moved s h (over-none (s .block) (s .nets) (h .within) .0 e)
+move-stays s (some v) e h = h
+
+new-stays : (k : Book) (s : Session) (x : Step) → Sound s → Sound (x .next) → Sound (unlessNew k s x .next)
+new-stays Old s x h f = f
+new-stays New s x h f = h
+
 -- A sound session stays sound.
 pub stays-sound : (s : Session) (c : Call) → Sound s → Sound (step s c .next)
-unfolding step
+unfolding step moveRefused
 stays-sound s (add n) h = add-stays s n (addRefused (s .block) (s .nets) n) refl h
 stays-sound s (addAll ns) h = all-stays 0 ns s h
 stays-sound s (withdraw k) h = withdraw-stays s k (netOf k (s .nets)) refl h
 stays-sound s takeBack h = back-stays s (s .pile) refl h
 stays-sound s (keep k) h = named-stays k s (accept (stored k s)) h (sound-kept s k h)
 stays-sound s (returnTo k) h = named-stays k s (returnStep (keptUnder k s) s) h (λ l. return-stays s k (keptUnder k s) refl h)
-
--- nothing is kept under any name
-none-kept : (k : ℕ) → getD nothingKept k none ≡ none
-none-kept k = elim (le-or-lt nameCount k) [
-  | inl l ↦ List·getD-eq-default nothingKept none {n = k} (omega arith)
-  | inr l ↦ getD-replicate nameCount k none none l
-]
-
--- A bare board that is within the limits and convex, with pins taken that are there, is a fresh session.
-pub fresh-bare : (b : Block) → Within (b .board) → Convex (b .board) → takenFine? b ≡ true → Fresh (bare b)
-unfolding rising? addable? lifts?
-fresh-bare b w c t = record {
-  sound = record {
-    within = w;
-    convex = c;
-    taken = t;
-    rising = refl;
-    addable = refl;
-    short = omega arith;
-    lifts = refl;
-    eight = refl;
-    kept-rising = λ k ns e. absurd (never k ns e);
-    kept-addable = λ k ns e. absurd (never k ns e);
-  };
-  no-nets = refl;
-  no-pile = refl;
-  none-kept = refl;
-}
-  where
-    never : (k : ℕ) (ns : List Net) → getD nothingKept k none ≡ some ns → ⊥
-    never k ns e = let n : none ≡ some ns = sym (none-kept k) ∙ e in let z : _≡_ {A = ℕ} 0 1 = cc in omega arith
+stays-sound s moveOver h =
+    new-stays (s .block .book) s (moveStep (moveRefused (s .block) (s .nets)) s) h
+    (move-stays s (first (overNew? (s .block) (s .nets)) readingOrder) refl h)

@@ -20,7 +20,7 @@ use Rattle.session_rules.specs.Machine.{reversed}
 use Rattle.session_rules.specs.Sound.{rising?, addable?, liftable?, lifts?, Sound}
 use Rattle.session_laws.specs.Accept.{free-of, free-accepted}
 use Rattle.session_laws.specs.Rising.{rising-from}
-use Rattle.session_laws.specs.Fine.{AllGood}
+use Rattle.session_laws.specs.Fine.{good-on}
 use Rattle.session_laws.specs.Addable.{fine-of, fine-addable}
 
 -- two blocks on one board, of which the second has as many pins or more at every vertex
@@ -39,16 +39,10 @@ module _ (b c : Block) (same : c .board ≡ b .board) (more : (v : Vertex) → p
         room-second = omega (arith, f .room-second, more (n .ends .second));
       })
 
-  good-more : (ns : List Net) → AllGood b ns → AllGood c ns
-  good-more [] g = tt
-  good-more (n ∷ ns) g =
-      let k = g .0 in
-      (record { low = k .low; high = k .high; first = rw same (k .first); second = rw same (k .second); apart = k .apart }, good-more ns (g .1))
-
   pub addable-more : (ns : List Net) → rising? ns ≡ true → addable? b [] ns ≡ true → addable? c [] ns ≡ true
   addable-more ns r e =
       let f = fine-of b ns (rising-from ns r) e in
-      fine-addable c ns (record { rising = f .rising; good = good-more ns (f .good); room = λ v. omega (arith, f .room v, more v) })
+      fine-addable c ns (record { rising = f .rising; good = good-on b c same ns (f .good); room = λ v. omega (arith, f .room v, more v) })
 
   liftable-more : (ns : List Net) (x : Change) → liftable? b ns x ≡ true → liftable? c ns x ≡ true
   unfolding liftable?

@@ -1,7 +1,9 @@
 pub mod Refusal
 pub mod Session
 pub mod Add
+pub mod NewRule
 pub mod Machine
 pub mod Sound
 pub mod OneByOne
 pub mod Names
+pub mod Moves

@@ -1,17 +1,20 @@
 -- Definitions only: the list machine (document 01, "The session and its list machine"; a list of nets in one call: document 02, §1; trial layouts
--- by name: §5). Nothing is proved here.
+-- by name: §5; changing books: §10). Nothing is proved here.
 use mathlib.Core.Bool.{cond}
 use mathlib.Core.List.{List, [], _∷_}
 use mathlib.Core.Option.{Option, none, some}
 use Prim.Native.Nat.{ℕ, _+_}
 use lib.Dec.{leb}
 use lib.ListN.{take, set}
+use Rattle.board_block.specs.declared.Book.{Book}
+use Rattle.board_block.specs.declared.Book.the-variants.{Old, New}
 use Rattle.net.specs.declared.Net.{Net}
 use Rattle.net.specs.declared.Change.{Change}
 use Rattle.net.specs.declared.Change.the-variants.{Added, Withdrawn}
 use Rattle.session_rules.specs.Refusal.{Refusal, refusal}
-use Rattle.session_rules.specs.Session.{lastName, Kept, Session, withNets, withNames, keptUnder, insert, remove, netOf}
+use Rattle.session_rules.specs.Session.{lastName, Kept, nothingKept, Session, withNets, withNames, keptUnder, insert, remove, netOf}
 use Rattle.session_rules.specs.Add.{addRefused}
+use Rattle.session_rules.specs.NewRule.{underNew, moveRefused}
 
 -- the calls that change a session, with their arguments
 pub data Call : Type 0 where
@@ -21,6 +24,7 @@ pub data Call : Type 0 where
   takeBack : Call
   keep : (name : ℕ) → Call
   returnTo : (name : ℕ) → Call
+  moveOver : Call
 
 -- "It answers that a call is accepted, or refuses it with number and place"; of a list of nets (02, §1) "The answer says how many went on, and on
 -- a refusal the number and place of that add."
@@ -80,6 +84,10 @@ stored k s = withNames s (set (s .names) k (some (s .nets)))
 unfoldable pub returned : List Net → Session → Session
 returned ns s = withNets s ns []
 
+-- 02, §10: "A call moves the open session over, with its nets. The pile is emptied and kept names are forgotten"
+unfoldable pub moved : Session → Session
+moved s = record { block = underNew (s .block); nets = s .nets; pile = []; names = nothingKept }
+
 abbrev pub addStep : Option Refusal → Net → Session → Step
 addStep none n s = accept (added n s)
 addStep (some r) n s = refuse r s
@@ -114,7 +122,17 @@ abbrev pub returnStep : Kept → Session → Step
 returnStep none s = refuse (refusal 36 0) s
 returnStep (some ns) s = accept (returned ns s)
 
--- one call, read against the machine's own board, nets, pile and names
+-- 02, §10: "Refused: 39"
+abbrev pub moveStep : Option Refusal → Session → Step
+moveStep none s = accept (moved s)
+moveStep (some r) s = refuse r s
+
+-- "Moving a session already under the new rule changes nothing at all."
+abbrev pub unlessNew : Book → Session → Step → Step
+unlessNew Old s x = x
+unlessNew New s x = accept s
+
+-- one call, read against the machine's own board with its book, nets, pile and names
 unfoldable pub step : Session → Call → Step
 step s (add n) = addStep (addRefused (s .block) (s .nets) n) n s
 step s (addAll ns) = addAllStep 0 ns s
@@ -122,6 +140,7 @@ step s (withdraw k) = withdrawStep (netOf k (s .nets)) s
 step s takeBack = takeBackStep (s .pile) s
 step s (keep k) = ifName k s (accept (stored k s))
 step s (returnTo k) = ifName k s (returnStep (keptUnder k s) s)
+step s moveOver = unlessNew (s .block .book) s (moveStep (moveRefused (s .block) (s .nets)) s)
 
 -- a list of calls: the session after them, and the answer to each
 unfoldable pub after : Session → List Call → Session

@@ -8,7 +8,7 @@ use lib.ListN.{length}
 use Rattle.net.specs.declared.Net.{Net}
 use Rattle.session_rules.specs.Refusal.{refusal}
 use Rattle.session_rules.specs.Session.{lastName, Session, keptUnder}
-use Rattle.session_rules.specs.Machine.{Call, add, addAll, withdraw, takeBack, keep, returnTo, Answer, accepted, refused}
+use Rattle.session_rules.specs.Machine.{Call, add, addAll, withdraw, takeBack, keep, returnTo, moveOver, Answer, accepted, refused}
 use Rattle.session_rules.specs.Sound.{Sound}
 
 -- a keep under the name k, made on s, was answered a and left t
@@ -37,7 +37,7 @@ pub record Returns (s : Session) (k : ℕ) (a : Answer) (t : Session) : Type 0 w
   pub block : t .block ≡ s .block
   pub names : t .names ≡ s .names
 
--- the calls that change what the name k holds: a keep under it
+-- the calls that may change what the name k holds: a keep under it, and a move to the new rule, which forgets all names (§10)
 abbrev pub ChangesName : (k : ℕ) → Call → Type 0
 ChangesName k (add n) = ⊥
 ChangesName k (addAll ns) = ⊥
@@ -45,6 +45,7 @@ ChangesName k (withdraw n) = ⊥
 ChangesName k takeBack = ⊥
 ChangesName k (keep j) = j ≡ k
 ChangesName k (returnTo j) = ⊥
+ChangesName k moveOver = Unit {0}
 
 -- none of the calls does
 abbrev pub Untouched : (k : ℕ) → List Call → Type 0

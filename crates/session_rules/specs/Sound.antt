@@ -26,6 +26,7 @@ use Rattle.session_rules.specs.Machine.{
   takeBack,
   keep,
   returnTo,
+  moveOver,
   Answer,
   refused,
   wentOn,
@@ -103,6 +104,7 @@ refusedWhole (withdraw k) r = refused r
 refusedWhole takeBack r = refused r
 refusedWhole (keep k) r = refused r
 refusedWhole (returnTo k) r = refused r
+refusedWhole moveOver r = refused r
 
 -- "Every call that takes a session refuses an unsound one first, with 20."
 unfoldable pub call : Session → Call → Step

@@ -1,9 +1,10 @@
 // What a call that changes a session answers, as the line that is printed.
 ghost use Rattle.text.specs.Put.{Holds};
-ghost use Rattle.session_answers.specs.Answers.{addAllAnswer};
+ghost use Rattle.session_answers.specs.Answers.{addAllAnswer, moveAnswer};
 ghost use Rattle.session_text.specs.Text.{answerLine, toldAnswer};
 use numbers::wide;
 use session_answers::AddAllAnswer;
+use session_answers::MoveAnswer;
 use session_answers::Told;
 
 // The line of an answer, at the start of the buffer; how many bytes it is.
@@ -29,5 +30,16 @@ pub fn list_line(answer: AddAllAnswer, out: &mut [u8; 128]) -> usize
         text::line(b"accepted", &[answer.count], out)
     } else {
         text::refused_after(wide(number), wide(told.place), answer.count, out)
+    }
+}
+
+// The same of what a move to the new rule answered.
+pub fn move_line(answer: MoveAnswer, out: &mut [u8; 128]) -> usize
+    ensures { λ r. ⌜ Holds (answerLine (moveAnswer answer)) r (now (out .exit)) ⌝ }
+{
+    match answer {
+        MoveAnswer::Accepted => text::line(b"accepted", &[0usize; 0], out),
+        MoveAnswer::Unsound => text::refused(20, 0, out),
+        MoveAnswer::PinsMissing(v) => text::refused_at(39, wide(v.line), wide(v.column), out),
     }
 }

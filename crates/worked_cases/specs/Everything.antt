@@ -18,7 +18,8 @@ use Rattle.routing_rules.specs.Routing.{edgesFrom, trails, uses}
 use Rattle.routing_rules.specs.Check.{path?, joins?, once?, routing?}
 use Rattle.session_rules.specs.Session.{holds, insert, remove, netOf, recorded}
 use Rattle.session_rules.specs.Add.{addLines, addRefused, accepts}
-use Rattle.session_rules.specs.Machine.{lay, added, withdrawn, reversed, takenBack, stored, returned, addAllStep, step, after, answers}
+use Rattle.session_rules.specs.NewRule.{overNew?, moveRefused}
+use Rattle.session_rules.specs.Machine.{lay, added, withdrawn, reversed, takenBack, stored, returned, moved, addAllStep, step, after, answers}
 use Rattle.session_rules.specs.Sound.{rising?, addable?, liftable?, lifts?, allFine?, sound?, call}
 use Rattle.words.specs.BoardWord.{boardWord, asRow, asTaken, asNet, asEnd}
 use Rattle.words.specs.RoutingWord.{routingWord, asPath, asRun, asRoutingEnd, runsOf, pathWords, pathsWords, routingWords}
@@ -38,7 +39,8 @@ unfoldable pub everything : ℕ
 unfolding sum count select turn turns belowRight belowLeft aboveRight aboveLeft vertex? edge? degree pins pinsBy takenAt pinsOf inOrder? allThere?
     rowsFit contains? peels inLimits isConvex
     terminals edges crosses crossing margin overfull? cuts overfullCuts odd? oddVertices edgesFrom trails uses path? joins? once? routing? holds
-    insert remove netOf recorded addLines addRefused accepts lay added withdrawn reversed takenBack stored returned addAllStep step
+    insert remove netOf recorded addLines addRefused accepts lay added withdrawn reversed takenBack stored returned overNew?
+    moveRefused moved addAllStep step
     rising? addable? liftable? lifts? allFine? sound? call
     boardWord asRow asTaken asNet asEnd routingWord asPath asRun asRoutingEnd runsOf pathWords pathsWords routingWords wordsIn bytesOf wordLines
     takeWords addListed readNets pinLines readParsed readWords readBytes boardWords writeBoard wordsRefused runsFrom pathsFrom walkSteps walkRuns

@@ -7,4 +7,5 @@ pub mod Sessions
 pub mod Names
 pub mod Taken
 pub mod Books
+pub mod Moves
 pub mod Pages

@@ -1,0 +1,4 @@
+pub mod Value
+pub mod Promise
+pub mod Kept
+pub mod Search
