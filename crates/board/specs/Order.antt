@@ -1,5 +1,5 @@
--- Definitions only: the reading order of vertices, "in reading order, line by line and column by column" (document 01, refusal 32). Nothing is proved
--- here: OrderLaws has the laws.
+-- Definitions only: the reading order of vertices, "in reading order, line by line and column by column" (document 01, refusal 32; document 02, §10,
+-- refusal 39). Nothing is proved here: OrderLaws has the laws.
 use mathlib.Core.Path.{_≡_}
 use mathlib.Core.Bool.{Bool, true, false}
 use mathlib.Core.List.{List, flatMap, map}

@@ -3,7 +3,7 @@
 -- Assumes that what passes has a line and a column below 32.
 use mathlib.Core.Path.{_≡_, refl, sym}
 use mathlib.Core.Bool.{Bool, true, false}
-use mathlib.Core.List.{List, [], map, flatMap}
+use mathlib.Core.List.{[], map, flatMap}
 use mathlib.Core.Logic.{inl, inr, _↔_}
 use mathlib.Core.Option.{some}
 use Prim.Native.Nat.{ℕ, _/_, _%_, _<_}

@@ -1,6 +1,6 @@
 -- What the lists of overfull cuts and of odd vertices say: they are empty exactly when there is none, and their head is the first in order.
 -- Assumes for vertices that the board is within the limits: the reading order has lines and columns 0 to 31.
-use mathlib.Core.Path.{_≡_, refl, ap}
+use mathlib.Core.Path.{_≡_, ap}
 use mathlib.Core.Bool.{true, false}
 use mathlib.Core.List.{List, [], map, head?}
 use mathlib.Core.Logic.{inl, inr, _↔_}

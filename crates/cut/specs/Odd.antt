@@ -1,4 +1,4 @@
--- Definitions only: document 01, "Cuts", last sentence, and the order of refusal 32. Nothing is proved here.
+-- Definitions only: document 01, "Cuts", last sentence, and refusal 32. Nothing is proved here.
 use mathlib.Core.Bool.{Bool, _&&_}
 use mathlib.Core.List.{List}
 use Prim.Native.Nat.{_+_, _%_}

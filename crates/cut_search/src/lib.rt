@@ -22,7 +22,7 @@ pub enum FoundCut {
     At(Cut),
 }
 
-// The first odd vertex, if there is one.
+// The first vertex that a search looks for, if there is one: here the first odd one.
 pub enum FoundVertex {
     Nothing,
     At(Vertex),

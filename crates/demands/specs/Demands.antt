@@ -19,7 +19,7 @@ use Rattle.board.specs.declared.Board as code-board
 use Rattle.board_block.specs.Taken.{takenFine?}
 use Rattle.board_block.specs.View.{blockOf}
 use Rattle.board_block.specs.declared.Block as code-block
-use Rattle.board_block.specs.declared.Book.the-variants.{Old, New}
+use Rattle.board_block.specs.declared.Book.the-variants.{New}
 use Rattle.board.specs.declared.Vertex.{Vertex}
 use Rattle.board.specs.declared.Direction.{Direction}
 use Rattle.board_convex.specs.Test.{isConvex}
@@ -210,12 +210,14 @@ pub record Demand1 : Type 0 where
       × Returns (sessionOf s) k (returnAnswer (r .answer)) (sessionOf (r .session))
       × ((returnAnswer (r .answer) ≡ accepted → ⊥) → r .session ≡ s)
   -- 02, §10: `Moves` has the request's sentences, 39 among them; 39 comes exactly where, under the new book, a taken pin would get 38 or one of the
-  -- nets, entered afresh one by one, would be refused. "Moving a session already under the new rule changes nothing at all."
+  -- nets, entered afresh one by one, would be refused; afterwards the session is sound. "Moving a session already under the new rule changes nothing
+  -- at all."
   pub move : (s : Session) (r : AfterMove) → MovePromise s r
       → (moveAnswer (r .answer) ≡ call (sessionOf s) calls.moveOver .answer) × (sessionOf (r .session) ≡ call (sessionOf s) calls.moveOver .next)
       × Moves (sessionOf s) (moveAnswer (r .answer)) (sessionOf (r .session))
-      × (Sound (sessionOf s) → sessionOf s .block .book ≡ Old
+      × (Sound (sessionOf s)
       → ((v : Vertex) × (moveAnswer (r .answer) ≡ refused (overRefusal v))) ↔ RefusedAfresh (sessionOf s .block) (sessionOf s .nets))
+      × (Sound (sessionOf s) → Sound (sessionOf (r .session)))
       × ((moveAnswer (r .answer) ≡ accepted → ⊥) → r .session ≡ s)
       × (s .block .book ≡ New → r .session ≡ s)
   -- 02, §8: "Taken pins belong to the board", and so does its book (§9): no call on a session changes any of them, but for a move (§10), which leaves
@@ -291,10 +293,10 @@ pub record Demand1 : Type 0 where
       → Sound (sessionOf s) → routeRoom (sessionOf s) ≤ length before / 4
       → history.RightlyBoth (sessionOf s) (routeAnswer r) (HandsBackBytes (sessionOf s) before after)
   -- 02, §9: what is shown of cuts and routings is shown "for both books together". On two sound sessions with the same board and nets, whatever their
-  -- books and taken pins, routing may answer the same, and judging, comparing and drawing answer the same, in words and in bytes
+  -- books and taken pins, what routing may answer is the same, and judging, comparing and drawing answer the same, in words and in bytes
   pub same-board : (s t : machine.Session) → Sound s → Sound t → s .block .board ≡ t .block .board → s .nets ≡ t .nets → AnsweredAlike s t
   -- 02, §8: "Taken pins don't make a vertex odd or even. .. They limit which nets can stand on a board, and routing such nets is judged as always." A
-  -- sound session is sound with none taken, and these calls then answer just the same
+  -- sound session is sound with none taken, and these calls then answer so too
   pub as-untaken : (s : machine.Session) → Sound s → Sound (untaken s) × AnsweredAlike s (untaken s)
   -- for C: the board's bytes are read first; a refusal is told by its number and place, and leaves the buffer as it was
   pub c-route : (board before : List ℕ) (number first second : ℕ) (after : List ℕ) → RoutePromise board before number first second after

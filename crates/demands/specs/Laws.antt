@@ -11,7 +11,6 @@ use lib.ListN.{length, take}
 use borrow.Author.Tests.{le-ltb, eqb-true}
 use Rattle.count.specs.TruthLaws.{bool, not-true}
 use Rattle.board_block.specs.Block.{Block}
-use Rattle.board_block.specs.declared.Book.the-variants.{Old}
 use Rattle.board.specs.declared.Direction.{Direction}
 use Rattle.board.specs.declared.Vertex.{Vertex}
 use Rattle.net.specs.declared.Net.{Net}
@@ -24,7 +23,7 @@ use Rattle.session_rules.specs.OneByOne.{OneByOne}
 use Rattle.session_rules.specs.Names.{Keeps, Returns}
 use Rattle.session_rules.specs.NewRule.{overRefusal}
 use Rattle.session_rules.specs.Moves.{Moves, RefusedAfresh}
-use Rattle.session_laws.specs.Exact.{sound-exact}
+use Rattle.session_laws.specs.Exact.{sound-exact, call-step}
 use Rattle.session_laws.specs.OneByOne.{one-by-one}
 use Rattle.session_laws.specs.Names.{keeps, returns, names-stay}
 use Rattle.session_laws.specs.Moves.{moves, refused-exactly}
@@ -32,7 +31,7 @@ use Rattle.session_laws.specs.Few.{few-nets}
 use Rattle.session_laws.specs.BoardStays.{board-stays}
 use Rattle.session_laws.specs.Untaken.{sound-untaken}
 use Rattle.session_laws.specs.Fine.{AllGood}
-use Rattle.session_laws.specs.Stays.{sound-fine}
+use Rattle.session_laws.specs.Stays.{sound-fine, stays-sound}
 use Rattle.session.specs.View.{sessionOf}
 use Rattle.session.specs.Value.{withEach, noneAdded, addAllOf}
 use Rattle.session.specs.declared.Session.{Session}
@@ -154,9 +153,12 @@ returned-by m k e f = rw (e, f) (returns m k)
 moved-by : (m : machine.Session) {a : Answer} {t : machine.Session} → a ≡ call m moveOver .answer → t ≡ call m moveOver .next → Moves m a t
 moved-by m e f = rw (e, f) (moves m)
 
-refused-afresh : (m : machine.Session) {a : Answer} → a ≡ call m moveOver .answer → Sound m → m .block .book ≡ Old
+refused-afresh : (m : machine.Session) {a : Answer} → a ≡ call m moveOver .answer → Sound m
     → ((v : Vertex) × (a ≡ refused (overRefusal v))) ↔ RefusedAfresh (m .block) (m .nets)
-refused-afresh m e h o = rw e (refused-exactly m h o)
+refused-afresh m e h = rw e (refused-exactly m h)
+
+moved-sound : (m : machine.Session) {t : machine.Session} → t ≡ call m moveOver .next → Sound m → Sound t
+moved-sound m {t} e h = let f : t ≡ step m moveOver .next = rw (call-step m moveOver h) at e in rw f (stays-sound m moveOver h)
 
 pub demand-1 : Demand1
 demand-1 = record {
@@ -178,6 +180,7 @@ demand-1 = record {
     P .call .next,
     moved-by (sessionOf s) (P .call .answers) (P .call .next),
     refused-afresh (sessionOf s) (P .call .answers),
+    moved-sound (sessionOf s) (P .call .next),
     P .kept,
     P .already,
   );

@@ -115,7 +115,7 @@ pub fn return_to(s: Session, name: u8) -> AfterReturn
     s.return_to(name)
 }
 
-// Moves the session to the new rule, with its nets; the pile is emptied and the names are forgotten.
+// Moves the session to the new rule, with its nets; the pile is emptied and the names are forgotten. One already under the new rule stays as it is.
 pub fn move_over(s: Session) -> AfterMove
     ensures { λ r. ⌜ MovePromise s r ⌝ }
 {

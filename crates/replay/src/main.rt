@@ -14,16 +14,16 @@
 //     keep NAME                             stores the nets under the name, 0 to 7
 //     return NAME                           puts the nets that are kept under the name on the board, and empties the pile
 //     move                                  moves the session to the new rule, with its nets, empties the pile and forgets the names; one that is
-//                                           under the new rule already stays as it is
+//                                           under the new rule already stays as it is. The rule stays when the session starts afresh
 //     paths                                 routes the nets
 // The word stands at the line's start, whole, and ends at a space or with the line. Numbers stand in decimal, parted by spaces; one above 249 is read
 // as 255, and one that is missing as 0. Other lines are passed over.
 //
 // Each call prints a line: "accepted", or "refused", the number and the place, which of 39 is line and column. Of a list it is "accepted" and how
-// many nets went on, or "refused", the number, the place, "after" and how many went on before. Routing prints its words, each on a line. Then come the
-// nets in rising number, each a line "net" with what add was given, and the pile from its top, each a line "added" or "withdrawn" with the net; then
-// the names that hold something, each a line "kept" with the name and how many nets it holds, and these nets as above; then, where the board is under
-// the new rule, a line "book 1".
+// many nets went on, or "refused", the number, the place, "after" and how many went on before. Routing prints its words, each on a line. Then come
+// the nets in rising number, each a line "net" with what add was given, and the pile from its top, each a line "added" or "withdrawn" with the net;
+// then the names that hold something, each a line "kept" with the name and how many nets it holds, and these nets as above; then, where the board is
+// under the new rule, a line "book 1".
 ghost use Prim.Native.Nat.{_≤_};
 ghost use lib.ListN.{length};
 use board::Board;

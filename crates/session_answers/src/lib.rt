@@ -1,4 +1,5 @@
-// What the calls that change a session answer, and the number and place by which each answer is told.
+// What the calls that change a session answer, and the number and place by which each answer is told; that of a move, which may have a place of two
+// numbers, is told in crate session_text.
 use board::Vertex;
 ghost use mathlib.Core.Path.{_≡_};
 ghost use Prim.Native.Nat.{_+_, _<_, _^_};
@@ -48,7 +49,7 @@ pub enum ReturnAnswer {
     NothingKept,
 }
 
-// The vertex is one that the new rule gives too few pins for what stands there.
+// What a move to the new rule answers. The vertex is the first that the new rule gives too few pins for its terminals and taken pins.
 pub enum MoveAnswer {
     Accepted,
     Unsound,

@@ -1,4 +1,4 @@
--- Definitions only: when calls that take a board and nets answer on two sessions just the same. Nothing is proved here: SameBoard has the law.
+-- Definitions only: when calls that take a board and nets answer alike on two sessions. Nothing is proved here: SameBoard has the law.
 use mathlib.Core.Path.{_≡_}
 use mathlib.Core.List.{List}
 use mathlib.Core.Logic.{_↔_}

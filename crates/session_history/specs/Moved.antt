@@ -3,7 +3,6 @@
 -- (`same-block`, `same-nets`); so routing calls are given or refused alike (`routed-alike`).
 -- Assumes of each call only its promise.
 use mathlib.Core.Path.{_≡_, refl, ap, sym, _∙_}
-use mathlib.Core.Bool.{true, false}
 use mathlib.Core.List.{List}
 use mathlib.Core.Logic.{inl, inr}
 use Prim.Native.Nat.{ℕ}

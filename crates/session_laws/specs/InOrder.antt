@@ -1,4 +1,5 @@
--- Nets in rising number, put in one by one, come to stand in their order: a net above all others goes to the end.
+-- A net above all others goes to the end, so that nets in rising number can be put in one by one and stand in their order (`one-more`, `below-next`). A
+-- net that add accepts is refused by no line (`accepted-none`).
 -- Assumes nothing.
 use mathlib.Core.Path.{_≡_, refl}
 use mathlib.Core.Bool.{true}

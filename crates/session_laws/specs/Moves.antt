@@ -1,18 +1,17 @@
 -- A move to the new rule (document 02, §10): the machine's call does what the request says (`moves`); what it leaves is what the nets leave that are
 -- entered afresh under the new book, none refused (`as-afresh`); and 39 comes exactly where, under the new book, a taken pin would get 38 or one of
 -- these adds would be refused (`refused-exactly`).
--- Assumes nothing.
+-- Assumes for the last two that the session is sound, and for `as-afresh` that the move was accepted.
 use mathlib.Core.Path.{_≡_, refl, ap, sym, _∙_, subst}
 use mathlib.Core.Bool.{true, false, not, _&&_}
 use mathlib.Core.List.{List, [], _∷_, _++_, append-nil}
-use mathlib.Core.Logic.{_⊎_, inl, inr, _↔_}
+use mathlib.Core.Logic.{inl, inr, _↔_}
 use mathlib.Core.Option.{Option, none, some}
 use Prim.Native.Nat.{ℕ, suc}
 use native.Mathlib.Omega.{arith}
 use lib.ListN.{length, replicate}
 use Rattle.count.specs.TruthLaws.{bool, clash, not-true, and-true, and-yes}
 use Rattle.count.specs.Lists.{first}
-use Rattle.board.specs.Board.{Board}
 use Rattle.board.specs.Order.{readingOrder}
 use Rattle.board.specs.declared.Vertex.{Vertex}
 use Rattle.board_block.specs.Block.{Block}
@@ -23,15 +22,16 @@ use Rattle.board_block.specs.declared.TakenPins.{TakenPins}
 use Rattle.net.specs.declared.Net.{Net}
 use Rattle.session_rules.specs.Refusal.{Refusal}
 use Rattle.session_rules.specs.Session.{Session, insert}
-use Rattle.session_rules.specs.Add.{addRefused, accepts}
+use Rattle.session_rules.specs.Add.{accepts}
 use Rattle.session_rules.specs.NewRule.{underNew, overNew?, overRefusal, overRefused, moveRefused}
 use Rattle.session_rules.specs.Machine.{moveOver, Answer, accepted, refused, accept, Step, added, moved, moveStep, step, after, answers}
 use Rattle.session_rules.specs.OneByOne.{singly}
 use Rattle.session_rules.specs.Sound.{addable?, Sound, bare, call}
-use Rattle.session_rules.specs.Moves.{FirstOver, NoneOver, Moves, NoneRefused, Afresh, OneOverTaken, RefusedAfresh}
+use Rattle.session_rules.specs.Moves.{NoneOver, Moves, NoneRefused, Afresh, OneOverTaken, RefusedAfresh}
 use Rattle.session_laws.specs.Exact.{call-step, unsound-call}
 use Rattle.session_laws.specs.Rising.{From, rising-from}
 use Rattle.session_laws.specs.InOrder.{Below, below-more, one-more, below-next, accepted-none}
+use Rattle.session_laws.specs.Fine.{Fine}
 use Rattle.session_laws.specs.Addable.{fine-of, fine-addable}
 use Rattle.session_laws.specs.NewRule.{over-none, over-first, taken-new, fine-new, new-none-over}
 use Rattle.session_laws.specs.Stays.{sound-fine, stays-sound}
@@ -99,6 +99,9 @@ all-addable (n ∷ ns) u e =
     and-yes (accepts (u .block) (u .nets) n) (addable? (u .block) (insert n (u .nets)) ns) (rw x refl) r
 
 -- ── what an accepted move leaves ──
+under-new : (s : Session) → s .block .book ≡ New → s .block ≡ underNew (s .block)
+under-new s e = λ i. record { board = s .block .board; book = e i; taken = s .block .taken }
+
 module _ (s : Session) (a : call s moveOver .answer ≡ accepted) where
   -- DEFINITION: the session that it leaves
   abbrev next : Session
@@ -115,8 +118,7 @@ module _ (s : Session) (a : call s moveOver .answer ≡ accepted) where
     left-by : (k : Book) → s .block .book ≡ k → (next .block ≡ underNew (s .block)) × (next .nets ≡ s .nets)
     left-by New e =
         let t = moves s .already h e .1 in
-        let b : s .block ≡ underNew (s .block) = λ i. record { board = s .block .board; book = e i; taken = s .block .taken } in
-        (ap (λ (u : Session). u .block) t ∙ b, ap (λ (u : Session). u .nets) t)
+        (ap (λ (u : Session). u .block) t ∙ under-new s e, ap (λ (u : Session). u .nets) t)
     left-by Old e = go (found s) refl
       where
         go : (x : Option Vertex) → found s ≡ x → (next .block ≡ underNew (s .block)) × (next .nets ≡ s .nets)
@@ -159,7 +161,7 @@ over-not-there b (t ∷ ts) (inl e) = not-true (allThere? (b .book) (b .board) (
 over-not-there b (t ∷ ts) (inr o) = not-true (allThere? (b .book) (b .board) (t ∷ ts)) (λ y.
     clash (and-true (oneOrTwo (t .count) && not (overTaken (b .book) (b .board) t)) (allThere? (b .book) (b .board) ts) y .1) (over-not-there b ts o))
 
-module _ (s : Session) (h : Sound s) (old : s .block .book ≡ Old) where
+module _ (s : Session) (h : Sound s) where
   -- DEFINITION: the block and its taken pins, by the new rule
   abbrev new : Block
   new = underNew (s .block)
@@ -185,17 +187,30 @@ module _ (s : Session) (h : Sound s) (old : s .block .book ≡ Old) where
       let a = fine-addable new (s .nets) (fine-new (s .block) (s .nets) (h .taken) (sound-fine s h) n) in
       r (entered (s .nets) (bare new) 0 tt (rising-from (s .nets) (h .rising)) a .accepts-all)
 
-  told-39 : (x : Option Vertex) → found s ≡ x → RefusedAfresh (s .block) (s .nets)
-      → (v : Vertex) × (call s moveOver .answer ≡ refused (overRefusal v))
-  told-39 none e r = absurd (none-over-entered (over-none (s .block) (s .nets) (h .within) .0 e) r)
-  told-39 (some v) e r = (v, moves s .refuses h old v (over-first (s .block) (s .nets) (h .within) v .0 e) .0)
+  -- DEFINITION: the call told 39
+  abbrev Told39 : Type 0
+  Told39 = (v : Vertex) × (call s moveOver .answer ≡ refused (overRefusal v))
 
-  pub refused-exactly : ((v : Vertex) × (call s moveOver .answer ≡ refused (overRefusal v))) ↔ RefusedAfresh (s .block) (s .nets)
-  refused-exactly = (
+  told-39 : s .block .book ≡ Old → (x : Option Vertex) → found s ≡ x → RefusedAfresh (s .block) (s .nets) → Told39
+  told-39 old none e r = absurd (none-over-entered (over-none (s .block) (s .nets) (h .within) .0 e) r)
+  told-39 old (some v) e r = (v, moves s .refuses h old v (over-first (s .block) (s .nets) (h .within) v .0 e) .0)
+
+  exactly-by : (k : Book) → s .block .book ≡ k → Told39 ↔ RefusedAfresh (s .block) (s .nets)
+  exactly-by Old old = (
     λ k. elim (bool (allThere? New (s .block .board) (s .block .taken))) [
-      | inl t ↦ inr (λ n.
-          not-refused s (moves s .moves h old (entered-none-over t n) .0) (overRefusal (k .0)) (k .1))
+      | inl t ↦ inr (λ n. not-refused s (moves s .moves h old (entered-none-over t n) .0) (overRefusal (k .0)) (k .1))
       | inr t ↦ inl (one-over (s .block .book) new (s .block .taken) (order-there .1) t)
     ],
-    told-39 (found s) refl,
+    told-39 old (found s) refl,
   )
+  -- a sound session under the new rule has no such vertex, and what is entered afresh is what it has
+  exactly-by New e =
+      let same : s .block ≡ new = under-new s e in
+      let t = subst (λ (b : Block). takenFine? b ≡ true) same (h .taken) in
+      let f = subst (λ (b : Block). Fine b (s .nets)) same (sound-fine s h) in (
+        λ k. absurd (not-refused s (moves s .already h e .0) (overRefusal (k .0)) (k .1)),
+        λ r. absurd (none-over-entered (new-none-over (s .block) (s .nets) t f) r),
+      )
+
+  pub refused-exactly : Told39 ↔ RefusedAfresh (s .block) (s .nets)
+  refused-exactly = exactly-by (s .block .book) refl

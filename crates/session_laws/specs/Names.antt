@@ -101,7 +101,7 @@ step-stays s (keep j) k d = named-stay j k s (accept (stored j s)) (keep-other s
 step-stays s (returnTo j) k d = named-stay j k s (returnStep (keptUnder j s) s) (under k (return-same (keptUnder j s) s))
 step-stays s moveOver k d = absurd (d tt)
 
--- no other call, and no keep under another name, changes what a name holds
+-- no call but a keep under it and a move to the new rule changes what a name holds
 pub names-stay : (s : Session) (c : Call) (k : ℕ) → (ChangesName k c → ⊥) → keptUnder k (call s c .next) ≡ keptUnder k s
 unfolding call
 names-stay s c k d = elim (bool (sound? s)) [ inl e ↦ rw e (step-stays s c k d) | inr e ↦ rw e refl ]

@@ -2,12 +2,12 @@
 -- nets (`fine-new`). And the other way round: what stands under the new rule is nowhere more (`new-none-over`). The search for a vertex that has more
 -- finds none exactly where there is none (`over-none`), and else the first (`over-first`).
 -- Assumes that the board is within the limits, where a search is spoken of.
-use mathlib.Core.Path.{_≡_, refl, sym, _∙_}
+use mathlib.Core.Path.{_≡_, refl}
 use mathlib.Core.Bool.{true, false, not, _&&_}
 use mathlib.Core.List.{List, [], _∷_}
 use mathlib.Core.Logic.{inl, inr, _↔_}
-use mathlib.Core.Option.{Option, none, some}
-use Prim.Native.Nat.{ℕ, _+_, _≤_, _<_}
+use mathlib.Core.Option.{none, some}
+use Prim.Native.Nat.{_+_, _≤_, _<_}
 use native.Mathlib.Omega.{arith}
 use lib.Dec.{ltb}
 use borrow.Author.Tests.{ltb-true, lt-ltb, le-ltb}
@@ -15,7 +15,7 @@ use Rattle.count.specs.TruthLaws.{bool, clash, not-true, and-true, and-yes, le-
 use Rattle.count.specs.Lists.{select, first, head-none}
 use Rattle.board.specs.Board.{Board, Within, IsVertex}
 use Rattle.board.specs.Degree.{vertex?, pins}
-use Rattle.board.specs.Order.{readingOrder, FirstPasses}
+use Rattle.board.specs.Order.{readingOrder}
 use Rattle.board.specs.OrderLaws.{none-passes, first-passes}
 use Rattle.board.specs.Tests.{vertex-exact}
 use Rattle.board.specs.declared.Vertex.{Vertex}
@@ -29,11 +29,8 @@ use Rattle.board_block.specs.declared.Book.{Book}
 use Rattle.board_block.specs.declared.Book.the-variants.{New}
 use Rattle.board_block.specs.declared.TakenPins.{TakenPins}
 use Rattle.net.specs.Same.{same-self}
-use Rattle.net.specs.Terminals.{terminals}
 use Rattle.net.specs.declared.Net.{Net}
-use Rattle.session_rules.specs.Refusal.{Refusal}
-use Rattle.session_rules.specs.Session.{pairs}
-use Rattle.session_rules.specs.NewRule.{underNew, newPins, pinsUsed, overNew?, overRefused}
+use Rattle.session_rules.specs.NewRule.{underNew, newPins, pinsUsed, overNew?}
 use Rattle.session_rules.specs.Moves.{FirstOver, NoneOver}
 use Rattle.session_laws.specs.Fine.{Fine, good-on}
 

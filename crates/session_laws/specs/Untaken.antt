@@ -1,5 +1,5 @@
 -- Taken pins limit which nets can stand on a board and no more: a sound session is sound with no pin taken (`sound-untaken`), and what a routing
--- call may answer is the same (`untaken-routes` of crate session_history). More is shown: nets that stand where there are fewer pins stand where
+-- call may answer is the same (`untaken-answered` of crate session_history). More is shown: nets that stand where there are fewer pins stand where
 -- there are more.
 -- Assumes nothing.
 use mathlib.Core.Path.{_≡_, refl}

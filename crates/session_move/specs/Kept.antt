@@ -10,9 +10,10 @@ use Rattle.board.specs.declared.Vertex.{Vertex}
 use Rattle.board_block.specs.View.{blockOf}
 use Rattle.board_block.specs.declared.Book.{Book}
 use Rattle.board_block.specs.declared.Book.the-variants.{Old, New}
+use Rattle.cut_search.specs.Found.{foundVertex}
 use Rattle.session_rules.specs.NewRule.{overNew?, overRefused, moveRefused}
 use Rattle.session_rules.specs.Machine as machine
-use Rattle.session_rules.specs.Machine.{moveOver, Answer, accepted, Step, moveStep, unlessNew, step}
+use Rattle.session_rules.specs.Machine.{moveOver, accepted, Step, moveStep, unlessNew, step}
 use Rattle.session_rules.specs.Sound.{sound?, call}
 use Rattle.net_places.specs.Places.{netsOf}
 use Rattle.session_pile.specs.Pile.{pileOf, changesOf}
@@ -22,7 +23,7 @@ use Rattle.session.specs.Promise.{CallPromise}
 use Rattle.session.specs.Value.{freshOf}
 use Rattle.session.specs.View.{sessionOf}
 use Rattle.session_move.specs.declared.AfterMove.{AfterMove}
-use Rattle.session_move.specs.Value.{foundOver, moved, moveFound, moveOld, moveBy, moveSound, moveOf}
+use Rattle.session_move.specs.Value.{moved, moveFound, moveOld, moveBy, moveSound, moveOf}
 use Rattle.session_move.specs.Promise.{MovePromise}
 
 -- DEFINITION: what the code handed back is what the machine hands back
@@ -30,7 +31,7 @@ record AsStep (r : AfterMove) (x : Step) : Type 0 where
   answers : moveAnswer (r .answer) ≡ x .answer
   next : sessionOf (r .session) ≡ x .next
 
-found-as : (x : Option Vertex) (s : Session) → AsStep (moveFound (foundOver x) s) (moveStep (overRefused x) (sessionOf s))
+found-as : (x : Option Vertex) (s : Session) → AsStep (moveFound (foundVertex x) s) (moveStep (overRefused x) (sessionOf s))
 unfolding moved freshOf machine.moved pileOf changesOf
 found-as none s = record { answers = refl; next = refl }
 found-as (some v) s = record { answers = refl; next = refl }
@@ -55,8 +56,8 @@ move-call s = elim (bool (sound? (sessionOf s))) [
 ]
 
 -- ── the very session that was given ──
-found-same : (x : Option Vertex) (s : Session) → (moveAnswer (moveFound (foundOver x) s .answer) ≡ accepted → ⊥)
-    → moveFound (foundOver x) s .session ≡ s
+found-same : (x : Option Vertex) (s : Session) → (moveAnswer (moveFound (foundVertex x) s .answer) ≡ accepted → ⊥)
+    → moveFound (foundVertex x) s .session ≡ s
 found-same none s n = absurd (n refl)
 found-same (some v) s n = refl
 

@@ -1,7 +1,7 @@
 -- The search for the first vertex that keeps a session from moving, place by place. Where no place before i has more than the new rule gives it pins
 -- (`NoneBefore`), what is found at i is the first (`found-at`), and at the end there is none (`found-none`).
 -- Assumes nothing.
-use mathlib.Core.Path.{_≡_, refl, ap, sym, _∙_}
+use mathlib.Core.Path.{_≡_, ap, sym, _∙_}
 use mathlib.Core.Bool.{true, false}
 use mathlib.Core.List.{List, map}
 use mathlib.Core.Logic.{inl, inr}

@@ -3,6 +3,7 @@ use board::Board;
 use board::Vertex;
 use board_block::Block;
 use board_block::Book;
+use cut_search::FoundVertex;
 use net::Place;
 use numbers::wide;
 use session::Session;
@@ -12,16 +13,12 @@ ghost use Rattle.count.specs.Lists.{first};
 ghost use Rattle.board.specs.Order.{readingOrder};
 ghost use Rattle.board.specs.View.{boardOf};
 ghost use Rattle.board_block.specs.View.{blockOf};
+ghost use Rattle.cut_search.specs.Found.{foundVertex};
 ghost use Rattle.session_rules.specs.NewRule.{overNew?};
 ghost use Rattle.net_places.specs.Places.{netsOf};
-ghost use Rattle.session_move.specs.Value.{overWith, foundOver, moved, after, moveOld, moveSound};
+ghost use Rattle.session_answers.specs.declared.MoveAnswer.the-variants.{Accepted};
+ghost use Rattle.session_move.specs.Value.{overWith, moved, after, moveOld, moveSound};
 ghost use Rattle.session_move.specs.Promise.{MovePromise};
-
-// The first vertex that keeps a session from moving, if there is one.
-pub enum FoundOver {
-    Nothing,
-    At(Vertex),
-}
 
 // What the call hands back: its answer and the next session.
 pub struct AfterMove {
@@ -29,7 +26,7 @@ pub struct AfterMove {
     pub session: Session,
 }
 
-// Is v a vertex that has fewer pins by the new rule, before any are taken, than are used?
+// Is v a vertex that has fewer pins by the new rule, before any are taken, than are used? Most places have none used, which no rule forbids.
 fn is_over(b: Board, v: Vertex, used: usize) -> bool
     ensures { λ r. ⌜ r ≡ overWith (boardOf b) v used ⌝ }
 {
@@ -40,8 +37,8 @@ fn is_over(b: Board, v: Vertex, used: usize) -> bool
 }
 
 // The first vertex in reading order that has more terminals and taken pins together than the new rule gives it pins.
-fn first_over(b: Block, nets: [Place; 64]) -> FoundOver
-    ensures { λ r. ⌜ r ≡ foundOver (first (overNew? (blockOf b) (netsOf nets)) readingOrder) ⌝ }
+fn first_over(b: Block, nets: [Place; 64]) -> FoundVertex
+    ensures { λ r. ⌜ r ≡ foundVertex (first (overNew? (blockOf b) (netsOf nets)) readingOrder) ⌝ }
 {
     let board = b.board;
     let taken = b.taken;
@@ -49,41 +46,62 @@ fn first_over(b: Block, nets: [Place; 64]) -> FoundOver
     for i in 0..1024 {
         let v = board_block::vertex_at(i);
         if is_over(board, v, wide(counts[i]) + wide(taken[i])) {
-            return FoundOver::At(v);
+            return FoundVertex::At(v);
         }
     }
-    FoundOver::Nothing
+    FoundVertex::Nothing
 }
 
-// A bare session on the same board under the new rule, with these nets on it.
+// The session under the new rule, with its nets, an empty pile and nothing kept.
 fn moved(s: Session) -> Session
     ensures { λ r. ⌜ r ≡ moved s ⌝ }
 {
     let bare = session::fresh(board_block::with_book(s.block, Book::New));
+    let block = bare.block;
     let nets = s.nets;
     let pile = bare.pile;
-    bare.with_places(nets, pile)
+    let names = bare.names;
+    Session {
+        block,
+        nets,
+        pile,
+        names,
+    }
 }
 
-fn after(answer: MoveAnswer, session: Session) -> AfterMove
-    ensures { λ r. ⌜ r ≡ after answer session ⌝ }
+// A refused move changes nothing.
+fn refuse(answer: MoveAnswer, s: Session) -> AfterMove
+    ensures { λ r. ⌜ r ≡ after answer s ⌝ }
 {
-    AfterMove { answer, session }
+    AfterMove { answer, session: s }
 }
 
 // The move of a sound session under the old rule.
 fn move_old(s: Session) -> AfterMove
     ensures { λ r. ⌜ r ≡ moveOld s ⌝ }
 {
-    let nets = s.nets;
-    let found = first_over(s.block, nets);
+    let places = s.nets;
+    let found = first_over(s.block, places);
     match found {
-        FoundOver::Nothing => after(MoveAnswer::Accepted, moved(s)),
-        FoundOver::At(v) => after(MoveAnswer::PinsMissing(v), s),
+        FoundVertex::Nothing => AfterMove {
+            answer: MoveAnswer::Accepted,
+            session: moved(s),
+        },
+        FoundVertex::At(v) => refuse(MoveAnswer::PinsMissing(v), s),
     }
 }
 
-// The move of a sound session: one already under the new rule stays as it is in everything.
+// The move of a session already under the new rule changes nothing at all, and is accepted.
+fn move_new(s: Session) -> AfterMove
+    ensures { λ r. ⌜ r ≡ after Accepted s ⌝ }
+{
+    AfterMove {
+        answer: MoveAnswer::Accepted,
+        session: s,
+    }
+}
+
+// The move of a sound session.
 fn move_sound(s: Session) -> AfterMove
     ensures { λ r. ⌜ r ≡ moveSound s ⌝ }
 {
@@ -91,16 +109,16 @@ fn move_sound(s: Session) -> AfterMove
     let book = block.book;
     match book {
         Book::Old => move_old(s),
-        Book::New => after(MoveAnswer::Accepted, s),
+        Book::New => move_new(s),
     }
 }
 
-// Moves the session to the new rule, with its nets; the pile is emptied and the names are forgotten.
+// Moves the session to the new rule, with its nets; the pile is emptied and the names are forgotten. One already under the new rule stays as it is.
 pub fn move_over(s: Session) -> AfterMove
     ensures { λ r. ⌜ MovePromise s r ⌝ }
 {
     if !s.sound() {
-        return after(MoveAnswer::Unsound, s);
+        return refuse(MoveAnswer::Unsound, s);
     }
     move_sound(s)
 }

@@ -4,9 +4,9 @@ use mathlib.Core.Path.{_≡_}
 use mathlib.Core.Bool.{true}
 use mathlib.Core.List.{List, [], _∷_}
 use mathlib.Core.Logic.{_⊎_}
-use Prim.Native.Nat.{ℕ, _≤_, _<_}
+use Prim.Native.Nat.{_≤_, _<_}
 use lib.ListN.{length, replicate}
-use Rattle.board.specs.Board.{Board, IsVertex}
+use Rattle.board.specs.Board.{IsVertex}
 use Rattle.board.specs.Order.{VertexBefore}
 use Rattle.board.specs.declared.Vertex.{Vertex}
 use Rattle.board_block.specs.Block.{Block}

@@ -83,6 +83,11 @@ busy-moved : call (busy Old) moveOver ≡ accept (on (cell New []) (net 1 0 0 1 
 unfolding everything
 busy-moved = refl
 
+-- taken pins belong to the board, and stay
+taken-moved : call (on (cell Old (pins 0 0 1 ∷ [])) (net 1 0 1 1 0 ∷ [])) moveOver ≡ accept (on (cell New (pins 0 0 1 ∷ [])) (net 1 0 1 1 0 ∷ []))
+unfolding everything
+taken-moved = refl
+
 -- sound before and after, while pile and names would be unsound under the new rule
 busy-sound : map sound? (busy Old ∷ call (busy Old) moveOver .next ∷ busy New ∷ []) ≡ true ∷ true ∷ false ∷ []
 unfolding everything

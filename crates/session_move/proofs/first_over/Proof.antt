@@ -7,7 +7,8 @@ use borrow.Author.Needs.{needs}
 use Rattle.board.specs.Board.{Board}
 use Rattle.board.specs.View.{boardOf}
 use Rattle.board.specs.declared.Vertex.{Vertex}
-use Rattle.session_move.specs.Value.{overWith, foundOver}
+use Rattle.cut_search.specs.Found.{foundVertex}
+use Rattle.session_move.specs.Value.{overWith}
 use Rattle.session_move.specs.Search.{NoneBefore, none-next, found-at, found-none}
 use Rattle.session_move.proofs.first_over.Statement.{statement}
 use Rattle.session_move.proofs.first_over.Tie as tie
@@ -52,7 +53,8 @@ is-over-requires : tie.Need-is-over-requires Inv-loop μ-loop
 is-over-requires c κs = search needs
 
 -- what is asked at a place, by what its parts hand back
-over-there : (b : Board) {u v : Vertex} {m n k l : ℕ} {r : Bool} → u ≡ v → k ≡ m → l ≡ n → r ≡ overWith b u (k + l) → r ≡ overWith b v (m + n)
+over-there : (b : Board) {u v : Vertex} {m n k l : ℕ} {r : Bool} → u ≡ v → k ≡ m → l ≡ n → r ≡ overWith b u (k + l)
+    → r ≡ overWith b v (m + n)
 over-there b p q t e = e ∙ rw (p, q, t) refl
 
 returns : tie.Need-returns Inv-loop μ-loop
@@ -60,12 +62,14 @@ returns c =
     let at-vertex = c .before .before .before .before in
     let at-loop = at-vertex .before .before in
     let i = at-loop .loop .i in
-    let counted = at-loop .before in
+    let counted = at-loop .before in let counts = counted .count-terminals in
     let args = counted .before .before .before .args in
     let here = at-vertex .vertex-at .ensures in
-    let over = over-there (boardOf (args .b .board)) here (c .before .before .before .wide .ensures .0) (c .before .before .wide2 .ensures .0) (c .before .is-over .ensures) in
-    rw here (ap foundOver (sym (found-at (args .b) (args .nets) (counted .count-terminals .result) (counted .count-terminals .ensures) i (omega arith)
-    (at-loop .loop .inv .1) (sym over ∙ c .if1 .taken))))
+    let wide = c .before .before .before .wide in let wide2 = c .before .before .wide2 in
+    let over = over-there (boardOf (args .b .board)) here (wide .ensures .0) (wide2 .ensures .0) (c .before .is-over .ensures) in
+    let none = at-loop .loop .inv .1 in
+    rw here
+    (ap foundVertex (sym (found-at (args .b) (args .nets) (counts .result) (counts .ensures) i (omega arith) none (sym over ∙ c .if1 .taken))))
 
 add-i : tie.Need-add-i Inv-loop μ-loop
 add-i c = search needs
@@ -78,11 +82,11 @@ loop-again c =
     let at-vertex = c .before .before .before .before in
     let at-loop = at-vertex .before .before in
     let counted = at-loop .before in
-    let b = counted .before .before .before .args .b in
-    let over = over-there (boardOf (b .board)) (at-vertex .vertex-at .ensures) (c .before .before .before .wide .ensures .0) (c .before .before .wide2 .ensures .0)
-    (c .before .is-over .ensures) in (
+    let b = counted .before .before .before .args .b in let board = boardOf (b .board) in
+    let wide = c .before .before .before .wide in let wide2 = c .before .before .wide2 in
+    let over = over-there board (at-vertex .vertex-at .ensures) (wide .ensures .0) (wide2 .ensures .0) (c .before .is-over .ensures) in (
       omega arith,
-      none-next (boardOf (b .board)) (counted .count-terminals .result) (b .taken) (at-loop .loop .i) (at-loop .loop .inv .1) (sym over ∙ c .if1 .left),
+      none-next board (counted .count-terminals .result) (b .taken) (at-loop .loop .i) (at-loop .loop .inv .1) (sym over ∙ c .if1 .left),
     )
 
 returns-2 : tie.Need-returns-2 Inv-loop μ-loop
@@ -91,7 +95,7 @@ returns-2 c =
     let counted = at-loop .before in
     let args = counted .before .before .before .args in
     let last : at-loop .loop .i ≡ 1024 = omega arith in
-    ap foundOver (sym (found-none (args .b) (args .nets) (counted .count-terminals .result) (counted .count-terminals .ensures)
+    ap foundVertex (sym (found-none (args .b) (args .nets) (counted .count-terminals .result) (counted .count-terminals .ensures)
     (rw last at (at-loop .loop .inv .1))))
 
 pub first-over-spec : {M : Type 1} → statement M

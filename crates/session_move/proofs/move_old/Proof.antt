@@ -1,5 +1,5 @@
 -- By what was found: the session moves, or 39 names the vertex.
-use mathlib.Core.Path.{_≡_, sym, _∙_, ap}
+use mathlib.Core.Path.{sym, _∙_, ap}
 use Rattle.session.specs.declared.Session.{Session}
 use Rattle.session_answers.specs.declared.MoveAnswer.the-variants.{Accepted}
 use Rattle.session_move.specs.Value.{after, moveOld}
@@ -8,9 +8,9 @@ use Rattle.session_move.proofs.move_old.Statement.{statement}
 use Rattle.session_move.proofs.move_old.Tie as tie
 use Rattle.session_move.proofs.move_old.Reads as reads
 use Rattle.session_move.proofs.move_old.Lts as lts
-use Rattle.session_move.proofs.after.Reads as after-reads
 use Rattle.session_move.proofs.first_over.Reads as first-over-reads
 use Rattle.session_move.proofs.moved.Reads as moved-reads
+use Rattle.session_move.proofs.refuse.Reads as refuse-reads
 
 first-over-requires : tie.Need-first-over-requires
 first-over-requires c κs = search needs
@@ -21,28 +21,25 @@ enum-told c = search needs
 moved-requires : tie.Need-moved-requires
 moved-requires c κs = search needs
 
-after-requires : tie.Need-after-requires
-after-requires c κs = search needs
-
 enum-known-found : tie.Need-enum-known-found
 enum-known-found c = search needs
 
-after-requires-2 : tie.Need-after-requires-2
-after-requires-2 c κs = search needs
+refuse-requires : tie.Need-refuse-requires
+refuse-requires c κs = search needs
 
 returns : tie.Need-returns
 unfolding moveOld
 returns c =
-    let known = c .before .before in
+    let known = c .before in
     let found = known .before .before .first-over .ensures in
-    rw (sym found ∙ known .enum-told .given .1) (c .after .ensures ∙ ap (λ (t : Session). after Accepted t) (c .before .moved .ensures))
+    rw (sym found ∙ known .enum-told .given .1) (ap (λ (t : Session). after Accepted t) (c .moved .ensures))
 
 returns-2 : tie.Need-returns-2
 unfolding moveOld
 returns-2 c =
     let known = c .before .before in
     let found = known .before .before .first-over .ensures in
-    rw (sym found ∙ known .found .given .1) (c .after2 .ensures)
+    rw (sym found ∙ known .found .given .1) (c .refuse .ensures)
 
 pub move-old-spec : {M : Type 1} → statement M
 move-old-spec =
@@ -51,8 +48,7 @@ move-old-spec =
     first-over-requires
     enum-told
     moved-requires
-    after-requires
     enum-known-found
-    after-requires-2
+    refuse-requires
     returns
     returns-2)
