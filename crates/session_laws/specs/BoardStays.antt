@@ -1,5 +1,5 @@
--- No call on a session but a move to the new rule (document 02, §10) changes its block: the board stays, with its book (§9), and "Taken pins belong to
--- the board" (§8). A move changes the book, and nothing else of the block.
+-- No call on a session but a move to the new rule (document 02, §10) changes its block: the board stays, with its book (§9), and "Taken pins belong
+-- to the board" (§8). A move changes the book, and nothing else of the block.
 -- Assumes nothing.
 use mathlib.Core.Path.{_≡_, refl}
 use mathlib.Core.List.{List, [], _∷_}

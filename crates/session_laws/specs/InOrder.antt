@@ -1,5 +1,5 @@
--- A net above all others goes to the end, so that nets in rising number can be put in one by one and stand in their order (`one-more`, `below-next`). A
--- net that add accepts is refused by no line (`accepted-none`).
+-- A net above all others goes to the end, so that nets in rising number can be put in one by one and stand in their order (`one-more`, `below-next`).
+-- A net that add accepts is refused by no line (`accepted-none`).
 -- Assumes nothing.
 use mathlib.Core.Path.{_≡_, refl}
 use mathlib.Core.Bool.{true}
