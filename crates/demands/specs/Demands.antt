@@ -209,9 +209,9 @@ pub record Demand1 : Type 0 where
       × (sessionOf (r .session) ≡ call (sessionOf s) (calls.returnTo k) .next)
       × Returns (sessionOf s) k (returnAnswer (r .answer)) (sessionOf (r .session))
       × ((returnAnswer (r .answer) ≡ accepted → ⊥) → r .session ≡ s)
-  -- 02, §10: `Moves` has the request's sentences, 39 among them; 39 comes exactly where, under the new book, a taken pin would get 38 or one of the
-  -- nets, entered afresh one by one, would be refused; afterwards the session is sound. "Moving a session already under the new rule changes nothing
-  -- at all."
+  -- 02, §10: `Moves` has the request's sentences, 39 among them. Of a sound session 39 comes exactly where, under the new book, a taken pin would get
+  -- 38 or one of the nets, entered afresh one by one, would be refused; and such a session is sound afterwards. "Moving a session already under the
+  -- new rule changes nothing at all."
   pub move : (s : Session) (r : AfterMove) → MovePromise s r
       → (moveAnswer (r .answer) ≡ call (sessionOf s) calls.moveOver .answer) × (sessionOf (r .session) ≡ call (sessionOf s) calls.moveOver .next)
       × Moves (sessionOf s) (moveAnswer (r .answer)) (sessionOf (r .session))
@@ -296,7 +296,7 @@ pub record Demand1 : Type 0 where
   -- books and taken pins, what routing may answer is the same, and judging, comparing and drawing answer the same, in words and in bytes
   pub same-board : (s t : machine.Session) → Sound s → Sound t → s .block .board ≡ t .block .board → s .nets ≡ t .nets → AnsweredAlike s t
   -- 02, §8: "Taken pins don't make a vertex odd or even. .. They limit which nets can stand on a board, and routing such nets is judged as always." A
-  -- sound session is sound with none taken, and these calls then answer so too
+  -- sound session is sound with none taken, and these calls answer alike on the two
   pub as-untaken : (s : machine.Session) → Sound s → Sound (untaken s) × AnsweredAlike s (untaken s)
   -- for C: the board's bytes are read first; a refusal is told by its number and place, and leaves the buffer as it was
   pub c-route : (board before : List ℕ) (number first second : ℕ) (after : List ℕ) → RoutePromise board before number first second after

@@ -1,4 +1,4 @@
--- The parts of a fresh session on the block under the new rule, with the nets of this one.
+-- The parts of a fresh session on the block under the new rule, with the nets of the one that is moved.
 use mathlib.Core.Path.{refl}
 use Rattle.session.specs.Value.{freshOf}
 use Rattle.session_move.specs.Value.{moved}
