@@ -6,3 +6,4 @@ pub mod Bits
 pub mod Sums
 pub mod Each
 pub mod Parity
+pub mod Tallies

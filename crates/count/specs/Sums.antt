@@ -39,7 +39,7 @@ sum-interval (suc n) lo hi f h1 h2 h3 = let ih = sum-interval n lo hi f h1 h2 h3
 ]
 
 -- a sum read from the other end
-sum-head : (n : ℕ) (f : ℕ → ℕ) → sum (suc n) f ≡ f 0 + sum n (λ i. f (suc i))
+pub sum-head : (n : ℕ) (f : ℕ → ℕ) → sum (suc n) f ≡ f 0 + sum n (λ i. f (suc i))
 unfolding sum
 sum-head zero f = omega arith
 sum-head (suc n) f = omega (arith, sum-head n f)

@@ -22,7 +22,7 @@ use Rattle.call_rules.specs.Alike.{Alike, equallyMany}
 use Rattle.call_rules.specs.AlikeLaws.{Among}
 use Rattle.call_rules.specs.Judge.{judged}
 use Rattle.judge_laws.specs.Walks.{uses-append}
-use Rattle.judge_laws.specs.Edges.{length-edges}
+use Rattle.routing_laws.specs.Used.{length-edges}
 use Rattle.judge_laws.specs.Exact.{passes-sound}
 
 -- DEFINITION: no edge stands twice in the list

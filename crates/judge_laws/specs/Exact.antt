@@ -14,12 +14,13 @@ use Rattle.board.specs.Board.{Board, Within, Edge}
 use Rattle.board.specs.declared.Direction.{Direction}
 use Rattle.net.specs.declared.Net.{Net}
 use Rattle.net.specs.declared.Pair.{Pair}
-use Rattle.routing_rules.specs.Routing.{Joins, edgesFrom, trails, uses, Routing}
+use Rattle.routing_rules.specs.Routing.{Joins, trails, uses, Routing}
 use Rattle.session_rules.specs.Refusal.{Refusal}
 use Rattle.session_rules.specs.Session.{Session, pairs}
-use Rattle.words.specs.RoutingWord.{runWord, routingEndWord, runsOf, pathWords, pathsWords, routingWords}
+use Rattle.words.specs.RoutingWord.{runWord, routingEndWord, runsOf, pathsWords, routingWords}
 use Rattle.words.specs.declared.Run.{Run}
 use Rattle.call_rules.specs.Result.{Result, no, yes, andThen, unless}
+use Rattle.call_rules.specs.Report.{edgesUsed}
 use Rattle.call_rules.specs.Shape.{between, wordsRefused, badCount, pathsFrom}
 use Rattle.call_rules.specs.Walk.{walkPaths}
 use Rattle.call_rules.specs.Judge.{pathsIn, judged}
@@ -29,7 +30,9 @@ use Rattle.judge_laws.specs.Walks.{yes-eq, no-yes, endsOf, paths-went, p
 use Rattle.words.specs.RunLaws.{runs-few}
 use Rattle.judge_laws.specs.Straight.{steps-back, runs-fit}
 use Rattle.judge_laws.specs.Passing.{Numbered, shape-passes}
-use Rattle.judge_laws.specs.Edges.{edges-few, joins-edges, length-edges}
+use Rattle.board_edges.specs.Framed.{edges-most}
+use Rattle.routing_laws.specs.Used.{used-most}
+use Rattle.routing_laws.specs.Words.{words-few}
 
 -- DEFINITION: the words are those of a routing of the session's nets, with the paths dss
 pub record Passing (s : Session) (ws : List ℕ) (dss : List (List Direction)) : Type 0 where
@@ -93,34 +96,15 @@ passes-sound s ws dss h = elim (bool (badCount ws)) [
 ]
 
 -- ── the routing words of a routing ──
--- how many words they are
-words-few : (b : Board) (ns : List Net) (dss : List (List Direction)) → Joins b (pairs ns) dss
-    → length (pathsWords ns dss) ≤ length ns + length (flatten (trails (pairs ns) dss))
-unfolding pathsWords pathWords trails flatten
-words-few b [] dss j = omega arith
-words-few b (n ∷ ns) [] j = absurd j
-words-few b (n ∷ ns) (ds ∷ dss) j =
-    omega (
-      arith,
-      words-few b ns dss (j .1),
-      runs-few ds,
-      length-map (runsOf ds) runWord,
-      length-edges (n .ends .first) ds,
-      length-append (map runWord (runsOf ds)) (pathsWords ns dss),
-      length-append (edgesFrom (n .ends .first) ds) (flatten (trails (pairs ns) dss)),
-    )
-
-each-runs : (b : Board) → Within b → (ns : List Net) (dss : List (List Direction)) → Joins b (pairs ns) dss
-    → length (flatten (trails (pairs ns) dss)) ≤ 1984 → Each ns (map runsOf dss)
-unfolding trails flatten
+each-runs : (b : Board) → Within b → (ns : List Net) (dss : List (List Direction)) → Joins b (pairs ns) dss → edgesUsed dss ≤ 1984
+    → Each ns (map runsOf dss)
+unfolding edgesUsed
 each-runs b w [] [] j h = no-net
 each-runs b w [] (ds ∷ dss) j h = absurd j
 each-runs b w (n ∷ ns) [] j h = absurd j
 each-runs b w (n ∷ ns) (ds ∷ dss) j h =
-    let a = length-append (edgesFrom (n .ends .first) ds) (flatten (trails (pairs ns) dss)) in
-    one-net (runsOf ds) (omega (arith, a, runs-few ds, length-edges (n .ends .first) ds))
-    (runs-fit b w ds (n .ends .first) (n .ends .second) (j .0) .0)
-    (each-runs b w ns dss (j .1) (omega (arith, a)))
+    one-net (runsOf ds) (omega (arith, runs-few ds)) (runs-fit b w ds (n .ends .first) (n .ends .second) (j .0) .0)
+    (each-runs b w ns dss (j .1) (omega arith))
 
 steps-map : (dss : List (List Direction)) → map steps (map runsOf dss) ≡ dss
 steps-map [] = refl
@@ -131,14 +115,14 @@ pub passes-complete : (s : Session) → Within (s .block .board) → Numbered (s
 unfolding judged routingWords uses
 passes-complete s w m l dss r =
     let all = length (s .nets) in
-    let few = edges-few (s .block .board) w (flatten (trails (pairs (s .nets)) dss)) (joins-edges (s .block .board) (pairs (s .nets)) dss (r .joins))
-    (r .once) in
-    let each = each-runs (s .block .board) w (s .nets) dss (r .joins) few in
+    let most = edges-most (s .block .board) w in
+    let few = used-most (s .block .board) w (pairs (s .nets)) dss r in
+    let each = each-runs (s .block .board) w (s .nets) dss (r .joins) (omega arith) in
     let ws = routingWords (s .nets) dss in
     let same : ws ≡ wordsBy all (s .nets) (map runsOf dss) =
     sym (words-back all each ∙ ap (λ (x : List (List Direction)). pathsWords (s .nets) x ++ (routingEndWord all ∷ [])) (steps-map dss)) in
     let count = length-append (pathsWords (s .nets) dss) (routingEndWord all ∷ []) in
-    let short = words-few (s .block .board) (s .nets) dss (r .joins) in
+    let short = words-few (s .block .board) w (s .nets) dss r in
     let shape : wordsRefused all 0 between (s .nets) ws ≡ none = rw same (shape-passes all 0 (omega arith) each m) in
     let ends : endsOf (pathsFrom 0 (s .nets) ws) ≡ pairs (s .nets) = rw same (ends-in-words all 0 each) in
     let paths : pathsIn (pathsFrom 0 (s .nets) ws) ≡ dss = rw same (paths-in-words all 0 each ∙ steps-map dss) in

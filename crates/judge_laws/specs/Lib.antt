@@ -3,7 +3,6 @@ pub mod Shapes
 pub mod Walks
 pub mod Straight
 pub mod Passing
-pub mod Edges
 pub mod Exact
 pub mod Alike
 pub mod Loops

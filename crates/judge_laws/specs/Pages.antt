@@ -14,7 +14,7 @@ use Rattle.call_rules.specs.Judge.{judged}
 use Rattle.call_rules.specs.Page.{page, edgesOf, usedIn, pageOf}
 use Rattle.call_rules.specs.ReadOff.{ReadsOff}
 use Rattle.call_rules.specs.PageLaws.{page-reads, used-in-exact, same-edges, read-alike}
-use Rattle.judge_laws.specs.Edges.{all-edges, joins-edges}
+use Rattle.routing_laws.specs.Used.{all-edges, joins-edges}
 use Rattle.judge_laws.specs.Exact.{passes-sound}
 
 -- the edges of a list that passes are edges of the board

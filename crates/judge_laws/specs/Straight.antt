@@ -12,11 +12,12 @@ use lib.Dec.{eqb}
 use lib.ListN.{length}
 use borrow.Author.Tests.{eqb-true}
 use Rattle.count.specs.TruthLaws.{bool}
-use Rattle.board.specs.Board.{Board, Within, Edge, IsEdge, at, Side, top-side, bottom-side, left-side, right-side}
+use Rattle.board.specs.Board.{Board, Within}
 use Rattle.board.specs.Path.{next, along, number, Path}
 use Rattle.board.specs.declared.Vertex.{Vertex}
 use Rattle.board.specs.declared.Direction.{Direction}
 use Rattle.board.specs.declared.Direction.the-variants.{Up, Right, Down, Left}
+use Rattle.board_edges.specs.Spans.{Across, Downward, edge-spans}
 use Rattle.words.specs.RoutingWord.{direction, stepThen, runsOf}
 use Rattle.words.specs.declared.Run.{Run}
 use Rattle.words.specs.Inverse.{direction-back}
@@ -39,26 +40,7 @@ unfolding steps runsOf
 steps-back [] = refl
 steps-back (d ∷ ds) = steps-then d (runsOf ds) ∙ ap (λ (es : List Direction). d ∷ es) (steps-back ds)
 
--- ── an edge of a board within the limits ──
-pub record Across (e : Edge) : Type 0 where
-  pub to : e .to ≡ at (e .from .line) (suc (e .from .column))
-  pub line : e .from .line < 32
-  pub column : e .from .column < 31
-
-pub record Downward (e : Edge) : Type 0 where
-  pub to : e .to ≡ at (suc (e .from .line)) (e .from .column)
-  pub line : e .from .line < 31
-  pub column : e .from .column < 32
-
-side-spans : {i j : ℕ} {e : Edge} → i < 31 → j < 31 → Side i j e → Across e ⊎ Downward e
-side-spans h k top-side = inl (record { to = refl; line = omega arith; column = omega arith })
-side-spans h k bottom-side = inl (record { to = refl; line = omega arith; column = omega arith })
-side-spans h k left-side = inr (record { to = refl; line = omega arith; column = omega arith })
-side-spans h k right-side = inr (record { to = refl; line = omega arith; column = omega arith })
-
-pub edge-spans : (b : Board) → Within b → (e : Edge) → IsEdge b e → Across e ⊎ Downward e
-edge-spans b w e (i, j, c, s) = side-spans (omega (arith, c .row, w .few)) (omega (arith, c .to, w .fits i (c .row))) s
-
+-- ── the room for a run ──
 -- how many edges there can be from v in a direction
 abbrev room : Direction → Vertex → ℕ
 room Up v = v .line
@@ -103,5 +85,3 @@ runs-fit b w (d ∷ ds) u v p =
     let r = step-room d u (edge-spans b w (along d u) (p .0)) in
     let h = runs-fit b w ds (next d u) v (p .1) in
     step-fits d u (r .0) (r .1) (h .0) (h .1)
-
--- no more runs than edges

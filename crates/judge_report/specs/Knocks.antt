@@ -1,7 +1,7 @@
 -- The marks of two turns or more, counted over an array and over the vertices in reading order.
 -- Assumes nothing.
 use mathlib.Core.Path.{_≡_, refl, ap, _∙_}
-use mathlib.Core.Bool.{Bool, true, false, cond}
+use mathlib.Core.Bool.{Bool}
 use mathlib.Core.List.{List, [], _∷_, map}
 use Prim.Native.Nat.{ℕ, suc, _+_, _/_, _%_, _<_, _≤_}
 use native.Mathlib.Numerals.{add-one}
@@ -11,6 +11,7 @@ use lib.ListN.{length, drop, getD, drop-of-length-le}
 use lib.Seq.{drop-cons}
 use Rattle.count.specs.Truth.{one}
 use Rattle.count.specs.Lists.{rising, select}
+use Rattle.count.specs.Tallies.{length-select}
 use Rattle.board.specs.Board.{at}
 use Rattle.board.specs.declared.Vertex.{Vertex}
 use Rattle.board.specs.Order.{readingOrder}
@@ -28,14 +29,6 @@ knocks-none a i h = rw (drop-of-length-le a h) refl
 -- ── the vertices by their index ──
 abbrev pub vertexAt : ℕ → Vertex
 vertexAt i = at (i / 32) (i % 32)
-
-length-select : {A : Type 0} (p : A → Bool) (x : A) (xs : List A) → length (select p (x ∷ xs)) ≡ one (p x) + length (select p xs)
-unfolding select
-length-select {A} p x xs = go (p x) (select p xs)
-  where
-    go : (t : Bool) (ys : List A) → length (cond t (x ∷ ys) ys) ≡ one t + length ys
-    go true ys = omega arith
-    go false ys = omega arith
 
 knocks-from : (p : Vertex → Bool) (i : ℕ) (a : List ℕ) → ((j : ℕ) → j < length a → ltb 1 (getD a j 0) ≡ p (vertexAt (i + j)))
     → knocksIn a ≡ length (select p (map vertexAt (rising i (length a))))

@@ -21,7 +21,7 @@ use Rattle.call_rules.specs.Shape.{pathsFrom}
 use Rattle.call_rules.specs.Report.{edgesUsed, turnsMade, turnsAt, turnsOccurring, knockKnee, knockKnees, reportOf}
 use Rattle.call_rules.specs.ReportLaws.{occurring-no-path, occurring-no-pair, occurring-more}
 use Rattle.call_rules.specs.Judge.{pathsIn}
-use Rattle.judge_shape.specs.Moves.{nets-more, nets-none}
+use Rattle.net_places.specs.CountLaws.{nets-more, nets-none}
 use Rattle.judge_walk.specs.PartLaws.{Found, paths-out, paths-part}
 use Rattle.judge_report.specs.Traces.{knocksIn}
 use Rattle.judge_report.specs.Knocks.{vertexAt, knocks-are}

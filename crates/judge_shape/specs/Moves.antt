@@ -5,11 +5,11 @@ use mathlib.Core.Bool.{Bool, true, false, cond, _&&_, _||_}
 use mathlib.Core.List.{List, [], _∷_}
 use mathlib.Core.Logic.{inl, inr}
 use mathlib.Core.Option.{Option, none, some}
-use Prim.Native.Nat.{ℕ, zero, suc, _+_, _-_, _<_, _≤_}
+use Prim.Native.Nat.{ℕ, zero, suc, _+_, _-_, _<_}
 use native.Mathlib.Numerals.{add-one}
 use native.Mathlib.Omega.{arith}
 use lib.Dec.{ltb, eqb}
-use lib.ListN.{length, drop, getD, drop-of-length-le}
+use lib.ListN.{length, drop, getD}
 use lib.Seq.{drop-cons, drop-length}
 use borrow.Author.Tests.{lt-ltb, ltb-true, ne-eqb}
 use Rattle.count.specs.TruthLaws.{bool}
@@ -20,7 +20,8 @@ use Rattle.net.specs.declared.Held.the-variants.{Nothing, Ends}
 use Rattle.net.specs.declared.Place.{Place}
 use Rattle.session_rules.specs.Refusal as machine
 use Rattle.session_rules.specs.Refusal.{refusal}
-use Rattle.net_places.specs.Places.{net, heldNet, netsFrom, netsOf}
+use Rattle.net_places.specs.Places.{net, heldNet, netsFrom, netsOf, heldOne}
+use Rattle.net_places.specs.CountLaws.{nets-more}
 use Rattle.words.specs.RoutingWord.{routingWord}
 use Rattle.words.specs.declared.RoutingWord.{RoutingWord}
 use Rattle.words.specs.declared.RoutingWord.the-variants as word
@@ -38,7 +39,6 @@ use Rattle.judge_shape.specs.States.{
   Starts,
   at-end,
   at-net,
-  heldOne,
 }
 use Rattle.judge_shape.specs.declared.Last.{Last}
 use Rattle.judge_shape.specs.declared.Last.the-variants as last
@@ -126,15 +126,6 @@ taken-next all next (due.InPath more l) w d' e = absurd (taken-path more l (rout
 taken-next all next due.Over w d' e = absurd (let z : _≡_ {A = ℕ} 0 1 = cc in omega arith)
 
 -- ── the nets from a place on ──
-pub nets-more : (nets : List Place) (i : ℕ) → i < length nets
-    → netsFrom (suc i) (drop i nets) ≡ heldNet (suc i) (getD nets i nothing .held) (netsFrom (suc (suc i)) (drop (suc i) nets))
-unfolding netsFrom
-nets-more nets i h = rw (drop-cons nets i nothing h) refl
-
-pub nets-none : (nets : List Place) (i : ℕ) → length nets ≤ i → netsFrom (suc i) (drop i nets) ≡ []
-unfolding netsFrom
-nets-none nets i h = rw (drop-of-length-le nets h) refl
-
 pub nets-skip : (nets : List Place) (i : ℕ) → i < length nets → (heldOne (getD nets i nothing .held) ≡ 1 → ⊥)
     → netsFrom (suc i) (drop i nets) ≡ netsFrom (suc (i + 1)) (drop (i + 1) nets)
 nets-skip nets i h e = rw (add-one i) (nets-more nets i h ∙ go (getD nets i nothing .held) e)
@@ -197,17 +188,3 @@ pub stands-end : {all : ℕ} {nets : List Place} {ws : List ℕ} {d : Due} {next
     → {x : Option machine.Refusal} → x ≡ atEnd (length ws) (dueOf d) → x ≡ wordsRefused all 0 between (netsOf nets) ws
 unfolding wordsRefused
 stands-end {ws = ws} s e f = f ∙ sym (s .same ∙ (rw (e, drop-length ws) refl))
-
--- ── how many nets there are ──
-held-length : (k : ℕ) (h : Held) (ns : List Net) → length (heldNet k h ns) ≡ heldOne h + length ns
-held-length k Nothing ns = let e : 0 + length ns ≡ length ns = omega arith in sym e
-held-length k (Ends e) ns = let f : 1 + length ns ≡ suc (length ns) = omega arith in sym f
-
-pub length-more : (nets : List Place) (i : ℕ) → i < length nets
-    → length (netsFrom (suc i) (drop i nets)) ≡ heldOne (getD nets i nothing .held) + length (netsFrom (suc (i + 1)) (drop (i + 1) nets))
-length-more nets i h = rw (nets-more nets i h, add-one i)
-    (held-length (suc i) (getD nets i nothing .held) (netsFrom (suc (suc i)) (drop (suc i) nets)))
-
-pub length-first : (nets : List Place) → length (netsFrom 1 (drop 0 nets)) ≡ length (netsOf nets)
-unfolding netsOf
-length-first nets = refl

@@ -8,8 +8,6 @@ use lib.ListN.{length, drop}
 use Rattle.board.specs.declared.Direction.{Direction}
 use Rattle.net.specs.declared.Pair.{Pair}
 use Rattle.net.specs.declared.Net.{Net}
-use Rattle.net.specs.declared.Held.{Held}
-use Rattle.net.specs.declared.Held.the-variants.{Nothing, Ends}
 use Rattle.net.specs.declared.Place.{Place}
 use Rattle.session_rules.specs.Refusal as machine
 use Rattle.session_rules.specs.Refusal.{line, firstRefusal}
@@ -75,11 +73,6 @@ moveTo all next due.Over w = move.Wrong 43
 pub data Starts (nets : List Place) : ℕ → List Net → Type 0 where
   at-end : Starts nets 0 []
   at-net : (k : ℕ) (ends : Pair) → Starts nets (suc k) (net (suc k) ends ∷ netsFrom (suc (suc k)) (drop (suc k) nets))
-
--- 1 for a place that holds a net
-abbrev pub heldOne : Held → ℕ
-heldOne Nothing = 0
-heldOne (Ends e) = 1
 
 -- ── the shape of the whole list: 41, then the words one by one ──
 unfoldable pub shapeRefused : List Net → List ℕ → Option machine.Refusal

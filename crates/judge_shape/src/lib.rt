@@ -13,11 +13,9 @@ ghost use Rattle.judge_shape.specs.States.{
   pathMove,
   moveTo,
   Starts,
-  heldOne,
   shapeRefused,
 };
 use board::Direction;
-use net::Held;
 use net::Place;
 use words::ROUTING_WORDS;
 use words::RoutingWord;
@@ -54,36 +52,13 @@ pub enum Move {
     Taken(Due),
 }
 
-// 1 for a place that holds a net, 0 for an empty one.
-fn held_one(place: Place) -> u8
-    ensures { λ r. ⌜ r ≡ heldOne (place .held) ⌝ }
-    ensures { λ r. ⌜ r ≤ 1 ⌝ }
-{
-    let held = place.held;
-    match held {
-        Held::Nothing => 0,
-        Held::Ends(_) => 1,
-    }
-}
-
-// How many nets there are.
-pub fn count_nets(nets: [Place; 64]) -> u8
-    ensures { λ r. ⌜ r ≡ length (netsOf nets) ⌝ }
-{
-    let mut n: u8 = 0;
-    for i in 0..64 {
-        n += held_one(nets[i]);
-    }
-    n
-}
-
 // The least number of a net above `number`, or 0 where there is none.
 fn next_after(nets: [Place; 64], number: u8) -> u8
     ensures { λ r. ⌜ Starts nets r (netsFrom (suc number) (drop number nets)) ⌝ }
 {
     let mut i = number;
     while i < 64 {
-        if held_one(nets[i as usize]) == 1 {
+        if net_places::held_one(nets[i as usize]) == 1 {
             return i + 1;
         }
         i += 1;
@@ -220,6 +195,6 @@ pub fn check_shape(nets: [Place; 64], words: &[u32]) -> Checked
             place: 0,
         })
     } else {
-        check_words(nets, count_nets(nets), words)
+        check_words(nets, net_places::count_nets(nets), words)
     }
 }

@@ -27,7 +27,7 @@ use Rattle.call_rules.specs.Shape.{runsFrom, pathsFrom}
 use Rattle.judge_shape.specs.declared.Refusal.{Refusal}
 use Rattle.judge_shape.specs.declared.Checked.{Checked}
 use Rattle.judge_shape.specs.declared.Checked.the-variants as checked
-use Rattle.judge_shape.specs.Moves.{nets-more, nets-none}
+use Rattle.net_places.specs.CountLaws.{nets-more, nets-none}
 use Rattle.judge_walk.specs.Slots.{slotAt}
 use Rattle.judge_walk.specs.MapWalk.{
   came,

@@ -3,3 +3,4 @@ pub mod NumberedLaws
 pub mod Places
 pub mod Nets
 pub mod NetsLaws
+pub mod CountLaws

@@ -1,7 +1,7 @@
 -- Definitions only: the nets that an array of places holds, and the places once a change is reversed. Nothing is proved here.
 use mathlib.Core.List.{List, [], _∷_}
 use Prim.Native.Nat.{ℕ, suc}
-use Rattle.net.specs.View.{nothing}
+use Rattle.net.specs.View.{nothing, heldBy}
 use Rattle.net.specs.declared.Pair.{Pair}
 use Rattle.net.specs.declared.Net.{Net}
 use Rattle.net.specs.declared.Change.{Change}
@@ -30,6 +30,10 @@ netsFrom k (p ∷ ps) = heldNet k (p .held) (netsFrom (suc k) ps)
 -- "the nets in rising number": number n has place n - 1
 unfoldable pub netsOf : List Place → List Net
 netsOf ps = netsFrom 1 ps
+
+-- how many nets a place holds: 1 or 0
+abbrev pub heldOne : Held → ℕ
+heldOne h = heldBy (λ p. 1) h
 
 abbrev pub placeAt : List Place → ℕ → Place
 placeAt ps n = entry ps n nothing

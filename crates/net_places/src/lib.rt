@@ -6,9 +6,11 @@ use net::Pair;
 use net::Place;
 use numbers::wide;
 ghost use mathlib.Core.Path.{_≡_};
+ghost use Prim.Native.Nat.{_≤_};
+ghost use lib.ListN.{length};
 ghost use Rattle.session_rules.specs.Session.{holds, recorded};
 ghost use Rattle.net_places.specs.Numbered.{replaced, indexOf};
-ghost use Rattle.net_places.specs.Places.{netsOf, placeAt, holding, reversedIn};
+ghost use Rattle.net_places.specs.Places.{netsOf, heldOne, placeAt, holding, reversedIn};
 ghost use Rattle.net_places.specs.Nets.{samePair};
 
 // The index of what has this number; that of number 0 is past the end.
@@ -102,4 +104,27 @@ pub fn reversed(nets: [Place; 64], change: Change) -> [Place; 64]
             stored(nets, net.number, holding(ends))
         }
     }
+}
+
+// 1 for a place that holds a net, 0 for an empty one.
+pub fn held_one(place: Place) -> u8
+    ensures { λ r. ⌜ r ≡ heldOne (place .held) ⌝ }
+    ensures { λ r. ⌜ r ≤ 1 ⌝ }
+{
+    let held = place.held;
+    match held {
+        Held::Nothing => 0,
+        Held::Ends(_) => 1,
+    }
+}
+
+// How many nets there are.
+pub fn count_nets(nets: [Place; 64]) -> u8
+    ensures { λ r. ⌜ r ≡ length (netsOf nets) ⌝ }
+{
+    let mut n: u8 = 0;
+    for i in 0..64 {
+        n += held_one(nets[i]);
+    }
+    n
 }

@@ -292,10 +292,7 @@ fn print_pile(pile: Pile) {
 fn print_layout(number: u8, layout: Layout) {
     if layout.kept {
         let nets = layout.nets;
-        text::print_line(
-            b"kept",
-            &[wide(number), wide(judge_shape::count_nets(nets))],
-        );
+        text::print_line(b"kept", &[wide(number), wide(net_places::count_nets(nets))]);
         print_nets(nets);
     }
 }

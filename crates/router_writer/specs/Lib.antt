@@ -6,5 +6,4 @@ pub mod Nets
 pub mod Paths
 pub mod Through
 pub mod Routes
-pub mod Fits
 pub mod Handed

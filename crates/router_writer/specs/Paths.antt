@@ -4,7 +4,6 @@ use mathlib.Core.List.{List, [], _∷_}
 use Prim.Native.Nat.{ℕ, zero, suc, _≤_, _<_}
 use lib.ListN.{length}
 use Rattle.board.specs.declared.Direction.{Direction}
-use Rattle.net.specs.View.{heldBy}
 use Rattle.net.specs.declared.Net.{Net}
 use Rattle.net.specs.declared.Held.{Held}
 use Rattle.net.specs.declared.Held.the-variants.{Nothing, Ends}
@@ -12,10 +11,6 @@ use Rattle.net_places.specs.Places.{net}
 use Rattle.words.specs.RoutingWord.{pathWords, routingWords}
 use Rattle.router_notes.specs.Limits.{pathLimit}
 use Rattle.router_writer.specs.Written.{directions}
-
--- how many nets a place holds
-abbrev pub heldOne : Held → ℕ
-heldOne h = heldBy (λ p. 1) h
 
 -- the paths of n pairs from k on
 unfoldable pub pathsFrom : (P : ℕ → List ℕ) (k n : ℕ) → List (List Direction)

@@ -12,12 +12,12 @@ use Rattle.net.specs.declared.Net.{Net}
 use Rattle.net.specs.declared.Held.{Held}
 use Rattle.net.specs.declared.Held.the-variants.{Nothing, Ends}
 use Rattle.net.specs.declared.Place.{Place}
-use Rattle.net_places.specs.Places.{heldNet, netsFrom, netsOf}
+use Rattle.net_places.specs.Places.{heldNet, netsFrom, netsOf, heldOne}
 use Rattle.words.specs.RoutingWord.{pathsWords, routingWords, routingEndWord}
 use Rattle.router_notes.specs.Limits.{pathLimit}
 use Rattle.router_writer.specs.Written.{Written}
 use Rattle.router_writer.specs.Blocks.{take-more, drop-more, block-inside, put-next, part-back}
-use Rattle.router_writer.specs.Paths.{heldOne, pathsFrom, Short, heldWords, HeldShort}
+use Rattle.router_writer.specs.Paths.{pathsFrom, Short, heldWords, HeldShort}
 
 module _ (P : ℕ → List ℕ) where
   -- DEFINITION: the words of the nets ns, whose pairs are numbered from k

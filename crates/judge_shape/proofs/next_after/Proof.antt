@@ -6,7 +6,8 @@ use Prim.Native.Nat.{suc, _-_}
 use lib.ListN.{drop}
 use Rattle.net_places.specs.Places.{netsFrom}
 use Rattle.judge_shape.specs.States.{at-end}
-use Rattle.judge_shape.specs.Moves.{nets-none, nets-skip, starts-here}
+use Rattle.net_places.specs.CountLaws.{nets-none}
+use Rattle.judge_shape.specs.Moves.{nets-skip, starts-here}
 use Rattle.judge_shape.proofs.next_after.Statement.{statement}
 use Rattle.judge_shape.proofs.next_after.Tie as tie
 

@@ -4,10 +4,10 @@ use native.Mathlib.Omega.{arith}
 use mathlib.Core.Path.{_≡_, ap}
 use Prim.Native.Nat.{suc, _+_, _-_, _≤_}
 use lib.ListN.{length, drop}
 use Rattle.net_places.specs.Places.{netsFrom, netsOf}
-use Rattle.judge_shape.specs.Moves.{nets-none, length-more, length-first}
-use Rattle.judge_shape.proofs.count_nets.Statement.{statement}
-use Rattle.judge_shape.proofs.count_nets.Tie as tie
+use Rattle.net_places.specs.CountLaws.{nets-none, length-more, length-first}
+use Rattle.net_places.proofs.count_nets.Statement.{statement}
+use Rattle.net_places.proofs.count_nets.Tie as tie
 
 abbrev Inv-loop : tie.InvT-loop
 Inv-loop nets n₀ i₀ n i = (i ≤ 64) × (n ≤ i) × (n + length (netsFrom (suc i) (drop i nets)) ≡ length (netsOf nets))

@@ -1,0 +1,3 @@
+pub mod EdgeCount
+pub mod Spans
+pub mod Framed

@@ -1,0 +1,2 @@
+pub mod Used
+pub mod Words
