@@ -691,13 +691,21 @@ impl Router {
     }
 }
 
+/// The most words of a routing: 1, the nets and the edges of a convex board, which are two for each cell, one more for each row, and as many besides
+/// as the widest row has cells.
+fn word_limit(board: &Board, nets: &Nets) -> usize {
+    let widths = board.rows.iter().map(|r| (r.right - r.left) as usize);
+    let edges: usize = widths.clone().map(|w| 2 * w + 1).sum();
+    1 + nets.iter().flatten().count() + edges + widths.max().unwrap_or(0)
+}
+
 /// Reads a board and routes its nets into the buffer, as `cidrask_route` does.
 pub fn route(board: &[u8], buffer: &mut [u8]) -> Answer {
     let (board, nets) = read(board)?;
     if !is_sound(&board, &nets) {
         return refuse(20, 0, 0);
     }
-    if buffer.len() / 4 < 2049 {
+    if buffer.len() / 4 < word_limit(&board, &nets) {
         return refuse(31, 0, 0);
     }
     let odd = odd_vertices(&board, &nets);

@@ -712,7 +712,7 @@ fn exchange(random: &mut Random, name: &str, words: &mut Vec<u32>, paths: &[usiz
 /// A path of very many runs, so that the list has about 2,049 words, or more.
 fn lengthen(random: &mut Random, words: &mut Vec<u32>) {
     let length = random.pick(&[2047, 2048, 2049, 2049, 2050, 2051]);
-    if words[0] >> 28 != 4 || random.one_in(3) {
+    if words[0] >> 28 != 4 || words.len() > length || random.one_in(3) {
         return words.resize(length, 0);
     }
     let had = (words[0] & 0x7FF) as usize;

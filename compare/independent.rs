@@ -1,6 +1,6 @@
 //! The requirements read anew, from their words alone: boards and their words, convexity, pins by rule book and those that the package has taken,
-//! cuts, odd vertices and their pairings, the revised cut test of source document 004, the judge of routing words, and whether two routings are
-//! alike. Nothing here is taken from the proved library; it is what the library is held against.
+//! cuts, the wire to order, odd vertices and their pairings, the revised cut test of source document 004, the judge of routing words, and whether two
+//! routings are alike. Nothing here is taken from the proved library; it is what the library is held against.
 
 #![allow(dead_code)]
 
@@ -260,6 +260,54 @@ impl Board {
             ends[n.second.0][n.second.1] += 1;
         }
         self.vertices().into_iter().filter(|&v| (self.degree(v) + ends[v.0][v.1]) % 2 == 1).collect()
+    }
+}
+
+// ---------------------------------------------------------------- wire to order
+
+/// What is told of a board and its nets before they are routed.
+#[derive(Clone, Copy, Debug, PartialEq, Eq)]
+pub struct Wire {
+    /// The sum of crossing nets over all rows and columns.
+    pub crossing: usize,
+    /// The board's edge count.
+    pub edges: usize,
+}
+
+impl Board {
+    pub fn wire(&self) -> Wire {
+        Wire { crossing: self.crossing_sum(), edges: self.edge_count() }
+    }
+
+    fn crossing_sum(&self) -> usize {
+        let crossing = |cut: Cut| self.nets.iter().filter(|net| Board::crosses(net, cut)).count();
+        self.cuts().into_iter().map(crossing).sum()
+    }
+
+    /// Edges are the sides of cells, and a side that two cells have in common is one edge: it is marked once, at its upper or left end.
+    fn edge_count(&self) -> usize {
+        let mut down_and_right = [[[false; 2]; 32]; 32];
+        for (row, &(left, right)) in self.rows.iter().enumerate() {
+            for column in left..right {
+                down_and_right[row][column] = [true; 2];
+                down_and_right[row][column + 1][0] = true;
+                down_and_right[row + 1][column][1] = true;
+            }
+        }
+        down_and_right.as_flattened().as_flattened().iter().filter(|&&mark| mark).count()
+    }
+
+    /// The most words of a routing, and the fewest that its buffer has to have room for: 1 plus nets plus edges.
+    pub fn word_limit(&self) -> usize {
+        1 + self.nets.len() + self.edge_count()
+    }
+
+    /// How far a list that uses so many edges and has so many words is within the bounds for lists that judging passes: the edges that it uses
+    /// beyond the sum of crossing nets, those that it leaves unused, and the words that it has fewer than the limit. Below zero beyond a bound.
+    pub fn within_bounds(&self, used: u32, words: usize) -> [i64; 3] {
+        let Wire { crossing, edges } = self.wire();
+        let used = used as i64;
+        [used - crossing as i64, edges as i64 - used, self.word_limit() as i64 - words as i64]
     }
 }
 
@@ -545,9 +593,10 @@ pub fn net_word(n: &Net) -> u32 {
 
 // ---------------------------------------------------------------- routing
 
-/// What stands before a routing: room, too many odd vertices, overfull cuts, no paths. None: a routing is owed.
+/// What stands before a routing: room, too many odd vertices, overfull cuts, no paths. None: a routing is owed. A buffer counts as its whole groups
+/// of four bytes.
 pub fn route_refused(board: &Board, buffer_length: usize) -> Option<Refusal> {
-    if buffer_length / 4 < 2049 {
+    if buffer_length / 4 < board.word_limit() {
         return Some(Refusal { number: 31, place: [0, 0] });
     }
     let odd = board.odd_vertices();

@@ -4,20 +4,23 @@
 //!     main SEED PART           part e, g or h alone
 //!     main SEED PART CASE      one case again
 //!
-//! Parts: a, boards true and damaged through routing; b, lists true and damaged through judging; c, random small boards without odd vertices
-//! against the exhaustive router; d, every assignment of nets on small boards against it; e, pairs of lists true and damaged through the
-//! comparison of two routings; f, small boards with odd vertices, by hand and at random, against the exhaustive router; g, lists true and damaged
-//! through drawing; h, boards and lists true and damaged through the program draw.
+//! Parts: a, boards true and damaged through the wire to order and through routing, into buffers just too short, just long enough and longer; b,
+//! lists true and damaged through judging; c, random small boards without odd vertices against the exhaustive router; d, every assignment of nets on
+//! small boards against it; e, pairs of lists true and damaged through the comparison of two routings; f, small boards with odd vertices, by hand
+//! and at random, against the exhaustive router; g, lists true and damaged through drawing; h, boards and lists true and damaged through the program
+//! draw.
 //! In all parts boards come under both rule books, and many have pins that the package has taken. Where a board is read, routing is called once more
 //! under the other book, and without the words of taken pins: the answer and every byte have to be the same, unless the new rule refuses the board.
 //! Whether a board with odd vertices has a routing is decided by trying every way to pair them off. On small boards this way is itself held
 //! against the exhaustive router.
+//! In all parts every list that judging passes is held against the bounds of the wire to order, be it the library's or another maker's.
 //! The first difference ends the run with status 1 and prints seed, part, case and the input's bytes. So does a run whose inputs reach too little.
 
 mod books;
 #[path = "../editor/cidrask.rs"]
 mod cidrask;
 mod exhaustive;
+mod full;
 mod generate;
 mod independent;
 mod odd;
@@ -27,14 +30,16 @@ mod pairs;
 mod prints;
 mod program;
 mod taken;
+mod wire;
 
 use books::{any_bytes, made_bytes, made_kinds, MADE_KINDS};
-use cidrask::{cidrask_alike, cidrask_draw, cidrask_judge, cidrask_route};
+use cidrask::{cidrask_alike, cidrask_draw, cidrask_judge};
 use exhaustive::Answer;
 use generate::*;
 use independent::*;
 use std::collections::BTreeMap;
 use std::time::Instant;
+use wire::{any_buffer, called, print_held, room, Held};
 
 const CASES_A: u64 = 220_000;
 const CASES_B: u64 = 120_000;
@@ -49,6 +54,7 @@ const OTHER_LIST: [u32; 5] = [0x40100001, 0x54000001, 0x40200001, 0x58000001, 0x
 const GUARD: usize = 16;
 const LOOPS: &str = "list with loops laid on";
 const TURNED_TWICE: &str = "lists with a vertex where one net turns twice";
+const EXHAUSTIVE: &str = "list of the exhaustive router";
 
 /// The refusals that reading, routing and judging of bytes can give. 22 is not among them: a number that is on the board
 /// already is not above the last one, and gets 13 before any net is added.
@@ -79,6 +85,12 @@ struct Run {
     /// Lists that passed with a vertex where one net turns twice, and the count of these vertices.
     lists_turned_twice: u64,
     turned_twice: u64,
+    /// The most rows and columns that the nets of a board cross, and the most edges of a board, whose wire was told.
+    most_crossing: usize,
+    most_edges: usize,
+    /// The list that the library handed back last; of its lists, and of others, those that were held against the bounds.
+    own: Vec<u8>,
+    held: [Held; 2],
 }
 
 impl Run {
@@ -158,7 +170,7 @@ impl Run {
         std::process::exit(1)
     }
 
-    // ------------------------------------------------------------ the four calls
+    // ------------------------------------------------------------ the calls
 
     /// Calls routing and compares result, place and every byte. Hands back the routing words, where there are any.
     fn route(&mut self, random: &mut Random, board: &[u8], buffer_length: usize) -> Option<Vec<u8>> {
@@ -167,54 +179,26 @@ impl Run {
             Ok(b) => route_refused(b, buffer_length),
             Err(refusal) => Some(*refusal),
         };
-        let shift = random.below(8);
-        let before = pattern(random.next(), shift + GUARD + buffer_length + GUARD);
-        let mut memory = before.clone();
-        let (start, end) = (shift + GUARD, shift + GUARD + buffer_length);
-        let lent = Lent::new(board, random.below(8));
-        let mut numbers = Numbers::new();
-        let buffer = memory[start..end].as_mut_ptr();
-        let [first, second, _] = numbers.lend();
-        let result = unsafe { cidrask_route(lent.start(), board.len(), buffer, buffer_length, first, second) };
+        let (answer, words) = self.called_as_due(random, board, buffer_length, refused);
         self.boards += 1;
-        let [first, second, third] = numbers.taken();
-        if !lent.unchanged() || !numbers.guarded() || third != UNTOUCHED {
-            self.difference("routing wrote to what it is not lent for writing", board, &[]);
-        }
         if let Ok(b) = &expected {
             self.count_odd(b, refused);
             self.count_taken(b, refused);
+            self.count_buffer(b, buffer_length, refused, &words);
         }
         self.count_book(board, &expected, refused);
+        if let Ok(b) = &expected {
+            self.route_otherwise(random, (board, b), buffer_length, answer, &words);
+        }
         if let Some(r) = refused {
             self.count_refused(&r);
-            if (result, first, second) != (r.number, r.place[0] as u64, r.place[1] as u64) {
-                self.difference(&format!("routing: library {result} at {first} {second}, independent {r:?}"), board, &[]);
-            }
-            if memory != before {
-                self.difference("routing refused, but memory was written to", board, &[]);
-            }
-            if let Ok(b) = &expected {
-                self.route_otherwise(random, (board, b), buffer_length, (result, first, second), &[]);
-            }
             return None;
         }
-        if result != 0 || second != 0 || first == 0 || first > 2049 {
-            self.difference(&format!("routing: library {result} at {first} {second}, independent accepts"), board, &[]);
-        }
-        let count = 4 * first as usize;
-        if memory[..start] != before[..start] || memory[start + count..] != before[start + count..] {
-            self.difference("routing wrote outside its words", board, &memory[start..end]);
-        }
         if let Ok(b) = &expected {
-            self.count_routed(b, first as usize);
+            self.count_routed(b, words.len() / 4);
             if !b.odd_vertices().is_empty() && !b.revised_cuts_hold() {
-                self.difference("routing hands back words where the revised cut test fails", board, &memory[start..start + count]);
+                self.difference("routing hands back words where the revised cut test fails", board, &words);
             }
-        }
-        let words = memory[start..start + count].to_vec();
-        if let Ok(b) = &expected {
-            self.route_otherwise(random, (board, b), buffer_length, (0, first, 0), &words);
         }
         Some(words)
     }
@@ -224,9 +208,9 @@ impl Run {
     fn route_otherwise(&mut self, random: &mut Random, board: (&[u8], &Board), buffer_length: usize, answer: Answered, words: &[u8]) {
         let (bytes, board) = board;
         let mut again = |run: &Run, what: &str, other: &[u8], answer: Answered, words: &[u8]| {
-            let found = routed(random, other, buffer_length, words);
-            if found != Some(answer) {
-                let what = format!("routing: {answer:?} is due {what}, but library {found:?}; None stands for other bytes");
+            let found = called(random, other, buffer_length);
+            if found != Ok((answer, words.to_vec())) {
+                let what = format!("routing: {answer:?} is due {what} and the same words, but library {found:?}");
                 run.difference_in(&what, &[("board", bytes), ("called with", other), ("routing", words)]);
             }
         };
@@ -276,6 +260,7 @@ impl Run {
         }
         let report = expected.ok()?;
         self.count_passed(&report, board, list);
+        board_read.iter().for_each(|b| self.hold_bounds(b, list, report.edges));
         Some(report)
     }
 
@@ -346,6 +331,9 @@ impl Run {
             self.difference(&format!("drawing into {length} bytes: byte {place} is {found}, independent {}", due[at]), board, list);
         }
         self.count_drawn(&board_read, list, length, &expected);
+        if expected.is_ok() {
+            board_read.iter().for_each(|b| self.hold_if_passed(b, list));
+        }
         expected.is_ok().then(|| memory[start..start + count].to_vec())
     }
 
@@ -363,14 +351,16 @@ impl Run {
     fn part_a(&mut self, case: u64) {
         (self.part, self.case) = ('a', case);
         let mut random = Random::of_case(self.seed, 'a', case);
-        let board = if random.one_in(5) { self.made_board(&mut random) } else { self.any_board(&mut random) };
-        let length = match random.below(10) {
-            0 => random.pick(&[0, 1, 3, 4, 8191, 8192, 8195]),
-            1 => random.below(8196),
-            2 => random.pick(&[8197, 8198, 8199, 8200, 8204, 9001]),
-            _ => 8196,
-        };
-        self.route_and_judge(&mut random, &board, length);
+        let bytes = if random.one_in(5) { self.made_board(&mut random) } else { self.any_board(&mut random) };
+        let board = self.wire(&mut random, &bytes);
+        let length = any_buffer(&mut random, board.as_ref());
+        self.route_and_judge(&mut random, &bytes, length);
+        if let Some(board) = board.filter(|_| random.one_in(20)) {
+            self.in_buffers(&mut random, &bytes, &board);
+        }
+        if random.one_in(40) {
+            self.full_board(&mut random);
+        }
     }
 
     /// A board of any kind but those made for an answer.
@@ -397,10 +387,18 @@ impl Run {
         let mut random = Random::of_case(self.seed, 'b', case);
         let size = size(&mut random);
         let board = true_board(&mut random, size);
-        let bytes = bytes_of(&board.words());
-        let mut words = None;
-        if random.one_in(3) {
-            words = (0..4).find_map(|_| trails(&mut random, &board)).map(|paths| routing_words(&board, &paths));
+        self.lists_of(&mut random, &board, None);
+        if random.one_in(40) {
+            let (board, list) = self.full_list(&mut random);
+            self.lists_of(&mut random, &board, Some(list));
+        }
+    }
+
+    /// Lists true and damaged for a board; a true one may be given.
+    fn lists_of(&mut self, random: &mut Random, board: &Board, given: Option<Vec<u32>>) {
+        let (bytes, mut words) = (bytes_of(&board.words()), given);
+        if words.is_none() && random.one_in(3) {
+            words = (0..4).find_map(|_| trails(random, board)).map(|paths| routing_words(board, &paths));
             if let Some(list) = &words {
                 self.count("routing from random trails");
                 if self.judge(&bytes, &bytes_of(list)).is_none() {
@@ -409,28 +407,28 @@ impl Run {
             }
         }
         if words.is_none() {
-            words = self.route_and_judge(&mut random, &bytes, 8196).map(|list| words_of(&list).unwrap());
+            words = self.route_and_judge(random, &bytes, 8196).map(|list| words_of(&list).unwrap());
         }
         if random.one_in(3) {
-            words = words.map(|list| self.with_loops(&mut random, &board, list));
+            words = words.map(|list| self.with_loops(random, board, list));
         }
         let words = words.unwrap_or_else(|| {
             // No routing: straight runs that need not be on the board.
             let paths: Vec<Vec<usize>> = board.nets.iter().map(toward).collect();
-            routing_words(&board, &paths)
+            routing_words(board, &paths)
         });
         for _ in 0..3 {
             let kind = random.below(LIST_KINDS.len());
-            let list = list_bytes(&mut random, kind, &words, &OTHER_LIST);
+            let list = list_bytes(random, kind, &words, &OTHER_LIST);
             self.count(LIST_KINDS[kind]);
             self.judge(&bytes, &list);
         }
         if random.one_in(4) {
-            self.judge_under_other_book(&board, &bytes_of(&words));
+            self.judge_under_other_book(board, &bytes_of(&words));
         }
         if random.one_in(30) {
             // A damaged board with a list: the board is read first.
-            let damaged = any_bytes(&mut random);
+            let damaged = any_bytes(random);
             let mut list = bytes_of(&words);
             list.truncate(list.len() - random.below(3));
             self.count("list for a damaged board");
@@ -510,13 +508,18 @@ impl Run {
         if paths.is_some_and(|paths| paths != board.paths_exist()) {
             self.difference(&format!("the exhaustive router finds paths: {paths:?}, but pairing off the odd vertices tells otherwise"), &bytes, &[]);
         }
-        let routed = self.route_and_judge(random, &bytes, 8196).is_some();
+        self.wire(random, &bytes);
+        let length = room(random, board);
+        let routed = self.route_and_judge(random, &bytes, length).is_some();
         if paths.is_some_and(|paths| paths != routed) {
             self.difference(&format!("routed: {routed}, but the exhaustive router finds paths: {paths:?}"), &bytes, &[]);
         }
         found.count(board, paths);
         if let Answer::Paths(paths) = answer {
             let list = bytes_of(&routing_words(board, &paths));
+            // Another maker's list, be it the same as the library's.
+            self.own.clear();
+            self.count(EXHAUSTIVE);
             if self.judge(&bytes, &list).is_none() {
                 self.difference("both judges refuse the exhaustive router's paths", &bytes, &list);
             }
@@ -659,20 +662,6 @@ impl Run {
 
 /// A call's number and the two numbers that it tells.
 type Answered = (u32, u64, u64);
-
-/// Calls routing. Answers with what it tells, if the buffer then has these words at its start and is otherwise untouched, as is all else.
-fn routed(random: &mut Random, board: &[u8], buffer_length: usize, words: &[u8]) -> Option<Answered> {
-    let mut due = pattern(random.next(), GUARD + buffer_length + GUARD);
-    let mut memory = due.clone();
-    due[GUARD..GUARD + words.len()].copy_from_slice(words);
-    let lent = Lent::new(board, random.below(8));
-    let mut numbers = Numbers::new();
-    let buffer = memory[GUARD..GUARD + buffer_length].as_mut_ptr();
-    let [first, second, _] = numbers.lend();
-    let result = unsafe { cidrask_route(lent.start(), board.len(), buffer, buffer_length, first, second) };
-    let [first, second, third] = numbers.taken();
-    (memory == due && lent.unchanged() && numbers.guarded() && third == UNTOUCHED).then_some((result, first, second))
-}
 
 /// What the exhaustive router decided of small boards.
 #[derive(Default)]
@@ -944,6 +933,7 @@ fn reached(run: &Run) -> Vec<(String, u64, u64)> {
     all.extend(taken_reached(run));
     all.extend(books_reached(run));
     all.extend(odd::reached(run));
+    all.extend(wire::reached(run));
     all
 }
 
@@ -1003,15 +993,14 @@ fn whole(run: &mut Run) {
     println!("part b: {CASES_B} boards, each with 3 lists or more; {:.1} s", start.elapsed().as_secs_f64());
     print_run(run);
     end_if_short("parts a and b reach", reached(run));
-    let compared = pairs::whole(run.seed);
-    pages::whole(run.seed);
-    prints::whole(run.seed);
+    let (compared, drawn, printed) = (pairs::whole(run.seed), pages::whole(run.seed), prints::whole(run.seed));
     let Ok(other) = small.join() else {
         println!("FAILED: the small boards were broken off");
         std::process::exit(1);
     };
     odd::print_34([run, &other]);
     print_turned_twice("parts a to f", &[run, &compared, &other]);
+    print_held(&[run, &compared, &drawn, &printed, &other]);
     println!("no difference");
 }
 
@@ -1023,11 +1012,11 @@ fn usage() -> ! {
 /// All cases of a part that stands alone.
 fn whole_part(seed: u64, part: &str) {
     match part {
-        "e" => drop(pairs::whole(seed)),
+        "e" => pairs::whole(seed),
         "g" => pages::whole(seed),
         "h" => prints::whole(seed),
         _ => usage(),
-    }
+    };
     println!("no difference in this part");
 }
 

@@ -3,7 +3,9 @@
 
 use crate::generate::*;
 use crate::independent::*;
-use crate::{answered, end_if_short, print_small, taken_and, under, Found, Run, CASES_F, OTHER_BOOK, STRIPPED, TAKEN_ALL, TAKEN_NET_BESIDE};
+use crate::wire::{buffers_of_small, held_reached};
+use crate::{answered, end_if_short, print_small, taken_and, under};
+use crate::{Found, Run, CASES_F, EXHAUSTIVE, OTHER_BOOK, STRIPPED, TAKEN_ALL, TAKEN_NET_BESIDE};
 use std::time::Instant;
 
 // ---------------------------------------------------------------- boards by hand
@@ -181,10 +183,13 @@ fn reached_by_small(run: &Run) -> Vec<(String, u64, u64)> {
     due.extend([(odd_and(12, 0), 300), (odd_and(12, 34), 120)]);
     due.extend([(STRIPPED, 77_000), (TAKEN_ALL, 40_000), (TAKEN_NET_BESIDE, 30_000)].map(|(what, least)| (what.to_string(), least)));
     due.extend([(0, 26_000), (33, 49_000), (34, 940)].map(|(number, least)| (taken_and(number), least)));
-    due.push((OTHER_BOOK.to_string(), 18_000));
+    due.extend([(OTHER_BOOK.to_string(), 18_000), (EXHAUSTIVE.to_string(), 73_500)]);
     let answers = [(0, 13_000), (33, 1_100), (34, 1_400)];
     due.extend(BOOKS.into_iter().flat_map(|book| answers.map(|(number, least)| (under(book, &answered(number)), least))));
-    seen(run, due)
+    due.extend(buffers_of_small());
+    let mut reached = seen(run, due);
+    reached.extend(held_reached(run, [[73_500, 11_000, 11_000, 70], [73_500, 29_500, 36_000, 850]]));
+    reached
 }
 
 /// All cases, and what they and the small boards before them reached.

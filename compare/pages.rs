@@ -5,6 +5,7 @@ use crate::generate::*;
 use crate::independent::*;
 use crate::page::{page_length, read_off, used_edges, ROOM};
 use crate::pairs::{any_of, any_state, backwards, in_state, other_paths, Paths, TRUE_PAIRS};
+use crate::wire::held_reached;
 use crate::{end_if_short, under, Run, CASES_G, LOOPS, OTHER_LIST, PAGES, TAKEN_DRAWN};
 use std::collections::{BTreeSet, HashSet};
 use std::time::Instant;
@@ -340,15 +341,17 @@ fn reached(run: &Run) -> Vec<(String, u64, u64)> {
     let mut reached: Vec<_> = due.into_iter().map(|(what, least)| (what.clone(), run.counted(&what), least)).collect();
     let others = [("calls of drawing", run.drawn, 200_000), ("words of the longest list drawn", run.most_words as u64, 1_200)];
     reached.extend(others.map(|(what, seen, least)| (what.to_string(), seen, least)));
+    reached.extend(held_reached(run, [[5_500, 0, 0, 0], [95_000, 40_000, 5_900, 1_000]]));
     reached
 }
 
-/// All cases, and what they reached.
-pub fn whole(seed: u64) {
+/// All cases, and what they reached. Answers with the run.
+pub fn whole(seed: u64) -> Run {
     let (mut run, start) = (Run { seed, ..Run::default() }, Instant::now());
     (0..CASES_G).for_each(|case| run.part_g(case));
     println!("part g: {CASES_G} boards, {} calls of drawing; {:.1} s", run.drawn, start.elapsed().as_secs_f64());
     let reached = reached(&run);
     reached.iter().for_each(|(what, seen, _)| println!("{seen:8} {what}"));
     end_if_short("part g reaches", reached);
+    run
 }

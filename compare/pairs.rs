@@ -3,6 +3,7 @@
 use crate::books::any_bytes;
 use crate::generate::*;
 use crate::independent::*;
+use crate::wire::held_reached;
 use crate::{end_if_short, under, Run, CASES_E, COMPARED, OTHER_LIST, TAKEN_COMPARED, TURNED_TWICE};
 use std::collections::{HashMap, HashSet};
 use std::time::Instant;
@@ -278,6 +279,7 @@ impl Run {
 
     /// Counts what a pair of lists for a board that is accepted reaches.
     pub fn count_pair(&mut self, board: &Board, one: &[u8], two: &[u8], answer: Result<bool, Refusal>) {
+        [one, two].iter().for_each(|list| self.hold_if_passed(board, list));
         match answer {
             Ok(alike) => self.count_answer(board, one, two, alike),
             Err(refusal) => {
@@ -348,6 +350,7 @@ fn reached(run: &Run) -> Vec<(String, u64, u64)> {
     LISTS.iter().for_each(|list| due.extend([10, 41, 42, 43, 44, 45, 46].map(|number| (refused_by(list, number), 500))));
     let mut reached: Vec<_> = due.into_iter().map(|(what, least)| (what.clone(), run.counted(&what), least)).collect();
     reached.push((TURNED_TWICE.to_string(), run.lists_turned_twice, 4_300));
+    reached.extend(held_reached(run, [[15_000, 0, 0, 0], [190_000, 90_000, 11_000, 2_700]]));
     reached
 }
 

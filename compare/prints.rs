@@ -6,6 +6,7 @@ use crate::independent::*;
 use crate::page::{drawn_from, parted, printed, LONGEST};
 use crate::pages::{OF_BOARDS, OF_LISTS};
 use crate::pairs::{any_state, in_state};
+use crate::wire::held_reached;
 use crate::{end_if_short, program, under, Run, CASES_H};
 use std::time::Instant;
 
@@ -102,6 +103,8 @@ impl Run {
             let what = format!("the program ended with {status}\n---- {PROGRAM}\n{found}\n---- independent\n{due}\n----");
             self.difference_in(&what, &[("input", input)]);
         }
+        let (board, list) = parted(&input[..input.len().min(LONGEST)]);
+        read(board).iter().for_each(|board| self.hold_if_passed(board, list));
         let what = drawn_from(input).map_or_else(|refusal| refused_by(refusal.number), |_| PAGE.to_string());
         self.count(&what);
         if let Some(book) = book_told(parted(input).0) {
@@ -131,16 +134,19 @@ fn reached(run: &Run) -> Vec<(String, u64, u64)> {
         due.extend([12, 13, 15, 38, 25, 41, 42, 43].map(|number| (under(book, &refused_by(number)), 3)));
         due.push((under(book, PAGE), 70));
     }
-    due.extend([(TAKEN_ROUTING, 45), (PAGE, 175), (TOO_LONG, 24)].map(|(what, least)| (what.to_string(), least)));
-    due.into_iter().map(|(what, least)| (what.clone(), run.counted(&what), least)).collect()
+    due.extend([(TAKEN_ROUTING, 45), (PAGE, 175), (TOO_LONG, 23)].map(|(what, least)| (what.to_string(), least)));
+    let mut reached: Vec<_> = due.into_iter().map(|(what, least)| (what.clone(), run.counted(&what), least)).collect();
+    reached.extend(held_reached(run, [[100, 0, 0, 0], [280, 75, 15, 1]]));
+    reached
 }
 
-/// All cases, and what they reached.
-pub fn whole(seed: u64) {
+/// All cases, and what they reached. Answers with the run.
+pub fn whole(seed: u64) -> Run {
     let (mut run, start) = (Run { seed, ..Run::default() }, Instant::now());
     (0..CASES_H).for_each(|case| run.part_h(case));
     println!("part h: {CASES_H} inputs of the program draw; {:.1} s", start.elapsed().as_secs_f64());
     let reached = reached(&run);
     reached.iter().for_each(|(what, seen, _)| println!("{seen:8} {what}"));
     end_if_short("part h reaches", reached);
+    run
 }

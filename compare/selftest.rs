@@ -1,11 +1,13 @@
-//! The independent side tried on its own: the ring and the boards a to i of the requirements, taken pins and rule books by hand and on boards made
-//! for a refusal, reports by hand and against another way to work them out, pairs of routings whose answer is known, pages drawn by hand and against
+//! The independent side tried on its own: the ring and the boards a to i of the requirements, the wire to order by hand and against other ways to
+//! work it out, the room that routing asks for, the bounds on lists of several makers, taken pins and rule books by hand and on boards made for a
+//! refusal, reports by hand and against another way to work them out, pairs of routings whose answer is known, pages drawn by hand and against
 //! another way to draw them, the three readings of convexity against each other, the exhaustive router on boards whose answer is known, odd vertices
 //! and their pairings, and the revised cut test on boards worked out by hand and against other ways to work it out.
 
 #[allow(dead_code)]
 mod books;
 mod exhaustive;
+mod full;
 #[allow(dead_code)]
 mod generate;
 mod independent;
@@ -14,10 +16,11 @@ mod taken;
 
 use books::{made_bytes, made_kinds, MADE_KINDS};
 use exhaustive::{route, Answer};
+use full::{always_filled, filled, turning};
 use generate::{any_bare, convex_rows, free_pins, loop_laid_on, mirrored, odd_nets, stepped_rows, take_pins, trails, true_board, turned, Care, Random};
 use independent::*;
 use page::{draw, page_length, printed, read_off, used_edges, LONGEST, ROOM};
-use std::collections::BTreeMap;
+use std::collections::{BTreeMap, BTreeSet};
 
 const RING: [u32; 6] = [0x10000001, 0x20100001, 0x20200421, 0x20308420, 0x20408000, 0xF0000104];
 const RING_ROUTED: [u32; 9] =
@@ -61,7 +64,6 @@ fn ring_and_boards() {
     assert_eq!(a.words(), RING);
     assert_eq!(judge(&a, &bytes_of(&RING_ROUTED)), Ok(report([4, 0, 0], 0, 0)));
     assert_eq!(route_refused(&a, 8196), None);
-    assert_eq!(route_refused(&a, 8195), Some(refused(31, 0)));
     let steps = [vec![RIGHT], vec![DOWN], vec![LEFT], vec![UP]];
     assert_eq!(routing_words(&a, &steps), RING_ROUTED);
     // b
@@ -331,6 +333,187 @@ fn refusals_of_pairs() {
         lists.iter().for_each(|(_, _, other)| assert_eq!(alike(&ring, list, other), of_list(0)));
     }
     assert_eq!([alike(&ring, uneven, &passes), alike(&ring, &passes, uneven), alike(&ring, uneven, uneven)], [ten; 3]);
+}
+
+// ---------------------------------------------------------------- wire to order
+
+/// The sum of crossing nets and the edge count.
+fn wire(board: &Board) -> (usize, usize) {
+    let Wire { crossing, edges } = board.wire();
+    (crossing, edges)
+}
+
+fn wire_by_hand() {
+    // The ring: nets 2 and 4 cross row 0, nets 1 and 3 column 0.
+    assert_eq!(wire(&read(&bytes_of(&RING)).unwrap()), (4, 4));
+    // b and c: each net crosses the row and the column.
+    let diagonal = [(1, (0, 0), (1, 1)), (2, (0, 0), (1, 1)), (3, (0, 1), (1, 0)), (4, (0, 1), (1, 0))];
+    assert_eq!([1, 2, 3, 4].map(|nets| wire(&with_nets(&[(0, 1)], &diagonal[..nets]))), [(2, 4), (4, 4), (6, 4), (8, 4)]);
+    // d and e: three edges down, two and two across.
+    assert_eq!(wire(&with_nets(&[(0, 2)], &[(1, (0, 1), (1, 1))])), (1, 7));
+    assert_eq!(wire(&Board::bare(&[(0, 2)])), (0, 7));
+    // h: its five cells have 20 sides, and four of them are common to two.
+    let h = [(1, 2), (0, 3), (1, 2)];
+    assert_eq!(wire(&Board::bare(&h)), (0, 16));
+    assert_eq!(wire(&with_nets(&h, &[(1, (1, 0), (2, 3)), (2, (3, 1), (0, 2))])), (8, 16));
+    // i: row 0 and column 0 are crossed by net 1, row 1 and column 1 by net 2.
+    assert_eq!(wire(&with_nets(&[(0, 2), (0, 2)], &[(1, (0, 1), (1, 0)), (2, (1, 2), (2, 1))])), (4, 12));
+    // The board of request §4: 2, 2, 4, 2 and 2 nets cross rows 0 to 4, and columns 0 to 4. It has 2, 4, 6, 4 and 2 edges down, and as many across.
+    assert_eq!(wire(&bare_pins_board()), (24, 36));
+    // Both ends on one line, or on one column, at the right edge of the plane; the same net the other way.
+    let corner = [(29, 31), (29, 31)];
+    assert_eq!(wire(&with_nets(&corner, &[(1, (0, 29), (0, 31))])), (2, 12));
+    assert_eq!(wire(&with_nets(&corner, &[(1, (2, 31), (0, 31))])), (2, 12));
+    assert_eq!(wire(&with_nets(&corner, &[(1, (2, 31), (0, 29)), (9, (0, 29), (2, 31))])), (8, 12));
+    // The largest board: 31 rows of 32 edges and 31 columns of 32. A net along its first line, and one across all rows and columns.
+    let largest = [(0, 31); 31];
+    assert_eq!(wire(&Board::bare(&largest)), (0, 1_984));
+    assert_eq!(wire(&with_nets(&largest, &[(1, (0, 0), (0, 31)), (64, (31, 0), (0, 31))])), (93, 1_984));
+    // One row, or one column, of so many cells.
+    (1..32).for_each(|cells| assert_eq!(wire(&Board::bare(&[(31 - cells, 31)])), (0, 3 * cells + 1)));
+    (1..32).for_each(|cells| assert_eq!(wire(&Board::bare(&vec![(4, 5); cells])), (0, 3 * cells + 1)));
+    // Taken pins and the book play no part.
+    let taken = read(&bytes_of(&TAKEN)).unwrap();
+    assert_eq!([wire(&taken), wire(&read(&without_taken(&bytes_of(&TAKEN))).unwrap())], [(3, 10); 2]);
+    assert_eq!(wire(&read(&bytes_of(&TWO_SIDES)).unwrap()), (2, 4));
+}
+
+/// The room that routing asks for, in bytes.
+fn room_by_hand() {
+    let short = Some(refused(31, 0));
+    // One word short, with three bytes more too; long enough, with three bytes more and with a word more.
+    let answers = |board: &Board, words: usize| [-4, -1, 0, 3, 4].map(|bytes| route_refused(board, (4 * words as isize + bytes) as usize));
+    // The ring's routing has 9 words; one cell without nets, for whose routing one would do, asks for 5.
+    let ring = read(&bytes_of(&RING)).unwrap();
+    assert_eq!((ring.word_limit(), answers(&ring, 9)), (RING_ROUTED.len(), [short, short, None, None, None]));
+    let cell = Board::bare(&[(0, 1)]);
+    assert_eq!((cell.word_limit(), answers(&cell, 5)), (5, [short, short, None, None, None]));
+    assert_eq!([0, 1, 3, 4, 16].map(|length| route_refused(&cell, length)), [short; 5]);
+    // The numbers of the nets play no part, their count does.
+    assert_eq!(with_nets(&[(0, 1)], &[(64, (0, 0), (0, 1))]).word_limit(), 6);
+    // 31 comes before 32, 33 and 34: 14 odd vertices on 25 edges; board c; the board of request §4 with 6 nets and 36 edges.
+    let odd = Some(Refusal { number: 32, place: [0, 1] });
+    assert_eq!(answers(&Board::bare(&[(0, 8)]), 26), [short, short, odd, odd, odd]);
+    let c = with_nets(&[(0, 1)], &[(1, (0, 0), (1, 1)), (2, (0, 0), (1, 1)), (3, (0, 1), (1, 0)), (4, (0, 1), (1, 0))]);
+    let overfull = Some(refused(33, 0));
+    assert_eq!(answers(&c, 9), [short, short, overfull, overfull, overfull]);
+    let none = Some(refused(34, 0));
+    assert_eq!(answers(&bare_pins_board(), 43), [short, short, none, none, none]);
+    // 2,049 words are enough for every board, and some ask for as many.
+    let largest = turning_on_largest();
+    assert_eq!((largest.nets.len(), largest.word_limit()), (64, 2_049));
+    assert_eq!(answers(&largest, 2_049), [short, short, None, None, None]);
+}
+
+/// The largest board with 64 nets.
+fn turning_on_largest() -> Board {
+    let mut boards = (0..).map(|case| turning(&mut Random::of_case(7, 'l', case)).0);
+    boards.find(|board| board.rows == [(0, 31); 31] && board.nets.len() == 64).unwrap()
+}
+
+/// Edges beyond the sum, edges unused and words fewer than the limit, of these paths for these nets.
+fn bounds(rows: &[(usize, usize)], nets: &[Ends], paths: &[&[usize]]) -> [i64; 3] {
+    let board = with_nets(rows, nets);
+    let words = routing_words(&board, &paths.iter().map(|path| path.to_vec()).collect::<Vec<_>>());
+    let report = judge(&board, &bytes_of(&words)).unwrap();
+    board.within_bounds(report.edges, words.len())
+}
+
+fn bounds_by_hand() {
+    let cell = [(0, 1)];
+    // The ring, and one net of it along one side or round the other three.
+    let ring = [(1, (0, 0), (0, 1)), (2, (0, 1), (1, 1)), (3, (1, 1), (1, 0)), (4, (1, 0), (0, 0))];
+    assert_eq!(bounds(&cell, &ring, &[&[RIGHT], &[DOWN], &[LEFT], &[UP]]), [0, 0, 0]);
+    assert_eq!(bounds(&cell, &ring[..1], &[&[RIGHT]]), [0, 3, 3]);
+    assert_eq!(bounds(&cell, &ring[..1], &[&[DOWN, RIGHT, UP]]), [2, 1, 1]);
+    // Two nets along one side: one of them goes round, and no edge is left.
+    assert_eq!(bounds(&cell, &[(1, (0, 0), (0, 1)), (2, (0, 0), (0, 1))], &[&[RIGHT], &[DOWN, RIGHT, UP]]), [2, 0, 0]);
+    // Board b, and no nets.
+    assert_eq!(bounds(&cell, &[(1, (0, 0), (1, 1)), (2, (0, 0), (1, 1))], &[&[RIGHT, DOWN], &[DOWN, RIGHT]]), [0, 0, 0]);
+    assert_eq!(bounds(&cell, &[], &[]), [0, 4, 4]);
+    // A run of two is one word; a loop uses edges beyond the sum.
+    assert_eq!(bounds(&[(0, 2)], &[(1, (0, 0), (0, 2))], &[&[RIGHT, RIGHT]]), [0, 5, 6]);
+    assert_eq!(bounds(&[(0, 2)], &[(1, (0, 0), (0, 1))], &[&[RIGHT, DOWN, RIGHT, UP, LEFT]]), [4, 2, 2]);
+    // Board i.
+    assert_eq!(bounds(&[(0, 2), (0, 2)], &[(1, (0, 1), (1, 0)), (2, (1, 2), (2, 1))], &[&[DOWN, LEFT], &[LEFT, DOWN]]), [0, 8, 8]);
+    // Beyond each of the bounds by one.
+    let board = with_nets(&cell, &ring);
+    assert_eq!([board.within_bounds(3, 9), board.within_bounds(5, 9), board.within_bounds(4, 10)], [[-1, 1, 0], [1, -1, 0], [0, 0, -1]]);
+}
+
+/// Random boards: the sum by the nets' distances, the edges by their ends, by rows and columns, and by vertices and cells. Answers with how many.
+fn wire_other_ways() -> usize {
+    let boards = 6_000;
+    for case in 0..boards {
+        let mut random = Random::of_case(7, 'w', case);
+        let size = random.pick(&[2, 4, 8, 31]);
+        let board = true_board(&mut random, (size, size));
+        let distance = |net: &Net| net.first.0.abs_diff(net.second.0) + net.first.1.abs_diff(net.second.1);
+        let edges: BTreeSet<Edge> = board.edges().into_iter().collect();
+        let degrees: usize = board.vertices().iter().map(|&v| board.degree(v)).sum();
+        let by_cuts: i32 = board.cuts().iter().map(|&cut| board.cut_edges(cut)).sum();
+        let cells: usize = board.rows.iter().map(|row| row.1 - row.0).sum();
+        assert_eq!(wire(&board), (board.nets.iter().map(distance).sum(), edges.len()));
+        // Every edge has two ends. Vertices and cells together are one more than the edges.
+        assert_eq!([degrees, 2 * by_cuts as usize, 2 * (board.vertices().len() + cells - 1)], [2 * edges.len(); 3]);
+        assert!(board.word_limit() <= 2_049);
+        assert_eq!(wire(&mirrored(&board)), wire(&board));
+        assert_eq!(wire(&turned(&board)), wire(&board));
+    }
+    boards as usize
+}
+
+/// The bounds hold of trails, of the exhaustive router's paths, and of paths along every edge that turn at every vertex. Where every routing is of
+/// the last kind, the exhaustive router's is. Answers with how many lists.
+fn bounds_of_lists() -> usize {
+    let (mut lists, mut seen) = (0, [0; 3]);
+    let mut hold = |board: &Board, paths: &[Vec<usize>]| {
+        let words = routing_words(board, paths);
+        let report = judge(board, &bytes_of(&words)).unwrap();
+        let left = board.within_bounds(report.edges, words.len());
+        assert!(left.iter().all(|&left| left >= 0), "{left:?}");
+        // As many words as can be: every edge is used, and every run has one.
+        assert_eq!(left[2] == 0, left[1] == 0 && steps_of(&words).iter().all(|path| path.windows(2).all(|two| two[0] != two[1])));
+        lists += 1;
+        seen.iter_mut().zip(left).for_each(|(seen, left)| *seen += (left == 0) as usize);
+        left
+    };
+    for case in 0..4_000 {
+        let mut random = Random::of_case(7, 'n', case);
+        let size = random.pick(&[1, 2, 3, 6]);
+        let board = true_board(&mut random, (size, size));
+        if let Some(paths) = trails(&mut random, &board) {
+            hold(&board, &loop_laid_on(&mut random, &board, &paths).unwrap_or(paths));
+        }
+        if let (1..=2, Answer::Paths(paths)) = (size, route(&board, 20_000)) {
+            hold(&board, &paths);
+        }
+        if case % 10 == 0 {
+            let (board, paths) = turning(&mut random);
+            assert_eq!(read(&bytes_of(&board.words())).as_ref(), Ok(&board));
+            assert!(board.odd_vertices().is_empty());
+            assert_eq!(hold(&board, &paths)[1..], [0, 0]);
+            let board = filled(&mut random);
+            assert_eq!(read(&bytes_of(&board.words())).as_ref(), Ok(&board));
+            assert!(matches!(route(&board, u64::MAX), Answer::Paths(paths) if hold(&board, &paths) == [0, 0, 0]));
+        }
+    }
+    assert!(lists > 2_500 && seen.iter().all(|&count| count > 800), "{lists} {seen:?}");
+    lists
+}
+
+/// Whether every routing has as many words as can be.
+fn always_filled_by_hand() {
+    let cell = |ends: &[Ends]| always_filled(&with_nets(&[(0, 1)], ends));
+    assert!(always_filled(&read(&bytes_of(&RING)).unwrap()));
+    assert!(cell(&[(1, (0, 0), (1, 1)), (2, (0, 0), (1, 1))]));
+    assert!(cell(&[(1, (0, 0), (1, 1)), (2, (0, 0), (1, 0)), (3, (1, 0), (1, 1))]));
+    assert!(!cell(&[(1, (0, 0), (1, 1))]));
+    // Right, down, right is left for net 1. Then nets 1 and 2 that go straight along the lines.
+    let sides = [(2, (0, 1), (0, 2)), (3, (0, 2), (1, 2)), (4, (1, 0), (1, 1)), (5, (0, 0), (1, 0))];
+    let row = |nets: &[Ends]| always_filled(&with_nets(&[(0, 2)], nets));
+    assert!(row(&[&[(1, (0, 0), (1, 2))], &sides[..]].concat()));
+    assert!(!row(&[(1, (0, 0), (0, 2)), (2, (1, 0), (1, 2)), (3, (0, 0), (1, 0)), (4, (0, 1), (1, 1)), (5, (0, 2), (1, 2))]));
 }
 
 // ---------------------------------------------------------------- taken pins
@@ -637,7 +820,7 @@ fn the_same_under_both_books() {
     // Two sides of the ring: all four vertices are odd, and a routing exists.
     let sides = read(&bytes_of(&TWO_SIDES)).unwrap();
     assert_eq!(sides.odd_vertices(), [(0, 0), (0, 1), (1, 0), (1, 1)]);
-    assert_eq!([route_refused(&sides, 8196), route_refused(&sides, 8195)], [None, Some(refused(31, 0))]);
+    assert_eq!([route_refused(&sides, 8196), route_refused(&sides, 28), route_refused(&sides, 27)], [None, None, Some(refused(31, 0))]);
     assert!(routes(&sides) && routes(&sides.clone().under(Book::Old)));
     let list = bytes_of(&[0x40100001, 0x54000001, 0x40300001, 0x5C000001, 0xE0000002]);
     assert_eq!(judge(&sides, &list), Ok(report([2, 0, 0], 0, 0)));
@@ -862,7 +1045,8 @@ fn odd_vertices() {
     assert_eq!(route_refused(&bare(7), 8196), None);
     assert_eq!(bare(8).odd_vertices().len(), 14);
     assert_eq!(route_refused(&bare(8), 8196), Some(Refusal { number: 32, place: [0, 1] }));
-    assert_eq!(route_refused(&bare(8), 8195), Some(refused(31, 0)));
+    assert_eq!(route_refused(&bare(8), 4 * 26), Some(Refusal { number: 32, place: [0, 1] }));
+    assert_eq!(route_refused(&bare(8), 4 * 26 - 1), Some(refused(31, 0)));
     // A terminal at a vertex with three edges, one of two at a corner.
     let one = with_nets(&[(0, 2)], &[(1, (0, 1), (0, 2))]);
     assert_eq!(one.odd_vertices(), [(0, 2), (1, 1)]);
@@ -1029,6 +1213,11 @@ fn main() {
     turns_of_two_nets();
     let (lists, twice) = reports_on_trails();
     refusals();
+    wire_by_hand();
+    room_by_hand();
+    bounds_by_hand();
+    always_filled_by_hand();
+    let (wires, bounds) = (wire_other_ways(), bounds_of_lists());
     pins_left();
     taken_ill_made_or_out_of_order();
     taken_too_many();
@@ -1052,6 +1241,7 @@ fn main() {
     let odd = odd_boards();
     let boards = convexity();
     println!("self test: the ring, boards a to i, the refusals, taken pins and books by hand and on {made} boards made for an answer,");
+    println!("the wire to order by hand and on {wires} boards in other ways, its bounds by hand and on {bounds} lists;");
     println!("taken pins on {taken} others and books on {both}; pairs of routings; reports by hand and on {lists} lists, {twice} of them");
     println!("with a vertex where one net turns twice; pages by hand and {pages} drawn two ways; odd vertices, pairings and the revised cut test");
     println!("by hand and on {odd} boards; convexity on {boards} boards three ways: passed");

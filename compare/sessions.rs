@@ -4,8 +4,9 @@
 //!     sessions SEED s CASE     one case again
 //!
 //! The call paths asks for a routing. Which one is handed back is left open, so its words are judged for the nets that the calls before leave,
-//! returns to nets kept under a name among them. After the calls the nets, the pile, what each name holds and the book are compared. Rows, taken pins
-//! and books come in any order, and each of them starts the session afresh; a move brings the session under the new rule with its nets.
+//! returns to nets kept under a name among them. The call wire tells how much wire these nets take, and changes nothing. After the calls the nets,
+//! the pile, what each name holds and the book are compared. Rows, taken pins and books come in any order, and each of them starts the session
+//! afresh; a move brings the session under the new rule with its nets.
 //! The first difference ends the run with status 1 and prints seed, case, the text and both outputs. So does a run whose texts reach too little.
 //! With SESSIONS_COUNTS set in the environment, all that was reached is printed with its count.
 
@@ -15,12 +16,12 @@ mod independent;
 mod program;
 
 use generate::{any_book, convex_rows, free_pins, Random};
-use independent::{bytes_of, judge, route_refused, Board, Book, Net, Vertex, BOOKS};
+use independent::{bytes_of, judge, route_refused, Board, Book, Net, Vertex, Wire, BOOKS};
 use std::collections::{BTreeMap, VecDeque};
 use std::time::Instant;
 
 const PROGRAM: &str = "target/bin/replay";
-const CASES: u64 = 4_500;
+const CASES: u64 = 4_800;
 /// The longest text that the program reads.
 const MOST_BYTES: usize = 65_536;
 /// The most changes on a pile.
@@ -60,6 +61,9 @@ struct Machine {
     too_few_by_rule: bool,
     /// How many changes full piles have lost.
     lost: u64,
+    /// The last call, or the last line that told the board; the sum that wire told last, since the session was started afresh.
+    last: &'static str,
+    told: Option<usize>,
     output: String,
     /// The boards whose routings the output has, in order.
     routed: Vec<Board>,
@@ -236,6 +240,8 @@ impl Machine {
             wrongly_taken: false,
             too_few_by_rule: false,
             lost: 0,
+            last: "",
+            told: None,
             output: String::new(),
             routed: Vec::new(),
             counts: Counts::new(),
@@ -282,6 +288,7 @@ impl Machine {
         self.pile.clear();
         self.names = Default::default();
         self.flaw = None;
+        self.told = None;
     }
 
     /// 20 where the session is not sound. From a fresh session on, calls keep nets, pile and names sound (see `lifts`), so the board decides.
@@ -397,6 +404,12 @@ impl Machine {
         Ok(())
     }
 
+    /// The sum of crossing nets over all rows and columns, and the board's edge count. Nothing changes.
+    fn wire(&mut self) -> Result<Wire, Refused> {
+        self.unsound()?;
+        Ok(self.board.wire())
+    }
+
     /// The bare board with these nets added one by one, where each of them is accepted.
     fn with_all(&self, nets: &[Net]) -> Option<Board> {
         let mut board = Board { nets: Vec::new(), ..self.board.clone() };
@@ -431,7 +444,7 @@ impl Machine {
 // ---------------------------------------------------------------- the text and its answers
 
 /// The words that tell a call.
-const CALLS: [&str; 11] = ["row", "add", "adds", "withdraw", "back", "paths", "keep", "return", "taken", "book", "move"];
+const CALLS: [&str; 12] = ["row", "add", "adds", "withdraw", "back", "paths", "keep", "return", "taken", "book", "move", "wire"];
 /// Those of them that tell the board and have no answer.
 const OF_BOARDS: [&str; 3] = ["row", "taken", "book"];
 
@@ -467,10 +480,10 @@ impl Machine {
     /// One line of the text: its first word, whole, tells the call; other lines are passed over.
     fn line(&mut self, line: &str) {
         let mut words = line.split(' ').filter(|word| !word.is_empty());
-        let call = words.next().unwrap_or("");
-        if !CALLS.contains(&call) {
-            return self.count_passed_over(call);
-        }
+        let word = words.next().unwrap_or("");
+        let Some(&call) = CALLS.iter().find(|&&call| call == word) else {
+            return self.count_passed_over(word);
+        };
         let numbers: Vec<usize> = words.map(number).collect();
         if !OF_BOARDS.contains(&call) {
             self.count_call();
@@ -485,11 +498,14 @@ impl Machine {
             "adds" => self.list(&numbers),
             "paths" => self.paths(),
             "move" => self.moved(),
+            "wire" => self.wired(&numbers),
             _ => self.single(call, &numbers),
         }
         if self.lost > lost {
             self.count_since(&format!("{call}: a pile of 64 lost changes"));
         }
+        self.count_after_wire(call);
+        self.last = call;
     }
 
     /// A call that is accepted or refused, with no more to its answer.
@@ -581,6 +597,16 @@ impl Machine {
         };
     }
 
+    /// The call wire and its answer: the two numbers. What stands behind it on the line is passed over.
+    fn wired(&mut self, numbers: &[usize]) {
+        let result = self.wire();
+        self.count_wire(result, numbers.len());
+        self.output += &match result {
+            Ok(Wire { crossing, edges }) => format!("{crossing} {edges}\n"),
+            Err((number, place)) => format!("refused {number} {place}\n"),
+        };
+    }
+
     /// After the text: the nets, the pile from its top, each name that holds something, with its nets, and the book where it is the new one.
     fn finish(&mut self) {
         assert!(self.lifts(), "the machine's own session became unsound");
@@ -619,6 +645,14 @@ fn word_of(line: &str) -> Option<u32> {
     all.then(|| u32::from_str_radix(digits, 16).ok())?
 }
 
+/// Whether a list is a routing of the board's nets, with no more than two turns at a vertex and within the bounds of the wire to order.
+fn is_routing(board: &Board, list: &[u8]) -> Result<(), String> {
+    let report = judge(board, list).map_err(|refusal| format!("{refusal:?}"))?;
+    let left = board.within_bounds(report.edges, list.len() / 4);
+    let holds = report.most_turns <= 2 && left.iter().all(|&left| left >= 0);
+    holds.then_some(()).ok_or_else(|| format!("{report:?}, within the bounds by {left:?}"))
+}
+
 /// The program's answers with the words of each routing judged, for the machine's boards in order, and one line put for them.
 fn with_routings_judged(output: &str, routed: &[Board]) -> String {
     let (mut text, mut words, mut boards) = (String::new(), Vec::new(), routed.iter());
@@ -630,8 +664,8 @@ fn with_routings_judged(output: &str, routed: &[Board]) -> String {
         let ends = words.last().is_some_and(|word| word >> 28 == 14);
         if ends || word_of(line).is_none() && !words.is_empty() {
             let list = bytes_of(&std::mem::take(&mut words));
-            text += &match boards.next().map(|board| judge(board, &list)) {
-                Some(Ok(report)) if report.most_turns <= 2 => format!("{ROUTING}\n"),
+            text += &match boards.next().map(|board| is_routing(board, &list)) {
+                Some(Ok(())) => format!("{ROUTING}\n"),
                 judged => format!("no routing: {judged:?}\n"),
             };
         }
@@ -728,7 +762,7 @@ impl Machine {
         if word.starts_with("keep") || word.starts_with("return") {
             self.count("line passed over that begins as keep or return does");
         }
-        for call in ["taken", "book", "move"].iter().filter(|call| word.starts_with(**call)) {
+        for call in ["taken", "book", "move", "wire"].iter().filter(|call| word.starts_with(**call)) {
             self.count(&format!("line passed over that begins as {call} does"));
         }
         self.count(match word {
@@ -1080,6 +1114,55 @@ impl Machine {
     }
 }
 
+// ---------------------------------------------------------------- what was reached of wire
+
+impl Machine {
+    /// A call of wire; `behind` is how many words stand behind it on the line.
+    fn count_wire(&mut self, result: Result<Wire, Refused>, behind: usize) {
+        if behind > 0 {
+            self.count("wire: words behind it");
+        }
+        let Ok(Wire { crossing, edges }) = result else { return self.count_wire_unsound() };
+        self.count_since("wire told");
+        self.count_under("wire told");
+        self.count(&format!("wire told, {} before it", self.last));
+        let (nets, last) = (self.board.nets.len(), self.told.replace(crossing));
+        let reached = [
+            ("wire: no nets", nets == 0),
+            ("wire: 64 nets", nets == 64),
+            ("wire: rows that differ", self.board.rows.iter().any(|row| row != &self.board.rows[0])),
+            ("wire: pins taken", !self.board.taken.is_empty()),
+            ("wire: 1,984 edges", edges == 1_984),
+            ("wire: a sum of 1,000 or more", crossing >= 1_000),
+            ("wire: a sum above the edges", crossing > edges),
+            ("wire: a larger sum than the last", last.is_some_and(|last| last < crossing)),
+            ("wire: a smaller sum than the last", last.is_some_and(|last| last > crossing)),
+            ("wire: the same sum as the last", last == Some(crossing)),
+            ("wire: a smaller sum right after back", self.last == "back" && last.is_some_and(|last| last > crossing)),
+            ("wire: a larger sum right after back", self.last == "back" && last.is_some_and(|last| last < crossing)),
+            ("wire: another sum right after return", self.last == "return" && last.is_some_and(|last| last != crossing)),
+            ("wire: nets, changes and names", self.all_three()),
+            ("wire: 64 changes on the pile", self.pile.len() == PILE),
+        ];
+        self.count_all(&reached);
+    }
+
+    /// A call of wire refused by 20.
+    fn count_wire_unsound(&mut self) {
+        self.count("wire refused 20");
+        self.count_under("wire refused 20");
+        let flaw = self.flaw.flatten().unwrap_or_default();
+        self.count(&format!("wire refused 20, {flaw}"));
+    }
+
+    /// A call right after one of wire.
+    fn count_after_wire(&mut self, call: &str) {
+        if self.last == "wire" {
+            self.count(&format!("{call} right after wire"));
+        }
+    }
+}
+
 // ---------------------------------------------------------------- what was reached of names
 
 impl Machine {
@@ -1186,7 +1269,7 @@ impl Machine {
 // ---------------------------------------------------------------- what has to be reached
 
 /// What has to be reached in a whole run, and how often at least. Each bound is two thirds or less of what each of the seeds 1985, 1 to 5 reaches.
-const FLOORS: [(&str, u64); 338] = [
+const FLOORS: [(&str, u64); 398] = [
     ("call", 150_000),
     ("add accepted", 20_000),
     ("add refused 20 at 0", 2_000),
@@ -1479,7 +1562,7 @@ const FLOORS: [(&str, u64); 338] = [
     ("move: what names held dropped", 350),
     ("add accepted by the old rule alone, since a move refused 39", 860),
     ("add accepted, since a move", 2_200),
-    ("add refused 25 at 0, accepted under the old rule, since a move", 180),
+    ("add refused 25 at 0, accepted under the old rule, since a move", 170),
     ("add refused 25 at 0, accepted with no pins taken, since a move", 21),
     ("add refused 25 at 1, accepted under the old rule, since a move", 170),
     ("add refused 25 at 1, accepted with no pins taken, since a move", 23),
@@ -1512,7 +1595,7 @@ const FLOORS: [(&str, u64); 338] = [
     ("paths refused 34, since a move", 23),
     ("paths: a routing of nets that came over", 94),
     ("paths: a routing right after a move", 95),
-    ("paths: a routing right after a move refused 39", 68),
+    ("paths: a routing right after a move refused 39", 62),
     ("paths: a routing, since a move", 590),
     ("book: passed over after a move", 49),
     ("book: the new rule after a move", 79),
@@ -1525,6 +1608,66 @@ const FLOORS: [(&str, u64); 338] = [
     ("end: the new rule, since a move, nets, changes and names", 25),
     ("end: the old rule, since a move refused 39", 130),
     ("end: the old rule, since a move refused 39, nets, changes and names", 34),
+    ("wire told", 18_000),
+    ("wire told, since a return", 5_100),
+    ("wire told, since a move", 1_100),
+    ("wire told, under the new rule", 9_200),
+    ("add right after wire", 5_000),
+    ("adds right after wire", 3_400),
+    ("back right after wire", 4_700),
+    ("book right after wire", 100),
+    ("keep right after wire", 550),
+    ("line passed over that begins as wire does", 790),
+    ("move right after wire", 150),
+    ("paths right after wire", 600),
+    ("return right after wire", 600),
+    ("row right after wire", 11),
+    ("taken right after wire", 91),
+    ("wire refused 20", 2_600),
+    ("wire refused 20, 256 rows or more", 39),
+    ("wire refused 20, 32 rows", 220),
+    ("wire refused 20, 33 rows or more", 86),
+    ("wire refused 20, a row out of bounds", 280),
+    ("wire refused 20, more pins taken than there are", 330),
+    ("wire refused 20, no rows", 200),
+    ("wire refused 20, not convex", 430),
+    ("wire refused 20, pins taken at no vertex", 330),
+    ("wire refused 20, pins taken where there are none", 280),
+    ("wire refused 20, two pins taken at a corner under the new rule", 240),
+    ("wire refused 20, under the new rule", 1_300),
+    ("wire right after wire", 170),
+    ("wire told right after a move", 88),
+    ("wire told right after a move refused 39", 100),
+    ("wire told right after a move that left all as it was", 230),
+    ("wire told, add before it", 3_100),
+    ("wire told, adds before it", 2_500),
+    ("wire told, back before it", 3_400),
+    ("wire told, book before it", 130),
+    ("wire told, keep before it", 310),
+    ("wire told, move before it", 420),
+    ("wire told, paths before it", 1_800),
+    ("wire told, return before it", 1_200),
+    ("wire told, row before it", 430),
+    ("wire told, taken before it", 210),
+    ("wire told, wire before it", 140),
+    ("wire told, withdraw before it", 4_200),
+    ("wire: 1,984 edges", 750),
+    ("wire: 64 changes on the pile", 940),
+    ("wire: 64 nets", 240),
+    ("wire: a larger sum right after back", 950),
+    ("wire: a larger sum than the last", 5_700),
+    ("wire: a smaller sum right after back", 920),
+    ("wire: a smaller sum than the last", 4_300),
+    ("wire: a sum above the edges", 3_300),
+    ("wire: a sum of 1,000 or more", 930),
+    ("wire: another sum right after return", 540),
+    ("wire: nets, changes and names", 4_100),
+    ("wire: no nets", 5_300),
+    ("wire: pins taken", 8_300),
+    ("wire: rows that differ", 6_700),
+    ("wire: the same sum as the last", 4_200),
+    ("wire: words behind it", 6_200),
+    ("withdraw right after wire", 5_400),
 ];
 
 fn too_little(counts: &Counts) -> Vec<String> {
@@ -1635,13 +1778,13 @@ const NO_NAMES: [usize; 12] = [8, 8, 8, 9, 10, 15, 16, 64, 128, 249, 255, 255];
 const NO_BOOKS: [usize; 14] = [2, 2, 2, 3, 4, 8, 9, 9, 16, 128, 249, 255, 255, 255];
 
 /// Lines that are passed over, whatever numbers follow.
-const PASSED_OVER: [&str; 84] = [
+const PASSED_OVER: [&str; 93] = [
     "", "", "#", "a", "ad", "addsx", "addx", "adds1", "add1", "added", "addadd", "addss", "Add", "ADDS", "xadd", "r", "ro", "rows", "row0", "Row",
     "b", "bac", "backs", "back1", "Back", "backback", "w", "withdra", "withdraws", "withdrawn", "net", "path", "Paths", "pathss", "accepted", "7",
     "k", "kee", "keeps", "keep8", "keep0", "keepkeep", "Keep", "kept", "re", "ret", "retur", "returns", "return1", "returned", "returnrow",
     "rowreturn", "Return", "RETURN", "t", "take", "takens", "taken0", "taken1", "takentaken", "takenrow", "takenx", "Taken", "TAKEN", "bo", "boo",
     "books", "book0", "book1", "bookbook", "booktaken", "bookx", "Book", "BOOK", "m", "mov", "moves", "moved", "move1", "movemove", "moverow",
-    "bookmove", "Move", "MOVE",
+    "bookmove", "Move", "MOVE", "wi", "wir", "wires", "wire1", "wired", "wirewire", "wirerow", "Wire", "WIRE",
 ];
 
 /// Writes a text line by line. Its own machine tells what would be right or wrong next.
@@ -1815,6 +1958,7 @@ impl Writer {
             return;
         }
         (0..self.random.below(4)).for_each(|_| self.say_change());
+        self.may_say_wire(3);
         if self.random.one_in(3) {
             self.say("move", &[]);
         }
@@ -1890,7 +2034,8 @@ impl Writer {
 
     /// A call after a move; `held` are the names that held something before it.
     fn say_after_move(&mut self, held: &[usize]) {
-        match self.random.below(11) {
+        match self.random.below(12) {
+            11 => self.say_wire(),
             0 | 1 => self.say_back(),
             2 | 3 if !held.is_empty() => {
                 let name = self.random.pick(held);
@@ -2232,6 +2377,20 @@ impl Writer {
         self.say("paths", &[]);
     }
 
+    /// Asks for the wire, at times with numbers behind that are passed over.
+    fn say_wire(&mut self) {
+        let count = self.random.pick(&[0, 0, 0, 0, 0, 0, 0, 1, 2, 5]);
+        let numbers: Vec<usize> = (0..count).map(|_| self.random.below(70)).collect();
+        self.say("wire", &numbers);
+    }
+
+    /// The same, one time out of so many.
+    fn may_say_wire(&mut self, seldom: usize) {
+        if self.random.one_in(seldom) {
+            self.say_wire();
+        }
+    }
+
     fn say_keep(&mut self) {
         let name = self.random.below(NAMES);
         self.say_named("keep", name);
@@ -2267,10 +2426,12 @@ impl Writer {
             return self.say_keep();
         }
         self.say_return();
+        self.may_say_wire(8);
         (0..self.random.pick(&[0, 0, 1, 2])).for_each(|_| self.say_back());
         if self.random.one_in(4) {
             self.say_return();
         }
+        self.may_say_wire(6);
         if self.random.one_in(3) {
             self.say_paths();
         }
@@ -2299,7 +2460,7 @@ impl Writer {
             if !self.room() {
                 return;
             }
-            if self.random.one_in(15) {
+            if self.random.one_in(13) {
                 self.say_nothing();
             }
             if seldom > 0 && self.random.one_in(seldom) {
@@ -2317,6 +2478,7 @@ impl Writer {
             if self.random.one_in(12) {
                 self.say_paths();
             }
+            self.may_say_wire(12);
             match self.random.pick(&kinds) {
                 0 => self.say_add(),
                 1 if self.full() && self.random.below(5) > 0 => self.say_withdraw(),
@@ -2346,12 +2508,14 @@ impl Writer {
             if names && self.random.one_in(2) {
                 self.say_keep_or_return();
             }
+            self.may_say_wire(4);
             let kind = self.random.below(6);
             let times = self.random.pick(&[1, 3, 8, 20, 70]);
             for _ in 0..times {
                 if self.calls >= last || !self.room() {
                     return;
                 }
+                self.may_say_wire(40);
                 match kind {
                     0 => self.say_right_add(),
                     1 => self.say_withdraw(),
@@ -2378,6 +2542,7 @@ impl Writer {
             let length = self.random.pick(&[40, 63, 64, 64, 65, 65, 66, 80]);
             let list = self.list_of(length, None, "");
             self.say("adds", &list);
+            self.may_say_wire(2);
             let (withdrawals, backs) = (self.random.pick(&[0, 1, 5, 64]), self.random.pick(&[0, 1, 5, 66]));
             if self.random.one_in(2) {
                 self.say_keep();
@@ -2403,6 +2568,7 @@ impl Writer {
             if self.random.one_in(3) {
                 self.say_paths();
             }
+            self.may_say_wire(4);
             match self.random.below(12) {
                 0 => self.say_nothing(),
                 1 => self.empty_board(),
@@ -2465,6 +2631,7 @@ impl Writer {
             let book = if self.random.one_in(6) { Some(any_book(&mut self.random)) } else { None };
             self.rows(&rows[from..to], &[], book);
             from = to;
+            self.may_say_wire(3);
             if self.random.one_in(2) {
                 self.say("return", &[name]);
             }
@@ -2537,6 +2704,7 @@ fn text(random: Random) -> String {
     if writer.machine.unsound().is_err() && writer.machine.too_few_by_rule {
         writer.mend_taken();
     }
+    writer.may_say_wire(6);
     match kind {
         5 | 6 => {
             writer.trials(count / 2);
@@ -2930,6 +3098,73 @@ const MOVES_BY_HAND: [(&str, &str); 16] = [
     ),
 ];
 
+/// The same with wire.
+const WIRE_BY_HAND: [(&str, &str); 9] = [
+    // No rows; then the ring, each net of it across one row or column. It is routed, taken back and withdrawn from.
+    (
+        "wire\nrow 0 1\nwire\nadds 1 0 0 0 1 2 0 1 1 1 3 1 1 1 0 4 1 0 0 0\nwire\npaths\nwire\nback\nwire\nwithdraw 1\nwire\n",
+        "refused 20 0\n0 4\naccepted 4\n4 4\na routing of the nets on the board\n4 4\naccepted\n3 4\naccepted\n2 4\nnet 2 0 1 1 1\n\
+         net 3 1 1 1 0\nwithdrawn 1 0 0 0 1\nadded 3 1 1 1 0\nadded 2 0 1 1 1\nadded 1 0 0 0 1\n",
+    ),
+    // Board c, which is overfull, and then b: the sum may be above the edges.
+    (
+        "row 0 1\nadds 1 0 0 1 1 2 0 0 1 1 3 0 1 1 0 4 0 1 1 0\nwire\npaths\nback\nwire\npaths\nback\nwire\npaths\n",
+        "accepted 4\n8 4\nrefused 33 0 0\naccepted\n6 4\nrefused 33 0 0\naccepted\n4 4\na routing of the nets on the board\nnet 1 0 0 1 1\n\
+         net 2 0 0 1 1\nadded 2 0 0 1 1\nadded 1 0 0 1 1\n",
+    ),
+    // One row of two cells: nets across it, along it and both, kept, taken back and returned to. Refused calls change no number.
+    (
+        "row 0 2\nadd 1 0 0 1 2\nkeep 3\nwire\nback\nwire\nadd 2 0 1 1 1\nwire\nadd 3 0 1 0 2\nwire\nreturn 3\nwire\nback\nwire\n\
+         return 4\nwire\nadd 4 0 2 0 0\nwire\n",
+        "accepted\naccepted\n3 7\naccepted\n0 7\naccepted\n1 7\nrefused 25 0\n1 7\naccepted\n3 7\nrefused 27 0\n3 7\nrefused 36 0\n3 7\n\
+         accepted\n5 7\nnet 1 0 0 1 2\nnet 4 0 2 0 0\nadded 4 0 2 0 0\nkept 3 1\nnet 1 0 0 1 2\n",
+    ),
+    // Two pins taken of one; one, under both rules; not convex; rows out of bounds.
+    (
+        "row 0 2\ntaken 0 1 2\nwire\ntaken 0 1 1\nwire\nbook 1\nwire\nrow 1 3\nwire\nrow 0 32\nwire\n",
+        "refused 20 0\n0 7\n0 7\nrefused 20 0\nrefused 20 0\nbook 1\n",
+    ),
+    // Board h: two nets across the other way, each past the rows' ends. 14 odd vertices; two rows of eight cells.
+    (
+        "row 1 2\nrow 0 3\nrow 1 2\nadd 1 1 0 2 3\nwire\nadd 2 3 1 0 2\nwire\n",
+        "accepted\n4 16\naccepted\n8 16\nnet 1 1 0 2 3\nnet 2 3 1 0 2\nadded 2 3 1 0 2\nadded 1 1 0 2 3\n",
+    ),
+    ("row 0 8\nwire\npaths\nwire\nrow 0 8\nwire\n", "0 25\nrefused 32 0 1\n0 25\n0 42\n"),
+    // Nets, pile and names stay; it starts nothing afresh, a book does.
+    (
+        "row 0 1\nadd 1 0 0 1 1\nkeep 0\nwire\nback\nreturn 0\nwire\nadd 2 0 1 1 1\nwire\nmove\nwire\nback\nwire\nback\nbook 0\nwire\n\
+         return 0\n",
+        "accepted\naccepted\n2 4\naccepted\naccepted\n2 4\naccepted\n3 4\nrefused 39 1 1\n3 4\naccepted\n2 4\nrefused 27 0\n0 4\n\
+         refused 36 0\n",
+    ),
+    // The board of request §4: rows 2, 2, 4, 2 and 2, columns the same; a move changes neither number.
+    (
+        "row 2 3\nrow 1 4\nrow 0 5\nrow 1 4\nrow 2 3\nadds 1 0 2 1 4 2 2 5 4 4 3 5 3 4 1 4 3 0 1 1 5 0 3 5 2 6 3 5 2 0\nwire\npaths\n\
+         move\nwire\nback\nwithdraw 6\nwire\nback\nwire\n",
+        "accepted 6\n24 36\nrefused 34 0\naccepted\n24 36\nrefused 27 0\naccepted\n18 36\naccepted\n24 36\nnet 1 0 2 1 4\nnet 2 2 5 4 4\n\
+         net 3 5 3 4 1\nnet 4 3 0 1 1\nnet 5 0 3 5 2\nnet 6 3 5 2 0\nbook 1\n",
+    ),
+    // Only the whole word; what stands behind it is passed over.
+    (
+        "row 0 1\nadd 1 0 0 1 1\nwires\nwire1\nWire\nwir\nwirewire\nrowwire 0 1\nwire 9 9\nwire wire\nwire back\nwire 250 row 0 1\nwire  \n\
+         back\nwire",
+        "accepted\n2 4\n2 4\n2 4\n2 4\n2 4\naccepted\n0 4\n",
+    ),
+];
+
+/// The largest board with a net across all its rows and columns, and then a row too many.
+fn largest_by_hand() -> (String, String) {
+    let text = format!("{}wire\nadd 64 31 0 0 31\nwire\nadd 1 0 0 31 0\nwire\nrow 0 31\nwire\n", "row 0 31\n".repeat(31));
+    (text, "0 1984\naccepted\n62 1984\naccepted\n93 1984\nrefused 20 0\n".to_string())
+}
+
+/// A net that comes and goes, told each time: of 64 changes none is lost.
+fn told_by_hand() -> (String, String) {
+    let text = format!("row 0 1\n{}{}wire\n", "add 1 0 0 1 1\nwire\nwithdraw 1\nwire\n".repeat(32), "back\nwire\n".repeat(65));
+    let told = "accepted\n2 4\naccepted\n0 4\n".repeat(32);
+    (text, format!("{told}{told}refused 27 0\n0 4\n0 4\n"))
+}
+
 /// A net that comes and goes: of 65 changes the first is lost, and when 64 are taken back the net is there still.
 fn lost_by_hand() -> (String, String) {
     let comes_and_goes = "add 1 0 0 1 1\nwithdraw 1\n".repeat(32);
@@ -2970,11 +3205,13 @@ fn moved_by_hand() -> (String, String) {
 
 /// The machine's answers, and the program's, to the texts above.
 fn by_hand() {
-    let texts = BY_HAND.iter().chain(&NAMES_BY_HAND).chain(&TAKEN_BY_HAND).chain(&BOOKS_BY_HAND).chain(&MOVES_BY_HAND);
+    let texts = BY_HAND.iter().chain(&NAMES_BY_HAND).chain(&TAKEN_BY_HAND).chain(&BOOKS_BY_HAND).chain(&MOVES_BY_HAND).chain(&WIRE_BY_HAND);
     let mut all: Vec<(String, String)> = texts.map(|(text, answers)| (text.to_string(), answers.to_string())).collect();
     all.push(lost_by_hand());
     all.push(emptied_by_hand());
     all.push(moved_by_hand());
+    all.push(largest_by_hand());
+    all.push(told_by_hand());
     for (text, answers) in all {
         let machine = answered(&text);
         assert_eq!(machine.output, answers, "the machine on a text answered by hand:\n{text}");
@@ -3054,6 +3291,7 @@ fn whole(seed: u64) {
         seen("move: all stays"),
         seen("move refused 39"),
     );
+    println!("{} wires told and {} refused,", seen("wire told"), seen("wire refused 20"));
     println!("{} routings and {} refused by 34; {time:.1} s; no difference", seen("paths: a routing"), seen("paths refused 34"));
 }
 

@@ -1,18 +1,20 @@
-/* Cidrask for C: routing boards, judging routings, comparing two and drawing one, on bytes.
+/* Cidrask for C: routing boards, the wire that a board's nets take, judging routings, comparing two and drawing one, on bytes.
  *
  * Boards. A board is 1 to 31 rows of unit cells, row 0 at the top; a row runs from column left to column right, 0 <= left < right <= 31. The corners
  * of its cells are the vertices and their sides the edges. A vertex is written (line, column); line i is the top of row i. A board is convex when of
  * any two rows one contains the other, and widths never shrink and then grow again from top to bottom. A board has a rule book, 0 the old rule or 1
  * the new. A vertex of degree d has 4 - d pins, but under the new rule one of degree 2 has one pin. Of these the package may have taken some, and
  * the vertex takes as many terminals as pins are left. It is odd when d plus its terminals is odd, whatever the book and the pins that are taken.
- * Where a board takes its nets under both books, a routing is given or refused alike under both, and lists are judged, compared and drawn the same.
+ * Where a board takes its nets under both books, a routing is given or refused alike under both, the same wire is told, and lists are judged,
+ * compared and drawn the same.
  * A net has a number from 1 to 64 and a first and a second terminal. Row i has the vertical edges of its cells, column j the horizontal edges
  * between columns j and j + 1; a net crosses it when its terminals lie on different sides. Reading order is line by line and column by column.
  *
  * Words. A word is four bytes, lowest first; bits not named are 0. A board is a row word for each row from the top, a taken word for each vertex
  * with taken pins, in reading order and no vertex twice, a net word for each net in rising number, and an end word: at most 224 words. A routing is
- * for each net, in rising number, a path word and its run words, then an end word: at most 2,049 words. A path goes from its net's first terminal to
- * its second, two runs in a row differ in direction, and no edge is used twice.
+ * for each net, in rising number, a path word and its run words, then an end word: at most 1 + nets + edges words, the counts of the board's nets and
+ * of all its edges, and so at most 2,049. A path goes from its net's first terminal to its second, two runs in a row differ in direction, and no edge
+ * is used twice.
  *   row            31-28 = 1, 9-5 left, 4-0 right
  *   taken          31-28 = 3, 11-10 how many pins are taken (1 or 2), 9-5 line and 4-0 column of the vertex
  *   net            31-28 = 2, 27-20 number, 19-15 line and 14-10 column of the first terminal, 9-5 line and 4-0 column of the second
@@ -29,8 +31,9 @@
  *   - what a call writes to (the buffer or page, and the numbers) overlaps nothing else that the call is lent;
  *   - no other thread writes to what is lent while the call runs;
  *   - there is stack enough. This is not proved. In the library for x86-64, frames times the code's bounds on recursion come to under 600 KiB for
- *     cidrask_route, and to under 40 KiB for cidrask_judge, cidrask_alike and cidrask_draw, which do not recurse. Seen in use were at most 63 KiB by
- *     cidrask_route, over 12,000 random large boards, half of them with odd vertices, and 39 KiB by cidrask_judge.
+ *     cidrask_route, and to under 40 KiB for cidrask_judge, cidrask_alike and cidrask_draw, which do not recurse; nor does cidrask_wire. Seen in use
+ *     were at most 63 KiB by cidrask_route, over 12,000 random large boards, half of them with odd vertices, 39 KiB by cidrask_judge, and 22 KiB by
+ *     cidrask_wire, over the boards of examples/.
  *
  * Answers. The result is 0 where the call is accepted, otherwise the number of the first refusal that holds, in the order told at the call.
  * An index counts words from 0. *first is the place; only 32 and 33 have a second number, in *second. (cidrask_alike tells 41 to 46 otherwise: see
@@ -54,7 +57,8 @@
  *   24  both terminals are one vertex                                                 its word's index
  *   25  a terminal has no pin by the board's book, or none that is left by the taken
  *       pins and the nets before                                                      its word's index
- *   31  the buffer has room for fewer than 2,049 words                                0
+ *   31  the buffer has room for fewer than 1 + nets + edges words, the counts of the
+ *       board's nets and of all its edges                                             0
  *   32  more than 12 vertices are odd: the first in reading order                     its line; its column
  *   33  a row or column is crossed by more nets than it has edges: the first, rows
  *       from the top, then columns from the left                                      0 row or 1 column; its index
@@ -77,7 +81,7 @@
 #include <stdint.h>
 
 #define CIDRASK_BOARD_WORDS 224    /* the most words of a board */
-#define CIDRASK_ROUTING_WORDS 2049 /* the most words of a routing, and the least room for one: 4 * 2049 bytes */
+#define CIDRASK_ROUTING_WORDS 2049 /* the most words of a routing of any board: room for so many, 4 * 2049 bytes, is never refused by 31 */
 #define CIDRASK_PAGE_BYTES 4032    /* the most bytes of a page, and the least room for one */
 
 #ifdef __cplusplus
@@ -92,6 +96,14 @@ extern "C" {
  * Past 31, where at most 12 vertices are odd, a routing is given exactly when pairwise edge-disjoint paths joining all nets exist; where none is odd,
  * 34 never comes. */
 uint32_t cidrask_route(const uint8_t *board, size_t board_length, uint8_t *buffer, size_t buffer_length, uint64_t *first, uint64_t *second);
+
+/* Reads a board and tells between which two numbers the wire of its nets lies, before they are routed: from the board and its nets alone.
+ * Accepted: *first is the sum, over all rows and columns, of the nets that cross each of them; *second is the count of the board's edges. Every list
+ * that cidrask_judge accepts for this board, of this or of another tool, uses at least *first and at most *second edges, and has at most 1 + nets +
+ * *second words: the least room that cidrask_route asks for. The numbers are told of every board that is read, also of one that has no routing.
+ * Refused: *first is the place, and *second is 0.
+ * Order: the board's 10 to 16, 38 and 21 to 25 as above. No other number comes. */
+uint32_t cidrask_wire(const uint8_t *board, size_t board_length, uint64_t *first, uint64_t *second);
 
 /* Reads a board and judges a list of routing words against it; the board may be odd or have overfull rows and columns.
  * Accepted: the list is the words of a routing of the board's nets. *first is the count of edges used, *second the count of turns (changes of

@@ -3,6 +3,7 @@
 #[link(name = "cidrask", kind = "static")]
 extern "C" {
     pub fn cidrask_route(board: *const u8, board_length: usize, buffer: *mut u8, buffer_length: usize, first: *mut u64, second: *mut u64) -> u32;
+    pub fn cidrask_wire(board: *const u8, board_length: usize, first: *mut u64, second: *mut u64) -> u32;
     pub fn cidrask_judge(
         board: *const u8, board_length: usize, list: *const u8, list_length: usize, first: *mut u64, second: *mut u64, third: *mut u64,
     ) -> u32;

@@ -13,6 +13,9 @@
  *   3  the routing does not pass the judge.
  * What belongs to 2 and 3 is told on standard error.
  *
+ * Below the picture stand the edges that the routing uses, with two numbers that are told before routing: no routing of these nets uses fewer edges
+ * than the first or more than the second; then its turns and its knock-knees.
+ *
  * In the picture "+" is a vertex, "o" one with terminals, "x" one with taken pins, "*" one with both. An edge that a net uses shows the net's sign:
  * 1 to 9, A to Z, a to z, then #, @ and & for nets 1 to 64; an edge that no net uses is drawn thin. */
 #include <stdint.h>
@@ -187,6 +190,13 @@ static int print_page(const uint8_t *board, size_t length, const uint8_t *routin
     return 0;
 }
 
+/* How many edges any routing of the board's nets uses; the board has been read. */
+static void print_bounds(const uint8_t *board, size_t length) {
+    uint64_t least, most;
+    if (cidrask_wire(board, length, &least, &most) == 0)
+        printf(" (at least %llu, at most %llu)", (unsigned long long)least, (unsigned long long)most);
+}
+
 static int print_layout(const uint8_t *board, size_t length, const uint8_t *routing, size_t listed, int from_file) {
     static struct picture p;
     uint64_t first, second, third;
@@ -195,7 +205,9 @@ static int print_layout(const uint8_t *board, size_t length, const uint8_t *rout
     draw_board(&p, board, length / 4);
     draw_paths(&p, board, length / 4, routing, listed / 4);
     print_picture(&p);
-    printf("%llu edges, %llu turns, %llu knock-knees\n", (unsigned long long)first, (unsigned long long)second, (unsigned long long)third);
+    printf("%llu edges", (unsigned long long)first);
+    print_bounds(board, length);
+    printf(", %llu turns, %llu knock-knees\n", (unsigned long long)second, (unsigned long long)third);
     return 0;
 }
 

@@ -14,6 +14,7 @@ use Rattle.board.specs.declared.Direction.the-variants.{Right, Down}
 unfoldable pub edgesGoing : Board → Direction → List Vertex
 edgesGoing b d = select (edge? b d) readingOrder
 
--- "the board's edge count": each edge leads right from its left end, or down from its upper end
+-- "the board's edge count": each edge leads right from its left end, or down from its upper end. Lines and columns are 0 to 31: within the limits
+-- there are no others
 unfoldable pub edgeCount : Board → ℕ
 edgeCount b = length (edgesGoing b Right) + length (edgesGoing b Down)

@@ -37,10 +37,10 @@ count-framed t =
     ∙ sum-eq 32 (λ l. tally f (map (at l) (upTo 32))) (λ l. sum 32 (λ c. f (at l c))) (λ l h. tally-map f (at l) 32))
 
 -- DEFINITION: the edges that lead right and down from a place
-abbrev pub edgesFrom : Board → Vertex → ℕ
-edgesFrom b v = one (edge? b Right v) + one (edge? b Down v)
+abbrev pub edgesLeading : Board → Vertex → ℕ
+edgesLeading b v = one (edge? b Right v) + one (edge? b Down v)
 
-pub edge-count-framed : (b : Board) → edgeCount b ≡ frameSum (edgesFrom b)
+pub edge-count-framed : (b : Board) → edgeCount b ≡ frameSum (edgesLeading b)
 unfolding edgeCount edgesGoing
 edge-count-framed b = omega (
   arith,
@@ -50,7 +50,7 @@ edge-count-framed b = omega (
 )
 
 -- ── at most 1,984 ──
--- no edge leads right from column 31 or down from line 31
+-- DEFINITION: how many edges can lead right and down from a place: none right from column 31 or down from line 31
 abbrev roomy : Vertex → ℕ
 roomy v = one (ltb (v .column) 31) + one (ltb (v .line) 31)
 
@@ -81,5 +81,5 @@ edges-most b w = omega (
   arith,
   edge-count-framed b,
   all-roomy,
-  frame-le (edgesFrom b) roomy (λ v. omega (arith, right-roomy b w v, down-roomy b w v)),
+  frame-le (edgesLeading b) roomy (λ v. omega (arith, right-roomy b w v, down-roomy b w v)),
 )

@@ -1,3 +1,4 @@
 pub mod EdgeCount
 pub mod Spans
 pub mod Framed
+pub mod ByRows

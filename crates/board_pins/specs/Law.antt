@@ -45,7 +45,7 @@ module _ (b : Board) (W : Within b) (C : Convex b) where
 
   -- ── from the top down ──
   -- where a row is wider than the one above it, that one is as wide as any so far
-  grows : (i : ℕ) → suc i < height b → width b i < width b (suc i) → widest b (suc i) ≤ width b i
+  pub grows : (i : ℕ) → suc i < height b → width b i < width b (suc i) → widest b (suc i) ≤ width b i
   grows i h g = widest-le b (suc i) (width b i) (λ j k. elim (le-or-lt (width b j) (width b i)) [
     | inl p ↦ p
     | inr p ↦ elim (le-or-lt i j) [

@@ -106,7 +106,7 @@ module _ (b : Board) (W : Within b) (C : Convex b) where
   across : (l : ℕ) → l ≤ height b → (c : ℕ) → IsEdge b (edge (at l c) (at l (suc c))) ↔ ((lineLeft b l ≤ c) × (c < lineRight b l))
   across l h c = let d = lines.line-edges b W C l c in (λ e. let m = d .0 e in (m .1, m .2), λ m. d .1 (h, m .0, m .1))
 
-  line-right : (l : ℕ) → l ≤ height b → going b Right l + lineLeft b l ≡ lineRight b l
+  pub line-right : (l : ℕ) → l ≤ height b → going b Right l + lineLeft b l ≡ lineRight b l
   line-right l h = let e = ends l h in interval b Right l (lineLeft b l) (lineRight b l) (omega arith) (omega arith) (across l h)
 
   -- to the left the same edges, each from one column further on
@@ -123,7 +123,11 @@ module _ (b : Board) (W : Within b) (C : Convex b) where
   pub line-pins : (l : ℕ) → l ≤ height b → linePins b l + (going b Up l + going b Down l) + 2 * lineLeft b l ≡ 2 * lineRight b l + 4
   line-pins l h = omega (arith, line-balance b l, line-vertices l h, line-right l h, line-left l h)
 
-  -- below the board there is no pin
+  -- below the board there is no edge to the right
+  pub right-none : (l : ℕ) → suc (height b) ≤ l → going b Right l ≡ 0
+  right-none l h = nowhere b Right l (λ c e. omega (arith, lines.line-edges b W C l c .0 e .0))
+
+  -- nor a pin
   pub no-pins : (l : ℕ) → suc (height b) ≤ l → linePins b l ≡ 0
   unfolding linePins pins
   no-pins l h = sum-none 32 (λ c. pins b (at l c)) (λ c i.

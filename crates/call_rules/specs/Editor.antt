@@ -1,4 +1,5 @@
--- Definitions only: the layout editor's calls, on bytes (document 01, "Board words", last paragraph; document 02, §3 and §7). Nothing is proved here.
+-- Definitions only: the layout editor's calls, on bytes (document 01, "Board words", last paragraph; document 02, §3, §7 and §11). Nothing is
+-- proved here.
 use mathlib.Core.Path.{_≡_}
 use mathlib.Core.Bool.{Bool}
 use mathlib.Core.List.{List}
@@ -11,6 +12,11 @@ use Rattle.call_rules.specs.Report.{Report}
 use Rattle.call_rules.specs.Judge.{judgeBytes, compareBytes}
 use Rattle.call_rules.specs.Page.{drawBytes}
 use Rattle.call_rules.specs.Route.{RoutesBytes}
+use Rattle.call_rules.specs.Wire.{Figures, wire}
+
+-- the wire that a board's nets take
+unfoldable pub editorWire : (board : List ℕ) → Result Figures
+editorWire board = andThen (readBytes board) wire
 
 -- judging: "The board's bytes are read first, then a list's bytes get 10."
 unfoldable pub editorJudge : (board list : List ℕ) → Result Report

@@ -13,6 +13,7 @@ pub mod Judge
 pub mod Page
 pub mod ReadOff
 pub mod PageLaws
+pub mod Wire
 pub mod Route
 pub mod RouteLaws
 pub mod Editor

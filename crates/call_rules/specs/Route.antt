@@ -1,5 +1,5 @@
--- Definitions only: what the call `route` answers (document 01, "Routing", refusals 20 and 31 to 33; document 02, §4, refusals 32 and 34).
--- Nothing is proved here.
+-- Definitions only: what the call `route` answers (document 01, "Routing", refusals 20 and 31 to 33; document 02, §4, refusals 32 and 34; §11,
+-- refusal 31). Nothing is proved here.
 use mathlib.Core.Path.{_≡_}
 use mathlib.Core.Bool.{not, cond}
 use mathlib.Core.List.{List, [], _∷_, head?}
@@ -20,12 +20,12 @@ use Rattle.session_rules.specs.Sound.{sound?}
 use Rattle.words.specs.Bytes.{bytesOf}
 use Rattle.words.specs.RoutingWord.{routingWords}
 use Rattle.call_rules.specs.Result.{Result, no, yes}
-use Rattle.call_rules.specs.Shape.{routingLimit}
+use Rattle.call_rules.specs.Wire.{wordLimit}
 use Rattle.call_rules.specs.Writing.{writtenInto}
 
--- the least buffer for routing a session, in words
+-- the least buffer for routing a session, in words: "The buffer that routing demands becomes that word limit instead of 2,049" (02, §11)
 abbrev pub routeRoom : Session → ℕ
-routeRoom s = routingLimit
+routeRoom s = wordLimit s
 
 -- "We want boards of up to 12 odd vertices routed." (02, §4)
 abbrev pub oddLimit : ℕ

@@ -1,26 +1,34 @@
--- What refusals of a routing call go by; what is left to refuse one that 20, 31 and 32 let pass; and that a call is refused in one way only, and past
--- 33 never where a routing exists.
+-- What refusals of a routing call go by, and that they are the same for all buffers that are long enough; what is left to refuse one that 20, 31 and
+-- 32 let pass; and that a call is refused in one way only, and past 33 never where a routing exists.
 -- Assumes nothing.
-use mathlib.Core.Path.{_≡_, refl, sym, _∙_}
+use mathlib.Core.Path.{_≡_, refl, ap, sym, _∙_}
 use mathlib.Core.Bool.{true}
 use mathlib.Core.List.{List, [], _∷_, head?}
+use mathlib.Core.Logic.{inl, inr}
 use mathlib.Core.Option.{Option, none, some}
-use Prim.Native.Nat.{ℕ, _≤_}
+use Prim.Native.Nat.{ℕ, _≤_, _<_}
 use native.Mathlib.Omega.{arith}
 use lib.ListN.{length}
-use borrow.Author.Tests.{le-ltb}
+use borrow.Author.Tests.{lt-ltb, le-ltb}
+use Rattle.count.specs.TruthLaws.{le-or-lt}
+use Rattle.board.specs.declared.Vertex.{Vertex}
 use Rattle.board.specs.declared.Direction.{Direction}
 use Rattle.cut.specs.Cut.{overfullCuts}
 use Rattle.cut.specs.Odd.{oddVertices}
 use Rattle.cut.specs.declared.Cut.{Cut}
+use Rattle.cut.specs.declared.Cut.the-variants.{Row, Column}
 use Rattle.routing_rules.specs.Routing.{Routing}
-use Rattle.session_rules.specs.Refusal.{Refusal}
+use Rattle.session_rules.specs.Refusal.{Refusal, refusal}
 use Rattle.session_rules.specs.Session.{Session, pairs}
 use Rattle.session_rules.specs.Sound.{sound?}
 use Rattle.call_rules.specs.Route.{
   routeRoom,
   oddLimit,
+  tooMany,
+  oddRefusal,
   overfullRefusal,
+  orElse,
+  oddRefused,
   overfullRefused,
   routeRefused,
   WhyRefused,
@@ -33,6 +41,40 @@ pub same-refused : (s t : Session) (room : ℕ) → sound? s ≡ sound? t → s 
     → routeRefused s room ≡ routeRefused t room
 unfolding routeRefused
 same-refused s t room e b n = rw (e, b, n) refl
+
+-- 31 apart, refusals do not go by the buffer: one that is long enough is as good as any other
+pub same-room : (s : Session) (n m : ℕ) → routeRoom s ≤ n → routeRoom s ≤ m → routeRefused s n ≡ routeRefused s m
+unfolding routeRefused
+same-room s n m h k = rw (le-ltb n (routeRoom s) h, le-ltb m (routeRoom s) k) refl
+
+pub same-why : (s : Session) (n m : ℕ) → routeRefused s n ≡ routeRefused s m → {q : Refusal} → WhyRefused s n q → WhyRefused s m q
+same-why s n m f (by-line e) = by-line (sym f ∙ e)
+same-why s n m f (none-exists e h) = none-exists (sym f ∙ e) h
+
+-- and 31 comes where it is not
+pub short-31 : (s : Session) (n : ℕ) → sound? s ≡ true → n < routeRoom s → routeRefused s n ≡ some (refusal 31 0)
+unfolding routeRefused
+short-31 s n e h = rw (e, lt-ltb n (routeRoom s) h) refl
+
+-- only there: 32, 33 and 34 are other numbers
+not-31 : (o : Option Vertex) (x : Option Cut) → orElse (oddRefused o) (overfullRefused x) ≡ some (refusal 31 0) → ⊥
+not-31 (some v) x e = let f : oddRefusal v ≡ refusal 31 0 = cc in omega (arith, ap (λ (r : Refusal). r .number) f)
+not-31 none (some (Row i)) e = let f : overfullRefusal (Row i) ≡ refusal 31 0 = cc in omega (arith, ap (λ (r : Refusal). r .number) f)
+not-31 none (some (Column j)) e = let f : overfullRefusal (Column j) ≡ refusal 31 0 = cc in omega (arith, ap (λ (r : Refusal). r .number) f)
+not-31 none none e = let z : _≡_ {A = ℕ} 0 1 = cc in omega arith
+
+line-31 : (s : Session) (n : ℕ) → sound? s ≡ true → routeRoom s ≤ n → routeRefused s n ≡ some (refusal 31 0) → ⊥
+unfolding routeRefused
+line-31 s n e h f =
+    not-31 (head? (tooMany (oddVertices (s .block .board) (pairs (s .nets))))) (head? (overfullCuts (s .block .board) (pairs (s .nets))))
+    (rw (e, le-ltb n (routeRoom s) h) at f)
+
+pub why-31 : (s : Session) (n : ℕ) → sound? s ≡ true → {q : Refusal} → WhyRefused s n q → q ≡ refusal 31 0 → n < routeRoom s
+why-31 s n e (by-line f) g = elim (le-or-lt (routeRoom s) n) [
+  | inl h ↦ absurd (line-31 s n e h (f ∙ ap some g))
+  | inr h ↦ h
+]
+why-31 s n e (none-exists f h) g = absurd (omega (arith, ap (λ (r : Refusal). r .number) g))
 
 pub some-none : (q : Refusal) → some q ≡ none → ⊥
 some-none q e = let z : _≡_ {A = ℕ} 0 1 = cc in omega arith

@@ -1,5 +1,5 @@
 -- The calls in their parts: the board is read, then the call is made on the session.
--- Assumes what reading, routing, judging, comparing and drawing promise.
+-- Assumes what reading, routing, telling the wire, judging, comparing and drawing promise.
 use mathlib.Core.Path.{_≡_, refl, ap, sym, _∙_}
 use mathlib.Core.Bool.{Bool}
 use mathlib.Core.List.{List}
@@ -13,7 +13,8 @@ use Rattle.call_rules.specs.Route.{RoutesBytes}
 use Rattle.call_rules.specs.Judge.{judgeBytes, compareBytes}
 use Rattle.call_rules.specs.Writing.{countOf}
 use Rattle.call_rules.specs.Page.{drawBytes}
-use Rattle.call_rules.specs.Editor.{unread, read, editorJudge, editorAlike, editorDraw}
+use Rattle.call_rules.specs.Wire.{Figures, wire}
+use Rattle.call_rules.specs.Editor.{unread, read, editorWire, editorJudge, editorAlike, editorDraw}
 use Rattle.board_reading.specs.Promise.{ReadPromise}
 use Rattle.board_reading.specs.ReadAs.{read-refused, read-accepted}
 use Rattle.board_reading.specs.declared.AfterRead.{AfterRead}
@@ -22,7 +23,7 @@ use Rattle.draw_call.specs.Answers.{drawAnswer}
 use Rattle.draw_call.specs.Promise.{DrawBytesPromise}
 use Rattle.draw_call.specs.declared.DrawAnswer.{DrawAnswer}
 use Rattle.draw_call.specs.declared.DrawAnswer.the-variants as draw
-use Rattle.cidrask_told.specs.Told.{tell, countTold, judgeTold, alikeTold}
+use Rattle.cidrask_told.specs.Told.{tell, countTold, wireTold, judgeTold, alikeTold}
 use Rattle.cidrask_told.specs.declared.Told.{Told}
 use Rattle.cidrask.specs.Promise.{RoutedAs, DrawnAs, DrawPromise}
 
@@ -35,10 +36,14 @@ pub routed-read : {board before after : List ℕ} {r : AfterRead} {a : Result �
     → RoutesBytes (sessionOf (r .session)) before a after → t ≡ countTold a → RoutedAs board before t after
 routed-read {a = a} P e R f = record { result = a; routes = read (read-accepted P e) R; told = f }
 
--- a count and comparing leave the third number 0
+-- a count, the wire and comparing leave the third number 0
 pub count-third : (a : Result ℕ) → countTold a .third ≡ 0
 count-third (yes n) = refl
 count-third (no r) = refl
+
+pub wire-third : (x : Result Figures) → wireTold x .third ≡ 0
+wire-third (yes f) = refl
+wire-third (no r) = refl
 
 pub alike-third : (x : Result Bool) → alikeTold x .third ≡ 0
 alike-third (yes t) = refl
@@ -47,6 +52,16 @@ alike-third (no r) = refl
 pub two-numbers : (t u : Told) → t ≡ u → u .third ≡ 0 → tell (t .number) (t .first) (t .second) 0 ≡ u
 two-numbers t u e z =
     ap (λ (x : Told). tell (x .number) (x .first) (x .second) 0) e ∙ ap (λ (n : ℕ). tell (u .number) (u .first) (u .second) n) (sym z)
+
+pub wired-unread : (board : List ℕ) {r : AfterRead} (n p : ℕ) → ReadPromise (readBytes board) r → r .answer ≡ answer.Refused n p
+    → tell n p 0 0 ≡ wireTold (editorWire board)
+unfolding editorWire
+wired-unread board n p P e = rw (read-refused P n p e) refl
+
+pub wired-read : (board : List ℕ) {r : AfterRead} {t : Told} → ReadPromise (readBytes board) r → r .answer ≡ answer.Accepted
+    → t ≡ wireTold (wire (sessionOf (r .session))) → t ≡ wireTold (editorWire board)
+unfolding editorWire
+wired-read board P e f = rw (read-accepted P e) f
 
 pub judged-unread : (board list : List ℕ) {r : AfterRead} (n p : ℕ) → ReadPromise (readBytes board) r → r .answer ≡ answer.Refused n p
     → tell n p 0 0 ≡ judgeTold (editorJudge board list)

@@ -5,8 +5,8 @@ use Prim.Native.Nat.{ℕ}
 use lib.ListN.{length}
 use Rattle.call_rules.specs.Result.{Result}
 use Rattle.call_rules.specs.Writing.{countOf, bufferAfter}
-use Rattle.call_rules.specs.Editor.{EditorRoutes, editorJudge, editorAlike, editorDraw}
-use Rattle.cidrask_told.specs.Told.{tell, countTold, judgeTold, alikeTold}
+use Rattle.call_rules.specs.Editor.{EditorRoutes, editorWire, editorJudge, editorAlike, editorDraw}
+use Rattle.cidrask_told.specs.Told.{tell, countTold, wireTold, judgeTold, alikeTold}
 use Rattle.cidrask_told.specs.declared.Told.{Told}
 
 -- reading with routing: what came out, told by t, and the buffer afterwards
@@ -17,6 +17,10 @@ pub record RoutedAs (board before : List ℕ) (t : Told) (after : List ℕ) : Ty
 
 abbrev pub RoutePromise : (board before : List ℕ) (number first second : ℕ) (after : List ℕ) → Type 0
 RoutePromise board before number first second after = RoutedAs board before (tell number first second 0) after
+
+-- the wire that a board's nets take
+abbrev pub WirePromise : (board : List ℕ) (number first second : ℕ) → Type 0
+WirePromise board number first second = tell number first second 0 ≡ wireTold (editorWire board)
 
 -- judging
 abbrev pub JudgePromise : (board list : List ℕ) (number first second third : ℕ) → Type 0

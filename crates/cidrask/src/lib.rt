@@ -1,10 +1,11 @@
 // The layout editor's calls, for programs in C. editor/cidrask.h tells a caller how to use them.
 ghost use mathlib.Core.Path.{_≡_};
-ghost use Rattle.call_rules.specs.Editor.{editorJudge, editorAlike};
-ghost use Rattle.cidrask_told.specs.Told.{judgeTold, alikeTold};
+ghost use Rattle.call_rules.specs.Editor.{editorWire, editorJudge, editorAlike};
+ghost use Rattle.cidrask_told.specs.Told.{wireTold, judgeTold, alikeTold};
 ghost use Rattle.cidrask.specs.Promise.{
   RoutedAs,
   RoutePromise,
+  WirePromise,
   JudgePromise,
   AlikePromise,
   DrawnAs,
@@ -25,6 +26,17 @@ fn routed(board: &[u8], buffer: &mut [u8]) -> Told
             after.session,
             buffer,
         )),
+    }
+}
+
+fn wired(board: &[u8]) -> Told
+    ensures { λ r. ⌜ r ≡ wireTold (editorWire (now (board .entry))) ⌝ }
+{
+    let after = board_reading::read_bytes(board);
+    let answer = after.answer;
+    match answer {
+        ReadAnswer::Refused(number, place) => cidrask_told::refused(number, place),
+        ReadAnswer::Accepted => cidrask_told::wire_told(wire_call::wire(after.session)),
     }
 }
 
@@ -88,6 +100,18 @@ pub extern "C" fn cidrask_route(
     *first = answer.first;
     *second = answer.second;
     answer.number
+}
+
+// Reads a board and tells the wire that its nets take. Answers 0 or the refusal's number; the other two numbers are the sum of crossing nets over all
+// rows and columns and the board's edge count, or the place.
+#[no_mangle]
+pub extern "C" fn cidrask_wire(board: &[u8], first: &mut u64, second: &mut u64) -> u32
+    ensures { λ r. ⌜ WirePromise (now (board .entry)) r (now (first .exit)) (now (second .exit)) ⌝ }
+{
+    let figures = wired(board);
+    *first = figures.first;
+    *second = figures.second;
+    figures.number
 }
 
 // Reads a board and judges a list of routing words against it. Answers 0 or the refusal's number; the other three numbers are the report's, or

@@ -6,6 +6,7 @@ use Rattle.count.specs.Truth.{one}
 use Rattle.session_rules.specs.Refusal.{Refusal}
 use Rattle.call_rules.specs.Result.{Result, no, yes}
 use Rattle.call_rules.specs.Report.{Report}
+use Rattle.call_rules.specs.Wire.{Figures}
 use Rattle.cidrask_told.specs.declared.Told.{Told}
 
 abbrev pub tell : (number first second third : ℕ) → Told
@@ -27,6 +28,11 @@ refusedTold r = tell (r .number) (firstOf (r .place)) (secondOf (r .place)) 0
 abbrev pub countTold : Result ℕ → Told
 countTold (yes n) = tell 0 n 0 0
 countTold (no r) = refusedTold r
+
+-- the wire: 0 and the two figures
+abbrev pub wireTold : Result Figures → Told
+wireTold (yes f) = tell 0 (f .crossings) (f .edges) 0
+wireTold (no r) = refusedTold r
 
 -- judging: 0 and the report
 abbrev pub judgeTold : Result Report → Told

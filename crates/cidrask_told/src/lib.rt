@@ -5,12 +5,14 @@ ghost use Rattle.call_rules.specs.Route.{overfullRefusal};
 ghost use Rattle.route_call.specs.Answers.{routeAnswer};
 ghost use Rattle.judge_call.specs.Answers.{judgementOf, likenessOf};
 ghost use Rattle.draw_call.specs.Answers.{drawAnswer};
-ghost use Rattle.cidrask_told.specs.Told.{refusedTold, countTold, judgeTold, alikeTold};
+ghost use Rattle.wire_call.specs.Answers.{wireAnswer};
+ghost use Rattle.cidrask_told.specs.Told.{refusedTold, countTold, wireTold, judgeTold, alikeTold};
 use cut::Cut;
 use draw_call::DrawAnswer;
 use judge_call::Judgement;
 use judge_call::Likeness;
 use route_call::RouteAnswer;
+use wire_call::WireAnswer;
 
 // The numbers by which a caller is told what came out.
 pub struct Told {
@@ -71,6 +73,20 @@ pub fn route_told(answer: RouteAnswer) -> Told
         },
         RouteAnswer::Overfull(x) => cut_told(x),
         RouteAnswer::NoRouting => refused(34, 0),
+    }
+}
+
+pub fn wire_told(answer: WireAnswer) -> Told
+    ensures { λ r. ⌜ r ≡ wireTold (wireAnswer answer) ⌝ }
+{
+    match answer {
+        WireAnswer::Told(figures) => Told {
+            number: 0,
+            first: figures.crossings as u64,
+            second: figures.edges as u64,
+            third: 0,
+        },
+        WireAnswer::Unsound => refused(20, 0),
     }
 }
 

@@ -59,6 +59,7 @@ use Rattle.call_rules.specs.Judge.{judged, judgeWords, ofList, compareWords, ju
 use Rattle.call_rules.specs.Page.{edgesOf, pageOf, pageRoom}
 use Rattle.call_rules.specs.ReadOff.{ReadsOff}
 use Rattle.call_rules.specs.Route.{routeRoom, routeRefused, HandsBack, HandsBackBytes, Routes, RoutesBytes}
+use Rattle.call_rules.specs.Wire.{figuresOf, wire, Bounded}
 use Rattle.board_reading.specs.declared.AfterRead.{AfterRead}
 use Rattle.board_reading.specs.Promise.{readAnswer, ReadPromise}
 use Rattle.board_roundtrip.specs.Parts.{Bytes, asRead}
@@ -72,9 +73,11 @@ use Rattle.draw_call.specs.Answers.{drawAnswer}
 use Rattle.draw_call.specs.Promise.{DrawWordsPromise, DrawBytesPromise}
 use Rattle.route_call.specs.declared.RouteAnswer.{RouteAnswer}
 use Rattle.route_call.specs.Answers.{routeAnswer}
+use Rattle.wire_call.specs.declared.WireAnswer.{WireAnswer}
+use Rattle.wire_call.specs.Answers.{wireAnswer}
 use Rattle.cidrask_told.specs.declared.Told.{Told}
 use Rattle.cidrask_told.specs.Told.{tell, firstOf, refusedTold, countTold}
-use Rattle.cidrask.specs.Promise.{RoutePromise, JudgePromise, AlikePromise, DrawPromise}
+use Rattle.cidrask.specs.Promise.{RoutePromise, WirePromise, JudgePromise, AlikePromise, DrawPromise}
 use Rattle.session_history.specs.Made.{Made, changed, routed, routedBytes, Meets, Chain, last, callsOf, answersOf}
 use Rattle.session_history.specs.Demand as history
 use Rattle.session_history.specs.Answered.{AnsweredAlike}
@@ -175,9 +178,10 @@ OfRouting s ws = (dss : List (List Direction)) × IsRouting s ws dss
 -- ── 1 ──
 -- "Every accepted call .. gives exactly what document 01 lays down for its input, or, for a routing, one of those allowed there. Every refused
 -- call gives its number and place from the table, with the session and each lent buffer the same as before."
--- In each field but `board-stays`, `names-stay`, `none-kept`, `two-turns`, `were-alike`, `read-off`, `same-page`, `same-board` and `as-untaken`,
--- which are laws, and those called rightly: the answer is the definition's, number and place included; what is handed back is the definition's; a
--- refusal changes nothing, but for a list of nets: "for this call alone a refusal leaves that much changed and no more" (document 02, §1).
+-- In each field but `board-stays`, `names-stay`, `none-kept`, `two-turns`, `were-alike`, `read-off`, `same-page`, `bounded`, `longer`, `same-board`
+-- and `as-untaken`, which are laws, and those called rightly: the answer is the definition's, number and place included; what is handed back is the
+-- definition's; a refusal changes nothing, but for a list of nets: "for this call alone a refusal leaves that much changed and no more" (document
+-- 02, §1).
 pub record Demand1 : Type 0 where
   pub add : (s : Session) (n : Net) (r : AfterAdd) → AddPromise s n r
       → (addAnswer (r .answer) ≡ call (sessionOf s) (calls.add n) .answer) × (sessionOf (r .session) ≡ call (sessionOf s) (calls.add n) .next)
@@ -282,6 +286,26 @@ pub record Demand1 : Type 0 where
       × (routeRefused (sessionOf s) (length before / 4) ≡ none → Decided (sessionOf s)
       (λ n. (routeAnswer r ≡ yes n) × HandsBackBytes (sessionOf s) before after n)
       ((routeAnswer r ≡ no (refusal 34 0)) × (after ≡ before)))
+  -- 02, §11: "The buffer that routing demands becomes that word limit": 31 exactly where there are fewer words, and then nothing is written,
+  pub short : (s : Session) (before : List ℕ) (r : RouteAnswer) (after : List ℕ) → Sound (sessionOf s)
+      → (Routes (sessionOf s) before (routeAnswer r) after
+      → ((routeAnswer r ≡ no (refusal 31 0)) ↔ (length before < routeRoom (sessionOf s))) × (routeAnswer r ≡ no (refusal 31 0) → after ≡ before))
+      × (RoutesBytes (sessionOf s) before (routeAnswer r) after
+      → ((routeAnswer r ≡ no (refusal 31 0)) ↔ (length before / 4 < routeRoom (sessionOf s))) × (routeAnswer r ≡ no (refusal 31 0) → after ≡ before))
+  -- and into any two buffers of as many or more, of words or of bytes, it is given or refused alike
+  pub longer : (s : Session) (before before′ : List ℕ) (x y : RouteAnswer) (after after′ : List ℕ)
+      → (routeRoom (sessionOf s) ≤ length before → routeRoom (sessionOf s) ≤ length before′
+      → Meets s (routed before x after) → Meets s (routed before′ y after′) → history.RefusedAlike x y)
+      × (routeRoom (sessionOf s) ≤ length before / 4 → routeRoom (sessionOf s) ≤ length before′ / 4
+      → Meets s (routedBytes before x after) → Meets s (routedBytes before′ y after′) → history.RefusedAlike x y)
+      × (routeRoom (sessionOf s) ≤ length before → routeRoom (sessionOf s) ≤ length before′ / 4
+      → Meets s (routed before x after) → Meets s (routedBytes before′ y after′) → history.RefusedAlike x y)
+  -- "From the session alone, work out the sum of crossing nets over all rows and columns, and the board's edge count."
+  pub wire : (s : Session) (r : WireAnswer) → wireAnswer r ≡ wire (sessionOf s)
+      → (Unsound (sessionOf s) → wireAnswer r ≡ no (refusal 20 0)) × (Sound (sessionOf s) → wireAnswer r ≡ yes (figuresOf (sessionOf s)))
+  -- "Every routing of those nets uses at least the first number of edges and at most the second, and its words number at most 1 plus nets plus
+  -- edges. This is to be shown for every list of paths that the judge passes, ours or another tool's."
+  pub bounded : (s : machine.Session) (ws : List ℕ) (dss : List (List Direction)) → Sound s → judged s ws ≡ yes dss → Bounded s ws dss
   -- 02, §4, of any sound session, however it came about, and a long enough buffer: where at most 12 vertices are odd, a routing exactly when pairwise
   -- edge-disjoint paths joining the nets exist, and otherwise the first overfull cut is named, or 34 given where there is none; where every vertex is
   -- even, 34 never comes
@@ -293,7 +317,8 @@ pub record Demand1 : Type 0 where
       → Sound (sessionOf s) → routeRoom (sessionOf s) ≤ length before / 4
       → history.RightlyBoth (sessionOf s) (routeAnswer r) (HandsBackBytes (sessionOf s) before after)
   -- 02, §9: what is shown of cuts and routings is shown "for both books together". On two sound sessions with the same board and nets, whatever their
-  -- books and taken pins, what routing may answer is the same, and judging, comparing and drawing answer the same, in words and in bytes
+  -- books and taken pins, what routing may answer is the same, the figures are (§11), and judging, comparing and drawing answer the same, in
+  -- words and in bytes
   pub same-board : (s t : machine.Session) → Sound s → Sound t → s .block .board ≡ t .block .board → s .nets ≡ t .nets → AnsweredAlike s t
   -- 02, §8: "Taken pins don't make a vertex odd or even. .. They limit which nets can stand on a board, and routing such nets is judged as always." A
   -- sound session is sound with none taken, and these calls answer alike on the two
@@ -310,6 +335,10 @@ pub record Demand1 : Type 0 where
   pub c-route-rightly : (board before : List ℕ) (number first second : ℕ) (after : List ℕ) → RoutePromise board before number first second after
       → (s : machine.Session) → readBytes board ≡ yes s → routeRoom s ≤ length before / 4
       → (a : Result ℕ) × (tell number first second 0 ≡ countTold a) × history.RightlyBoth s a (HandsBackBytes s before after)
+  pub c-wire : (board : List ℕ) (number first second : ℕ) → WirePromise board number first second
+      → ((q : Refusal) → readBytes board ≡ no q → tell number first second 0 ≡ refusedTold q)
+      × ((s : machine.Session) → readBytes board ≡ yes s
+      → Sound s × (tell number first second 0 ≡ tell 0 (figuresOf s .crossings) (figuresOf s .edges) 0))
   pub c-judge : (board list : List ℕ) (number first second third : ℕ) → JudgePromise board list number first second third
       → ((q : Refusal) → readBytes board ≡ no q → tell number first second third ≡ refusedTold q)
       × ((s : machine.Session) → readBytes board ≡ yes s → TellsJudged s list (tell number first second third))
@@ -355,8 +384,11 @@ pub record Demand2 : Type 0 where
 -- holds is `Demand3` of crate session_history, file Demand, in the demand's own words. "its lists take in every call that changes a session"
 -- (document 02, §5), a list of nets in one call (§1), keeps, returns and moves to the new rule (§10) among them. A session that `fresh` hands back on
 -- a convex board, under either book (§9), with pins taken that are there (§8), is fresh.
+-- A routing call is held to it where its buffer has as many words as the word limit of the machine's session then, or more (§11: "the case of a long
+-- enough buffer read[s] accordingly"); so also where it has "2,049 words or more", as the demand says.
 pub record Demand3 : Type 0 where
   pub whole : (s : Session) (calls : List Made) → Fresh (sessionOf s) → Chain s calls → history.Demand3 s calls
+  pub whole-before : (s : Session) (calls : List Made) → Fresh (sessionOf s) → Chain s calls → history.Demand3Before s calls
   pub start : (b : code-block.Block) (s : Session) → Within (blockOf b .board) → Convex (blockOf b .board) → takenFine? (blockOf b) ≡ true
       → FreshPromise b s → Fresh (sessionOf s) × (sessionOf s ≡ bare (blockOf b))
   -- adds, lists of nets, withdrawals, take-backs, keeps, returns and moves that kept their promises are calls of such a list, as the machine is fed

@@ -52,6 +52,7 @@ use Rattle.judge_laws.specs.Passing.{Numbered}
 use Rattle.judge_laws.specs.Exact.{passes-exactly}
 use Rattle.judge_laws.specs.Alike.{judged-equally-many}
 use Rattle.judge_laws.specs.TwoTurns.{judged-two-turns}
+use Rattle.judge_laws.specs.Bounds.{judged-bounded}
 use Rattle.judge_laws.specs.Pages.{used-edges, reads-off, same-page}
 use Rattle.board_roundtrip.specs.Parts.{asRead}
 use Rattle.board_roundtrip.specs.Written.{words-few}
@@ -70,8 +71,9 @@ use Rattle.session_history.specs.Names as history-names
 use Rattle.session_history.specs.SameBoard as history-board
 use Rattle.session_history.specs.Untaken as history-untaken
 use Rattle.session_history.specs.Moved as history-moved
+use Rattle.session_history.specs.Rooms as history-rooms
 use Rattle.demands.specs.Demands.{Reads, WholeWords, Passes, OfRouting, Demand1, Demand2, Demand3}
-use Rattle.demands.specs.Routing.{words-shown, bytes-shown, itself, differ-itself, c-routed, c-routed-rightly}
+use Rattle.demands.specs.Routing.{words-shown, bytes-shown, itself, differ-itself, words-short, bytes-short, c-routed, c-routed-rightly}
 use Rattle.demands.specs.Judging.{
   unsound-first,
   sound-then,
@@ -89,6 +91,7 @@ use Rattle.demands.specs.Judging.{
   compares-bytes,
   c-compared,
 }
+use Rattle.demands.specs.Wire.{wire-is, c-wired}
 use Rattle.demands.specs.Drawing.{refused-leaves, draws, draws-bytes, c-drawn}
 
 -- ── 1 ──
@@ -201,6 +204,10 @@ demand-1 = record {
   );
   route = λ s before r after R. words-shown itself differ-itself (sessionOf s) (length before) before after (routeAnswer r) refl R;
   route-bytes = λ s before r after R. bytes-shown itself differ-itself (sessionOf s) (length before / 4) before after (routeAnswer r) refl R;
+  short = λ s before r after S. (words-short (sessionOf s) S, bytes-short (sessionOf s) S);
+  longer = history-rooms.longer;
+  wire = λ s r e. let m = sessionOf s in let f = e ∙ wire-is m in (λ n. f ∙ unsound-first m _ n, λ S. f ∙ sound-then m _ S);
+  bounded = λ s ws dss S j. judged-bounded s (S .within) ws dss j;
   judge = λ s ws r e.
       let m = sessionOf s in let x = reported m (judged m ws) in let f = e ∙ judge-is m ws in
       (λ n. f ∙ unsound-first m x n, λ S. judges m ws (judgementOf r) (f ∙ sound-then m x S));
@@ -234,6 +241,7 @@ demand-1 = record {
   c-route = λ board before number first second after P. c-routed board before after (P .result) (tell number first second 0) (P .told) (P .routes);
   c-route-rightly = λ board before number first second after P s e long.
       c-routed-rightly board before after (P .result) (tell number first second 0) (P .told) (P .routes) s e long;
+  c-wire = λ board number first second P. c-wired board (tell number first second 0) P;
   c-judge = λ board list number first second third P. (
     λ q e. P ∙ ap judgeTold (c-refused board list q e),
     λ s e. tells-judged board list s (tell number first second third) P e,
@@ -320,6 +328,7 @@ demand-2 = record {
 pub demand-3 : Demand3
 demand-3 = record {
   whole = λ s calls F k. history.demand-3 s calls F k;
+  whole-before = λ s calls F k. history.demand-3-before s calls F k;
   start = λ b s W C T P. (P .fresh W C T, P .bare);
   add-made = λ s n r P. P .call;
   add-all-made = λ s ns r P. P .call;

@@ -2,8 +2,9 @@
 -- Assumes nothing but the promise.
 use mathlib.Core.Path.{_≡_, refl, ap, sym, _∙_, subst}
 use mathlib.Core.List.{List}
+use mathlib.Core.Logic.{_↔_}
 use mathlib.Core.Option.{none, some}
-use Prim.Native.Nat.{ℕ, _/_, _≤_}
+use Prim.Native.Nat.{ℕ, _/_, _≤_, _<_}
 use native.Mathlib.Omega.{arith}
 use lib.ListN.{length}
 use Rattle.routing_rules.specs.Routing.{Routable}
@@ -11,6 +12,8 @@ use Rattle.corner.specs.Paths.{routing-routable, tidied}
 use Rattle.session_rules.specs.Refusal.{Refusal, refusal}
 use Rattle.session_rules.specs.Session as machine
 use Rattle.session_rules.specs.Session.{pairs}
+use Rattle.session_rules.specs.Sound.{Sound}
+use Rattle.session_laws.specs.Exact.{sound-exact}
 use Rattle.call_rules.specs.Result.{Result, no, yes}
 use Rattle.call_rules.specs.Reading.{readBytes}
 use Rattle.call_rules.specs.Route.{
@@ -26,6 +29,7 @@ use Rattle.call_rules.specs.Route.{
   refused,
   given,
 }
+use Rattle.call_rules.specs.RouteLaws.{some-none, short-31, why-31, same-refusal}
 use Rattle.call_rules.specs.Editor.{EditorRoutes, unread, read}
 use Rattle.cidrask_told.specs.Told.{tell, refusedTold, countTold}
 use Rattle.cidrask_told.specs.declared.Told.{Told}
@@ -89,6 +93,37 @@ itself a = a
 
 pub differ-itself : (n : ℕ) → yes n ≡ no (refusal 34 0) → ⊥
 differ-itself n e = let z : _≡_ {A = ℕ} 0 1 = cc in omega arith
+
+-- 31 exactly where the buffer is too short, and then nothing is written
+module _ (m : machine.Session) (S : Sound m) where
+  abbrev Short : (room : ℕ) → Result ℕ → (Same : Type 0) → Type 0
+  Short room a Same = ((a ≡ no (refusal 31 0)) ↔ (room < routeRoom m)) × (a ≡ no (refusal 31 0) → Same)
+
+  refused-short : (room : ℕ) {r : Refusal} {Same : Type 0} → WhyRefused m room r → Same → Short room (no r) Same
+  refused-short room {r} w same = let e = sound-exact m .1 S in (
+    (
+      λ f. why-31 m room e w (let g : _≡_ {A = Result ℕ} (no r) (no (refusal 31 0)) = f in cc),
+      λ h. ap no (same-refusal m room w (by-line {r = refusal 31 0} (short-31 m room e h))),
+    ),
+    λ f. same,
+  )
+
+  given-short : (room n : ℕ) {Same : Type 0} → routeRefused m room ≡ none → Short room (yes n) Same
+  given-short room n f = (
+    (
+      λ g. absurd (let z : _≡_ {A = ℕ} 0 1 = cc in omega arith),
+      λ h. absurd (some-none (refusal 31 0) (sym (short-31 m room (sound-exact m .1 S) h) ∙ f)),
+    ),
+    λ g. absurd (let z : _≡_ {A = ℕ} 0 1 = cc in omega arith),
+  )
+
+  pub words-short : {before after : List ℕ} {a : Result ℕ} → Routes m before a after → Short (length before) a (after ≡ before)
+  words-short {before} (refused w) = refused-short (length before) w refl
+  words-short {before} (given {count = n} e H) = given-short (length before) n e
+
+  pub bytes-short : {before after : List ℕ} {a : Result ℕ} → RoutesBytes m before a after → Short (length before / 4) a (after ≡ before)
+  bytes-short {before} (refused w) = refused-short (length before / 4) w refl
+  bytes-short {before} (given {count = n} e H) = given-short (length before / 4) n e
 
 -- and as C is told it
 differ-told : (n : ℕ) → tell 0 n 0 0 ≡ tell 34 0 0 0 → ⊥

@@ -15,11 +15,13 @@ ghost use Rattle.session_move.specs.Promise.{MovePromise};
 ghost use Rattle.call_rules.specs.Reading.{readWords, readBytes};
 ghost use Rattle.call_rules.specs.Judge.{judgeWords, judgeBytes, compareWords, compareBytes};
 ghost use Rattle.call_rules.specs.Route.{Routes, RoutesBytes};
+ghost use Rattle.call_rules.specs.Wire.{wire as wireOf};
 ghost use Rattle.board_reading.specs.Promise.{ReadPromise};
 ghost use Rattle.board_writing.specs.Promise.{WritePromise};
 ghost use Rattle.judge_call.specs.Answers.{judgementOf, likenessOf};
 ghost use Rattle.draw_call.specs.Promise.{DrawWordsPromise, DrawBytesPromise};
 ghost use Rattle.route_call.specs.Answers.{routeAnswer};
+ghost use Rattle.wire_call.specs.Answers.{wireAnswer};
 use board::Board;
 use board_block::Block;
 use board_block::Book;
@@ -39,6 +41,7 @@ use session::AfterTakeBack;
 use session::AfterWithdraw;
 use session::Session;
 use session_move::AfterMove;
+use wire_call::WireAnswer;
 
 // Is the board within the limits and convex?
 pub fn is_convex(b: Board) -> bool
@@ -179,6 +182,13 @@ pub fn draw_bytes(s: Session, bytes: &[u8], out: &mut [u8]) -> DrawAnswer
     ensures { λ r. ⌜ DrawBytesPromise (sessionOf s) (now (bytes .entry)) (now (out .entry)) r (now (out .exit)) ⌝ }
 {
     draw_call::draw_bytes(s, bytes, out)
+}
+
+// The sum of crossing nets over all rows and columns, and the board's edge count.
+pub fn wire(s: Session) -> WireAnswer
+    ensures { λ r. ⌜ wireAnswer r ≡ wireOf (sessionOf s) ⌝ }
+{
+    wire_call::wire(s)
 }
 
 // A routing of a session's nets, into words or bytes.

@@ -19,8 +19,8 @@ use Rattle.call_rules.specs.Report.{directions}
 use Rattle.call_rules.specs.Alike.{Alike, alike?}
 use Rattle.call_rules.specs.AlikeLaws.{alike-exact}
 use Rattle.call_rules.specs.Judge.{pathsIn}
-use Rattle.judge_laws.specs.Walks.{uses-append, endsOf}
-use Rattle.routing_laws.specs.Used.{All, all-edges, joins-edges}
+use Rattle.judge_laws.specs.Walks.{endsOf}
+use Rattle.routing_laws.specs.Used.{uses-append, All, all-edges, joins-edges}
 use Rattle.judge_laws.specs.Alike.{Once, once-rest}
 use Rattle.judge_walk.specs.Slots.{slot, edgeAt}
 use Rattle.judge_walk.specs.SlotLaws.{Lies, edge-lies, slot-small, edge-at-slot}

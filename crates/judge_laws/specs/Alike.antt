@@ -21,8 +21,7 @@ use Rattle.call_rules.specs.Result.{yes}
 use Rattle.call_rules.specs.Alike.{Alike, equallyMany}
 use Rattle.call_rules.specs.AlikeLaws.{Among}
 use Rattle.call_rules.specs.Judge.{judged}
-use Rattle.judge_laws.specs.Walks.{uses-append}
-use Rattle.routing_laws.specs.Used.{length-edges}
+use Rattle.routing_laws.specs.Used.{uses-append, length-edges}
 use Rattle.judge_laws.specs.Exact.{passes-sound}
 
 -- DEFINITION: no edge stands twice in the list

@@ -9,3 +9,4 @@ pub mod Loops
 pub mod TwoTurns
 pub mod Reported
 pub mod Pages
+pub mod Bounds

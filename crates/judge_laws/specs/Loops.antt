@@ -13,7 +13,7 @@ use Rattle.board.specs.declared.Direction.the-variants.{Up, Right, Down, Left}
 use Rattle.board_convex.specs.Runs.{path-join}
 use Rattle.routing_rules.specs.Routing.{edgesFrom, uses}
 use Rattle.call_rules.specs.Alike.{SameEdges}
-use Rattle.judge_laws.specs.Walks.{uses-append}
+use Rattle.routing_laws.specs.Used.{uses-append}
 
 -- DEFINITION: the direction back
 abbrev pub back : Direction → Direction

@@ -27,9 +27,8 @@ use Rattle.call_rules.specs.Result.{yes}
 use Rattle.call_rules.specs.Report.{turnsAt, turnsOfEach, turnsOccurring, knockKnee, TwoTurns}
 use Rattle.call_rules.specs.ReportLaws.{occurring-no-pair, occurring-more, knock-knee-exact}
 use Rattle.call_rules.specs.Judge.{judged}
-use Rattle.judge_laws.specs.Walks.{uses-append}
 use Rattle.board_edges.specs.Spans.{edge-spans}
-use Rattle.routing_laws.specs.Used.{all-edges, joins-edges}
+use Rattle.routing_laws.specs.Used.{uses-append, all-edges, joins-edges}
 use Rattle.judge_laws.specs.Exact.{passes-sound}
 use Rattle.judge_laws.specs.Loops.{back, step-back}
 

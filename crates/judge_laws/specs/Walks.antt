@@ -25,6 +25,7 @@ use Rattle.routing_rules.specs.Check.{same-edge-exact}
 use Rattle.session_rules.specs.Refusal.{Refusal, line, firstRefusal}
 use Rattle.call_rules.specs.Result.{Result, no, yes, andThen, unless}
 use Rattle.call_rules.specs.Shape.{RunAt, PathAt}
+use Rattle.routing_laws.specs.Used.{uses-append}
 use Rattle.call_rules.specs.Walk.{Walker, walkSteps, walkRuns, walkPath, walkPaths}
 use Rattle.call_rules.specs.Report.{directions}
 use Rattle.call_rules.specs.Judge.{pathsIn}
@@ -107,11 +108,6 @@ path-went b p used used' h = go (walkRuns b (p .runs) (walker (p .net .ends .fir
     ]
 
 -- ── all paths ──
-pub uses-append : (e : Edge) (xs ys : List Edge) → uses e (xs ++ ys) ≡ uses e xs + uses e ys
-unfolding uses
-uses-append e [] ys = omega arith
-uses-append e (x ∷ xs) ys = omega (arith, uses-append e xs ys)
-
 abbrev pub endsOf : List PathAt → List Pair
 endsOf ps = map (λ (p : PathAt). p .net .ends) ps
 

@@ -16,14 +16,15 @@
 //     move                                  moves the session to the new rule, with its nets, empties the pile and forgets the names; one that is
 //                                           under the new rule already stays as it is. The rule stays when the session starts afresh
 //     paths                                 routes the nets
+//     wire                                  tells the sum of crossing nets over all rows and columns, and the board's edge count
 // The word stands at the line's start, whole, and ends at a space or with the line. Numbers stand in decimal, parted by spaces; one above 249 is read
 // as 255, and one that is missing as 0. Other lines are passed over.
 //
 // Each call prints a line: "accepted", or "refused", the number and the place, which of 39 is line and column. Of a list it is "accepted" and how
-// many nets went on, or "refused", the number, the place, "after" and how many went on before. Routing prints its words, each on a line. Then come
-// the nets in rising number, each a line "net" with what add was given, and the pile from its top, each a line "added" or "withdrawn" with the net;
-// then the names that hold something, each a line "kept" with the name and how many nets it holds, and these nets as above; then, where the board is
-// under the new rule, a line "book 1".
+// many nets went on, or "refused", the number, the place, "after" and how many went on before. Routing prints its words, each on a line, and `wire`
+// its two numbers, parted by a space. Then come the nets in rising number, each a line "net" with what add was given, and the pile from its top, each
+// a line "added" or "withdrawn" with the net; then the names that hold something, each a line "kept" with the name and how many nets it holds, and
+// these nets as above; then, where the board is under the new rule, a line "book 1".
 ghost use Prim.Native.Nat.{_≤_};
 ghost use lib.ListN.{length};
 use board::Board;
@@ -47,6 +48,7 @@ use session_names::LAST_NAME;
 use session_names::Layout;
 use session_names::NAMES;
 use session_pile::Pile;
+use wire_call::WireAnswer;
 
 // A number that was read, and where it ended.
 struct Read {
@@ -236,6 +238,12 @@ fn print_move_answer(answer: MoveAnswer) {
     io::write_all(1, &out[..n]);
 }
 
+fn print_wire_answer(answer: WireAnswer) {
+    let mut out = [0u8; 128];
+    let n = wire_text::wire_line(answer, &mut out);
+    io::write_all(1, &out[..n]);
+}
+
 // A net with what add was given.
 fn print_net(name: &[u8], n: Net)
     requires { ⌜ length (now name) ≤ 16 ⌝ }
@@ -417,11 +425,20 @@ fn move_line(session: Session) -> Session {
     after.session
 }
 
-fn paths_line(session: Session) -> Session {
+fn paths_line(session: Session) {
     let mut out = [0u8; 18441];
     let n = route_text::session_text(session, &mut out);
     io::write_all(1, &out[..n]);
-    session
+}
+
+// The calls that change nothing.
+fn asking_line(session: Session, s: &[u8], at: usize) {
+    if is_word(s, at, b"paths") {
+        paths_line(session);
+    }
+    if is_word(s, at, b"wire") {
+        print_wire_answer(wire_call::wire(session));
+    }
 }
 
 fn line(session: Session, s: &[u8], at: usize) -> Session {
@@ -455,9 +472,7 @@ fn line(session: Session, s: &[u8], at: usize) -> Session {
     if is_word(s, at, b"move") {
         return move_line(session);
     }
-    if is_word(s, at, b"paths") {
-        return paths_line(session);
-    }
+    asking_line(session, s, at);
     session
 }
 

@@ -8,7 +8,7 @@ use Prim.Native.Nat.{ℕ, _≤_, _<_}
 use native.Mathlib.Omega.{arith}
 use lib.Dec.{ltb}
 use lib.ListN.{length}
-use borrow.Author.Tests.{lt-ltb, le-ltb}
+use borrow.Author.Tests.{le-ltb}
 use Rattle.count.specs.Lists.{head-none}
 use Rattle.board.specs.declared.Vertex.{Vertex}
 use Rattle.net.specs.declared.Pair.{Pair}
@@ -39,7 +39,7 @@ use Rattle.call_rules.specs.Route.{
   refused,
   given,
 }
-use Rattle.call_rules.specs.RouteLaws.{left, passed}
+use Rattle.call_rules.specs.RouteLaws.{short-31, left, passed}
 use Rattle.corner.specs.Paths.{routing-routable}
 use Rattle.pairing_search.specs.View.{noOdds, Few, Collects, Helps}
 use Rattle.pairing_search.specs.Collect.{few-none}
@@ -55,8 +55,7 @@ module _ (s : Session) (before : List ℕ) where
   route-unsound e = refused {r = refusal 20 0} (by-line {r = refusal 20 0} (rw e refl))
 
   pub route-short : sound? s ≡ true → length before < routeRoom s → Routes s before (no (refusal 31 0)) before
-  unfolding routeRefused
-  route-short e h = refused {r = refusal 31 0} (by-line {r = refusal 31 0} (rw (e, lt-ltb (length before) (routeRoom s) h) refl))
+  route-short e h = refused {r = refusal 31 0} (by-line {r = refusal 31 0} (short-31 s (length before) e h))
 
   -- v is the first of too many
   pub route-odd : (v : Vertex) → FirstOddKnown s v → routeRoom s ≤ length before

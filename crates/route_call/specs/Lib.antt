@@ -4,4 +4,5 @@ pub mod AnswerLaws
 pub mod Filled
 pub mod Starting
 pub mod Ending
+pub mod Room
 pub mod InBytes

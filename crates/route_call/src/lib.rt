@@ -21,11 +21,11 @@ use router_notes::VERTICES;
 use session::Session;
 use words::ROUTING_WORDS;
 
-// The words that routing asks for.
+// No board asks for more words.
 const WORDS: usize = ROUTING_WORDS;
 
-// What routing answers: the count of words written, or a refusal: 20 an unsound session, 31 a buffer under 2,049 words, 32 the first of more than 12
-// odd vertices, 33 the first overfull cut, 34 no routing though no cut is overfull.
+// What routing answers: the count of words written, or a refusal: 20 an unsound session, 31 a buffer of fewer than 1 + nets + edges
+// words, 32 the first of more than 12 odd vertices, 33 the first overfull cut, 34 no routing though no cut is overfull.
 pub enum RouteAnswer {
     Routed(usize),
     Unsound,
@@ -177,7 +177,7 @@ pub fn route(s: Session, out: &mut [u32]) -> RouteAnswer
     if !s.sound() {
         return RouteAnswer::Unsound;
     }
-    if out.len() < WORDS {
+    if out.len() < wire_call::word_limit(s) {
         return RouteAnswer::ShortBuffer;
     }
     let board = s.block.board;

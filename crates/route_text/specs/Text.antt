@@ -24,7 +24,7 @@ abbrev pub answerText : Result ℕ → (after : List ℕ) → List ℕ
 answerText (yes count) after = hexLines (take count after)
 answerText (no r) after = refusalText r
 
--- the text for a session that is routed into the least buffer: the refusal, or the words of a routing
+-- the text for a session that is routed into a buffer of 2,049 words, long enough for every session: the refusal, or the words of a routing
 pub data RouteText (s : Session) : (text : List ℕ) → Type 0 where
   refused : {r : Refusal} → WhyRefused s routingLimit r → RouteText s (refusalText r)
   given : (paths : List (List Direction)) → routeRefused s routingLimit ≡ none → Routing (s .block .board) (pairs (s .nets)) paths

@@ -9,7 +9,6 @@ use Rattle.count.specs.Truth.{one}
 use Rattle.board.specs.Board.{Within}
 use Rattle.board.specs.declared.Direction.{Direction}
 use Rattle.net.specs.declared.Pair.{Pair}
-use Rattle.board_edges.specs.Framed.{edges-most}
 use Rattle.routing_rules.specs.Routing.{Routing}
 use Rattle.routing_laws.specs.Words.{words-few}
 use Rattle.session_rules.specs.Session.{Session, pairs}
@@ -46,7 +45,7 @@ module _ (side vert half s1 s2 d1 d2 : List ℕ) (O : Ordered half d1 d2) (s : S
   pub fits : {before : List ℕ} → routeRoom s ≤ length before → Fits P (s .nets) before
   fits room = record {
     short = paths-short side vert half s1 s2 d1 d2 O (s .block .board) W B edges (length (s .nets)) few it R made;
-    room = omega (arith, words-few (s .block .board) W (s .nets) paths routing, edges-most (s .block .board) W);
+    room = omega (arith, words-few (s .block .board) W (s .nets) paths routing);
   }
 
   pub handed : {before after : List ℕ} {count : ℕ} → count ≡ length (wordsOf P (s .nets)) → after ≡ writtenInto before (wordsOf P (s .nets))

@@ -1,2 +1,5 @@
 pub mod Used
+pub mod EdgeList
 pub mod Words
+pub mod CrossingSum
+pub mod Crossed

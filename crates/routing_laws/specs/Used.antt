@@ -20,13 +20,18 @@ use Rattle.board_pins.specs.Pins.{frameSum}
 use Rattle.board_pins.specs.Frame.{frame-le, frame-add, frame-get}
 use Rattle.board_edges.specs.EdgeCount.{edgeCount}
 use Rattle.board_edges.specs.Spans.{Across, Downward, edge-spans}
-use Rattle.board_edges.specs.Framed.{edgesFrom as edgesLeading, edge-count-framed}
+use Rattle.board_edges.specs.Framed.{edgesLeading, edge-count-framed}
 use Rattle.net.specs.declared.Pair.{Pair}
 use Rattle.routing_rules.specs.Routing.{Joins, edgesFrom, trails, sameEdge, uses, Routing}
 use Rattle.routing_rules.specs.Check.{same-edge-exact}
 use Rattle.call_rules.specs.Report.{edgesUsed}
 
 -- ── the edges of paths ──
+pub uses-append : (e : Edge) (xs ys : List Edge) → uses e (xs ++ ys) ≡ uses e xs + uses e ys
+unfolding uses
+uses-append e [] ys = omega arith
+uses-append e (x ∷ xs) ys = omega (arith, uses-append e xs ys)
+
 -- DEFINITION: each edge of the list is one of the board's
 abbrev pub All : Board → List Edge → Type 0
 All b [] = Unit {0}
@@ -77,7 +82,7 @@ used-edges b (p ∷ ps) (ds ∷ dss) j = omega (
 )
 
 -- ── how many ──
--- how often an edge that leads right or down from a place is used
+-- DEFINITION: how often an edge that leads right or down from a place is used
 abbrev usedFrom : List Edge → Vertex → ℕ
 usedFrom es v = uses (along Right v) es + uses (along Down v) es
 

@@ -1,4 +1,4 @@
--- The words of a routing number at most 1 plus nets plus the board's edges; and so at most 2,049.
+-- The words of a routing number at most 1 plus nets plus the board's edges.
 -- Assumes that the board is within the limits.
 use mathlib.Core.List.{List, [], _∷_, map}
 use Prim.Native.Nat.{_+_, _≤_}

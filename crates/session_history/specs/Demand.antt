@@ -1,5 +1,5 @@
--- Definitions only: demand 3, over a list of calls with what each handed back; for routing as document 02, §4 has it. Nothing is proved here:
--- Routing has `demand-3`.
+-- Definitions only: demand 3, over a list of calls with what each handed back; for routing as document 02, §4 and §11 have it. Nothing is proved
+-- here: Routing has `demand-3`.
 use mathlib.Core.Path.{_≡_}
 use mathlib.Core.List.{List}
 use mathlib.Core.Logic.{_↔_, _⊎_}
@@ -19,6 +19,7 @@ use Rattle.session_rules.specs.Sound.{bare}
 use Rattle.session.specs.declared.Session as code
 use Rattle.session.specs.View.{sessionOf}
 use Rattle.call_rules.specs.Result.{Result, no, yes}
+use Rattle.call_rules.specs.Shape.{routingLimit}
 use Rattle.call_rules.specs.Route.{routeRoom, oddLimit, overfullRefusal, HandsBack, HandsBackBytes, Routes, RoutesBytes}
 use Rattle.route_call.specs.declared.RouteAnswer.{RouteAnswer}
 use Rattle.route_call.specs.Answers.{routeAnswer}
@@ -44,12 +45,12 @@ pub record Rightly (m : Session) (answer : Result ℕ) (HandedBack : ℕ → Typ
   pub named : (Routable (m .block .board) (pairs (m .nets)) → ⊥)
       → NamesCut m answer ⊎ ((answer ≡ no (refusal 34 0)) × NoCutOverfull m)
 
--- "Wherever routing is called .. with 2,049 words or more", m being the machine's session then; `FewOdd` stands where the demand has "while every
--- vertex's degree plus its terminals is even"
-abbrev pub RoutedRightly : Session → Made → Type 0
-RoutedRightly m (routed before r after) = routeRoom m ≤ length before → FewOdd m → Rightly m (routeAnswer r) (HandsBack m before after)
-RoutedRightly m (routedBytes before r after) = routeRoom m ≤ length before / 4 → FewOdd m → Rightly m (routeAnswer r) (HandsBackBytes m before after)
-RoutedRightly m (changed c a t) = Unit {0}
+-- "Wherever routing is called .. with" so many "words or more", m being the machine's session then: the demand has 2,049 for the room of every
+-- session, document 02, §11, the word limit of m. `FewOdd` stands where the demand has "while every vertex's degree plus its terminals is even"
+abbrev pub RoutedRightly : (room : Session → ℕ) → Session → Made → Type 0
+RoutedRightly room m (routed before r after) = room m ≤ length before → FewOdd m → Rightly m (routeAnswer r) (HandsBack m before after)
+RoutedRightly room m (routedBytes before r after) = room m ≤ length before / 4 → FewOdd m → Rightly m (routeAnswer r) (HandsBackBytes m before after)
+RoutedRightly room m (changed c a t) = Unit {0}
 
 -- each routing call, whatever its buffer and the board's odd vertices, was made on m: its answer and buffer are those of m's board and nets
 abbrev pub Concerns : Session → Made → Type 0
@@ -68,11 +69,11 @@ pub record RightlyEven (m : Session) (answer : Result ℕ) (HandedBack : ℕ →
   pub named : (Routable (m .block .board) (pairs (m .nets)) → ⊥) → NamesCut m answer
   pub never : answer ≡ no (refusal 34 0) → ⊥
 
-abbrev pub RoutedEven : Session → Made → Type 0
-RoutedEven m (routed before r after) = routeRoom m ≤ length before → AllEven m → RightlyEven m (routeAnswer r) (HandsBack m before after)
-RoutedEven m (routedBytes before r after) =
-    routeRoom m ≤ length before / 4 → AllEven m → RightlyEven m (routeAnswer r) (HandsBackBytes m before after)
-RoutedEven m (changed c a t) = Unit {0}
+abbrev pub RoutedEven : (room : Session → ℕ) → Session → Made → Type 0
+RoutedEven room m (routed before r after) = room m ≤ length before → AllEven m → RightlyEven m (routeAnswer r) (HandsBack m before after)
+RoutedEven room m (routedBytes before r after) =
+    room m ≤ length before / 4 → AllEven m → RightlyEven m (routeAnswer r) (HandsBackBytes m before after)
+RoutedEven room m (changed c a t) = Unit {0}
 
 -- both, of one routing call on m
 pub record RightlyBoth (m : Session) (answer : Result ℕ) (HandedBack : ℕ → Type 0) : Type 0 where
@@ -84,8 +85,9 @@ abbrev pub RefusedAlike : RouteAnswer → RouteAnswer → Type 0
 RefusedAlike x y = (q : Refusal) → (routeAnswer x ≡ no q) ↔ (routeAnswer y ≡ no q)
 
 -- the whole of demand 3, for the calls ms from the fresh session s: the machine starts with its board, no nets, an empty pile and nothing kept.
--- "its lists take in every call that changes a session" (02, §5): any mixture of them, and of routing calls
-pub record Demand3 (s : code.Session) (ms : List Made) : Type 0 where
+-- "its lists take in every call that changes a session" (02, §5): any mixture of them, and of routing calls. `room` says how many words the buffer of
+-- a routing call must have for the demand to speak of it
+pub record Demand3With (room : Session → ℕ) (s : code.Session) (ms : List Made) : Type 0 where
   -- "after it the board, nets and pile are those of 01's list machine", which "holds the names too" (02, §5),
   pub session : sessionOf (last s ms) ≡ after (bare (sessionOf s .block)) (callsOf ms)
   -- "and each add, withdrawal and take-back", and each list of nets, keep, return and move, "was answered as the machine answers."
@@ -93,6 +95,14 @@ pub record Demand3 (s : code.Session) (ms : List Made) : Type 0 where
   -- "a routing after any mixture concerns the nets that the history, returns included, leaves on the board" (02, §5): those that the machine then
   -- holds
   pub concerned : Everywhere Concerns (bare (sessionOf s .block)) ms
-  pub routings : Everywhere RoutedRightly (bare (sessionOf s .block)) ms
+  pub routings : Everywhere (RoutedRightly room) (bare (sessionOf s .block)) ms
   -- and while every vertex is even, in the demand's own words
-  pub even-routings : Everywhere RoutedEven (bare (sessionOf s .block)) ms
+  pub even-routings : Everywhere (RoutedEven room) (bare (sessionOf s .block)) ms
+
+-- "the case of a long enough buffer" reads "that word limit" (02, §11): that of the session that the machine holds at the call
+abbrev pub Demand3 : code.Session → List Made → Type 0
+Demand3 s ms = Demand3With routeRoom s ms
+
+-- and as the demand had it, "with 2,049 words or more"
+abbrev pub Demand3Before : code.Session → List Made → Type 0
+Demand3Before s ms = Demand3With (λ m. routingLimit) s ms

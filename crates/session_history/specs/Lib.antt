@@ -9,3 +9,4 @@ pub mod Answered
 pub mod SameBoard
 pub mod Untaken
 pub mod Moved
+pub mod Rooms

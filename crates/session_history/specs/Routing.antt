@@ -1,5 +1,6 @@
 -- Demand 3 for routing calls: wherever one is made in a list of calls, and at most 12 vertices are odd then, a routing is handed back exactly when
 -- there is one; otherwise the first overfull cut is named, or 34 given where there is none. Where no vertex is odd, 34 never comes (`rightly-even`).
+-- It holds of calls with as many words as the session's word limit or more (document 02, §11), and so of calls with 2,049 (`demand-3-before`).
 -- Assumes of each call only its promise.
 use mathlib.Core.Path.{_≡_, refl, ap, sym, _∙_}
 use mathlib.Core.List.{List, []}
@@ -25,6 +26,7 @@ use Rattle.session_laws.specs.Exact.{sound-exact}
 use Rattle.session.specs.declared.Session as code
 use Rattle.session.specs.View.{sessionOf}
 use Rattle.call_rules.specs.Result.{Result, no, yes}
+use Rattle.call_rules.specs.Shape.{routingLimit}
 use Rattle.call_rules.specs.Route.{
   routeRoom,
   overfullRefusal,
@@ -39,11 +41,11 @@ use Rattle.call_rules.specs.Route.{
   given,
 }
 use Rattle.call_rules.specs.RouteLaws.{passed-roomy, refused-cut}
-use Rattle.route_call.specs.Answers.{routeAnswer}
 use Rattle.route_call.specs.Sessions.{problem-of}
+use Rattle.route_call.specs.Room.{room-most}
 use Rattle.session_history.specs.Made.{Made, changed, routed, routedBytes, Meets, Chain}
 use Rattle.session_history.specs.Demand.{FewOdd, NoCutOverfull, Rightly, RoutedRightly, Concerns}
-use Rattle.session_history.specs.Demand.{AllEven, RightlyEven, RoutedEven, RightlyBoth, Demand3}
+use Rattle.session_history.specs.Demand.{AllEven, RightlyEven, RoutedEven, RightlyBoth, Demand3With, Demand3, Demand3Before}
 use Rattle.session_history.specs.History.{as-the-machine, everywhere}
 
 -- ── one routing call ──
@@ -133,16 +135,21 @@ bytes-both m S long R = record {
   all-even = λ E. rightly-even m S E _ _ (bytes-rightly m S (even-few m S E) long R);
 }
 
--- ── wherever a call is made ──
-each : (s : code.Session) (m : Made) → Sound (sessionOf s) → Meets s m → RoutedRightly (sessionOf s) m
-each s (routed before r after) S k = λ long. words-both (sessionOf s) S long k .few-odd
-each s (routedBytes before r after) S k = λ long. bytes-both (sessionOf s) S long k .few-odd
-each s (changed c a t) S k = tt
+-- ── wherever a call is made, with a buffer that is long enough ──
+-- DEFINITION: who has so many words has as many as routing asks for
+abbrev Enough : (room : Session → ℕ) → Type 0
+Enough room = (m : Session) → Sound m → routeRoom m ≤ room m
 
-each-even : (s : code.Session) (m : Made) → Sound (sessionOf s) → Meets s m → RoutedEven (sessionOf s) m
-each-even s (routed before r after) S k = λ long. words-both (sessionOf s) S long k .all-even
-each-even s (routedBytes before r after) S k = λ long. bytes-both (sessionOf s) S long k .all-even
-each-even s (changed c a t) S k = tt
+module _ (room : Session → ℕ) (enough : Enough room) where
+  each : (s : code.Session) (m : Made) → Sound (sessionOf s) → Meets s m → RoutedRightly room (sessionOf s) m
+  each s (routed before r after) S k = λ long. words-both (sessionOf s) S (omega (arith, enough (sessionOf s) S)) k .few-odd
+  each s (routedBytes before r after) S k = λ long. bytes-both (sessionOf s) S (omega (arith, enough (sessionOf s) S)) k .few-odd
+  each s (changed c a t) S k = tt
+
+  each-even : (s : code.Session) (m : Made) → Sound (sessionOf s) → Meets s m → RoutedEven room (sessionOf s) m
+  each-even s (routed before r after) S k = λ long. words-both (sessionOf s) S (omega (arith, enough (sessionOf s) S)) k .all-even
+  each-even s (routedBytes before r after) S k = λ long. bytes-both (sessionOf s) S (omega (arith, enough (sessionOf s) S)) k .all-even
+  each-even s (changed c a t) S k = tt
 
 each-concerns : (s : code.Session) (m : Made) → Sound (sessionOf s) → Meets s m → Concerns (sessionOf s) m
 each-concerns s (routed before r after) S k = k
@@ -154,12 +161,19 @@ each-concerns s (changed c a t) S k = tt
 fresh-bare : (m : Session) → Fresh m → m ≡ bare (m .block)
 fresh-bare m F = λ i. withNames (withNets m (F .no-nets i) (F .no-pile i)) (F .none-kept i)
 
-pub demand-3 : (s : code.Session) (ms : List Made) → Fresh (sessionOf s) → Chain s ms → Demand3 s ms
-demand-3 s ms F k =
+with-room : (room : Session → ℕ) → Enough room → (s : code.Session) (ms : List Made) → Fresh (sessionOf s) → Chain s ms → Demand3With room s ms
+with-room room enough s ms F k =
     let e = fresh-bare (sessionOf s) F in let h = as-the-machine s ms F k in record {
       session = rw (← e) (h .session);
       answered = rw (← e) (h .answer);
       concerned = rw (← e) (everywhere Concerns each-concerns s ms (F .sound) k);
-      routings = rw (← e) (everywhere RoutedRightly each s ms (F .sound) k);
-      even-routings = rw (← e) (everywhere RoutedEven each-even s ms (F .sound) k);
+      routings = rw (← e) (everywhere (RoutedRightly room) (each room enough) s ms (F .sound) k);
+      even-routings = rw (← e) (everywhere (RoutedEven room) (each-even room enough) s ms (F .sound) k);
     }
+
+pub demand-3 : (s : code.Session) (ms : List Made) → Fresh (sessionOf s) → Chain s ms → Demand3 s ms
+demand-3 = with-room routeRoom (λ m S. omega arith)
+
+-- "with 2,049 words or more": no session asks for more
+pub demand-3-before : (s : code.Session) (ms : List Made) → Fresh (sessionOf s) → Chain s ms → Demand3Before s ms
+demand-3-before = with-room (λ m. routingLimit) room-most

@@ -1,5 +1,5 @@
--- What routing, judging, comparing and drawing answer goes by the board and the nets, for both books together (document 02, §9) and whatever pins are
--- taken: on two sound sessions that have these in common it is the same.
+-- What routing, the figures, judging, comparing and drawing answer goes by the board and the nets, for both books together (document 02, §9) and
+-- whatever pins are taken: on two sound sessions that have these in common it is the same.
 -- Assumes that the sessions are sound.
 use mathlib.Core.Path.{_≡_, refl, sym, _∙_}
 use mathlib.Core.List.{List}
@@ -25,6 +25,7 @@ use Rattle.call_rules.specs.Route.{
   given,
 }
 use Rattle.call_rules.specs.RouteLaws.{same-refused}
+use Rattle.call_rules.specs.Wire.{wire}
 use Rattle.session_history.specs.Answered.{AnsweredAlike}
 
 -- from one of them to the other
@@ -58,10 +59,11 @@ module _ (s t : machine.Session) (S : Sound s) (T : Sound t) (b : s .block .boar
 -- and both ways
 module _ (s t : machine.Session) (S : Sound s) (T : Sound t) (b : s .block .board ≡ t .block .board) (n : s .nets ≡ t .nets) where
   pub same-board : AnsweredAlike s t
-  unfolding judgeWords judgeBytes compareWords compareBytes drawWords drawBytes judged
+  unfolding wire judgeWords judgeBytes compareWords compareBytes drawWords drawBytes judged
   same-board = record {
     routed = λ before x after. (carried s t S T b n before x after, carried t s T S (sym b) (sym n) before x after);
     routed-bytes = λ before x after. (carried-bytes s t S T b n before x after, carried-bytes t s T S (sym b) (sym n) before x after);
+    wired = rw (sound, b, n) refl;
     judged = λ ws. rw (sound, b, n) refl;
     judged-bytes = λ bs. rw (sound, b, n) refl;
     compared = λ vs ws. rw (sound, b, n) refl;

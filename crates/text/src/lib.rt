@@ -4,7 +4,7 @@ ghost use mathlib.Core.List.{[], _∷_, flatMap};
 ghost use Prim.Native.Nat.{_+_, _*_, _≤_, _<_};
 ghost use lib.ListN.{length, take};
 ghost use Rattle.text.specs.Hex.{digitAt, hexLine, hexLines};
-ghost use Rattle.text.specs.Line.{spaced, lineOf, refusedLine, refusedAfterLine};
+ghost use Rattle.text.specs.Line.{decimal, spaced, lineOf, refusedLine, refusedAfterLine};
 ghost use Rattle.text.specs.Put.{Put, Holds};
 use numbers::least;
 
@@ -86,6 +86,16 @@ pub fn line(name: &[u8], numbers: &[usize], out: &mut [u8]) -> usize
     ensures { λ r. ⌜ Holds (lineOf (now (name .entry)) (now (numbers .entry))) r (now (out .exit)) ⌝ }
 {
     put_line(name, numbers, out, 0)
+}
+
+// A line of two numbers, parted by a space.
+pub fn two_numbers(first: usize, second: usize, out: &mut [u8]) -> usize
+    requires { ⌜ 41 < length (now out) ⌝ }
+    ensures { λ r. ⌜ Holds (lineOf (decimal first) (second ∷ [])) r (now (out .exit)) ⌝ }
+{
+    let mut digits = [0u8; 20];
+    let count = io::decimal(first as u64, &mut digits);
+    line(&digits[..count], &[second], out)
 }
 
 // The line of a refusal with a place of one number.

@@ -34,6 +34,8 @@ use Rattle.call_rules.specs.Judge.{judged, judgeWords, compareWords, judgeBytes
 use Rattle.call_rules.specs.Page.{onLine, belowLine, textLine, page, drawWords, drawBytes}
 use Rattle.call_rules.specs.Editor.{editorDraw}
 use Rattle.call_rules.specs.Route.{routeRefused}
+use Rattle.call_rules.specs.Wire.{crossingSum, wire}
+use Rattle.board_edges.specs.EdgeCount.{edgesGoing, edgeCount}
 
 unfoldable pub everything : ℕ
 unfolding sum count select turn turns belowRight belowLeft aboveRight aboveLeft vertex? edge? degree pins pinsBy takenAt pinsOf inOrder? allThere?
@@ -46,6 +48,7 @@ unfolding sum count select turn turns belowRight belowLeft aboveRight aboveLeft 
     takeWords addListed readNets pinLines readParsed readWords readBytes boardWords writeBoard wordsRefused runsFrom pathsFrom walkSteps walkRuns
     walkPath walkPaths directions edgesUsed turnsMade turnsAt tally turnsOfEach turnsOccurring knockKnee knockKnees knockKneeOfNets among? alike?
     equallyMany judged judgeWords compareWords judgeBytes compareBytes onLine belowLine textLine page drawWords drawBytes editorDraw routeRefused
+    edgesGoing edgeCount crossingSum wire
     after answers xor
     flatMap flatten
 everything = 0

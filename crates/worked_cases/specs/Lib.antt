@@ -8,4 +8,5 @@ pub mod Names
 pub mod Taken
 pub mod Books
 pub mod Moves
+pub mod Wire
 pub mod Pages

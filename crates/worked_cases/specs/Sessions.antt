@@ -159,10 +159,10 @@ across n = net 1 0 0 0 n ∷ net 2 0 0 0 n ∷ net 3 1 0 1 n ∷ net 4 1 0 1 n �
 routing : map refusalList (
     -- 20 before 31
     routeRefused (bare (plain (board []))) 0
-    -- 31 before 32: 14 odd vertices
-    ∷ routeRefused (session (cells 8) []) 2048
+    -- 31 before 32: 14 odd vertices, and one word less than 1, no nets and 25 edges (document 02, §11)
+    ∷ routeRefused (session (cells 8) []) 25
     -- 32 "only where more than 12 vertices are odd, naming the first" (document 02, §4): 14, and before 33; not 2, as in case e, nor 12
-    ∷ routeRefused (session (cells 8) []) 2049
+    ∷ routeRefused (session (cells 8) []) 26
     ∷ routeRefused (session (cells 8) (across 8)) 2049
     ∷ routeRefused (session (cells 2) []) 2049
     ∷ routeRefused (session (cells 7) []) 2049

@@ -1,5 +1,4 @@
 -- `route` answers as the definition lays down.
-use native.Mathlib.Omega.{arith}
 use mathlib.Core.Path.{sym, _∙_}
 use borrow.Author.Tests.{not-true, not-false}
 use Rattle.net_places.specs.NetsLaws.{pairs-of}
@@ -15,6 +14,7 @@ use Rattle.pairing_search.proofs.no_odds.Reads as no-odds-reads
 use Rattle.route_call.proofs.route_few.Reads as route-few-reads
 use Rattle.route_call.proofs.route_odd.Reads as route-odd-reads
 use Rattle.session.proofs.Session.sound.Reads as sound-reads
+use Rattle.wire_call.proofs.word_limit.Reads as word-limit-reads
 
 sound-requires : tie.Need-sound-requires
 sound-requires c κs = search needs
@@ -25,12 +25,17 @@ returns c =
     let at-args = at-sound .before .before in let args = at-args .args in
     route-unsound (sessionOf (args .s)) _ (sym (sound .ensures .same) ∙ not-true (sound .result) (c .if1 .taken))
 
+word-limit-requires : tie.Need-word-limit-requires
+word-limit-requires c κs = let sound = c .before .sound in sound .ensures .exact .0 (not-false (sound .result) (c .if1 .left))
+
 returns-2 : tie.Need-returns-2
 returns-2 c =
-    let at-if1 = c .before in let if1 = at-if1 .if1 in
+    let at-word-limit = c .before in let word-limit = at-word-limit .word-limit in
+    let at-if1 = at-word-limit .before in let if1 = at-if1 .if1 in
     let at-sound = at-if1 .before in let sound = at-sound .sound in
     let at-args = at-sound .before .before in let args = at-args .args in
-    route-short (sessionOf (args .s)) _ (sym (sound .ensures .same) ∙ not-false (sound .result) (if1 .left)) (c .if2 .taken)
+    route-short (sessionOf (args .s)) _ (sym (sound .ensures .same) ∙ not-false (sound .result) (if1 .left))
+    (rw (word-limit .ensures) at (c .if2 .taken))
 
 first-odd-requires : tie.Need-first-odd-requires
 first-odd-requires c κs = search needs
@@ -42,14 +47,16 @@ route-odd-requires : tie.Need-route-odd-requires
 route-odd-requires c κs =
     let at-odd = c .before .before in let odd = at-odd .odd in
     let at-first-odd = at-odd .before .before in let first-odd = at-first-odd .first-odd in
-    let at-if1 = at-first-odd .before .before .before .before in let if1 = at-if1 .if1 in
+    let at-if2 = at-first-odd .before .before .before in let if2 = at-if2 .if2 in
+    let at-word-limit = at-if2 .before in let word-limit = at-word-limit .word-limit in
+    let at-if1 = at-word-limit .before in let if1 = at-if1 .if1 in
     let at-sound = at-if1 .before in let the-sound = at-sound .sound in
     let at-args = at-sound .before .before in let s = at-args .args .s in (
       record {
         sound = sym (the-sound .ensures .same) ∙ not-false (the-sound .result) (if1 .left);
         first = odd-at (sessionOf s) _ (pairs-of (s .nets)) _ (sym (odd .given .1) ∙ first-odd .ensures);
       },
-      omega arith,
+      rw (word-limit .ensures) at (if2 .left),
     )
 
 enum-told : tie.Need-enum-told
@@ -63,12 +70,14 @@ route-few-requires c κs =
     let at-no-odds = c .before in let no-odds = at-no-odds .no-odds in
     let at-enum-told = at-no-odds .before in let the-enum-told = at-enum-told .enum-told in
     let at-first-odd = at-enum-told .before .before in let first-odd = at-first-odd .first-odd in
-    let at-if1 = at-first-odd .before .before .before .before in let if1 = at-if1 .if1 in
+    let at-if2 = at-first-odd .before .before .before in let if2 = at-if2 .if2 in
+    let at-word-limit = at-if2 .before in let word-limit = at-word-limit .word-limit in
+    let at-if1 = at-word-limit .before in let if1 = at-if1 .if1 in
     let at-sound = at-if1 .before in let the-sound = at-sound .sound in
     let at-args = at-sound .before .before in let s = at-args .args .s in (
       even-few (sessionOf s) (sym (the-sound .ensures .same) ∙ not-false (the-sound .result) (if1 .left))
           (none-odd (sessionOf s) _ (pairs-of (s .nets)) (sym (the-enum-told .given .1) ∙ first-odd .ensures)) _ (no-odds .ensures),
-      omega arith,
+      rw (word-limit .ensures) at (if2 .left),
     )
 
 same-length : tie.Need-same-length
@@ -89,6 +98,7 @@ route-spec =
     (tie.spec
     sound-requires
     returns
+    word-limit-requires
     returns-2
     first-odd-requires
     enum-known-odd

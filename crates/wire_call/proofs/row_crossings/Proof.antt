@@ -1,0 +1,69 @@
+-- The loop sums the nets that cross the first i rows.
+use mathlib.Core.Path.{_≡_, sym}
+use Prim.Native.Nat.{ℕ, _-_, _*_, _≤_}
+use native.Mathlib.Numerals.{add-one}
+use native.Mathlib.Omega.{arith}
+use Rattle.count.specs.Sum.{sum, sum-zero, sum-suc}
+use Rattle.board.specs.Board.{height}
+use Rattle.board.specs.View.{boardOf}
+use Rattle.board.specs.ViewLaws.{height-of}
+use Rattle.net.specs.View.{pairsOf}
+use Rattle.cut.specs.Cut.{crossing}
+use Rattle.cut.specs.declared.Cut.the-variants.{Row}
+use borrow.Author.Needs.{needs}
+use Rattle.wire_call.proofs.row_crossings.Statement.{statement}
+use Rattle.wire_call.proofs.row_crossings.Tie as tie
+use Rattle.wire_call.proofs.row_crossings.Reads as reads
+use Rattle.wire_call.proofs.row_crossings.Lts as lts
+use Rattle.wire_call.proofs.crossing_nets.Reads as crossing-nets-reads
+
+abbrev Inv-loop : tie.InvT-loop
+Inv-loop b nets rows n₀ i₀ n i = (i ≤ rows) × (n ≤ 256 * i) × (n ≡ sum i (λ k. crossing (Row k) (pairsOf nets)))
+
+abbrev μ-loop : tie.MeasureT-loop
+μ-loop b nets rows n₀ i₀ n i = rows - i
+
+loop-holds : tie.Need-loop-holds Inv-loop μ-loop
+loop-holds c = (omega arith, omega arith, sym (sum-zero (λ k. crossing (Row k) (pairsOf (c .args .nets)))))
+
+crossing-nets-requires : tie.Need-crossing-nets-requires Inv-loop μ-loop
+crossing-nets-requires c κs = search needs
+
+add-n : tie.Need-add-n Inv-loop μ-loop
+add-n c = omega (arith, c .crossing-nets .ensures .1)
+
+add-i : tie.Need-add-i Inv-loop μ-loop
+add-i c = search needs
+
+loop-less : tie.Need-loop-less Inv-loop μ-loop
+loop-less c = search needs
+
+loop-again : tie.Need-loop-again Inv-loop μ-loop
+loop-again c =
+    let at-loop = c .before .before in let loop = at-loop .loop in
+    let f : ℕ → ℕ = λ k. crossing (Row k) (pairsOf (at-loop .before .args .nets)) in
+    let e = c .crossing-nets .ensures in (
+      omega (arith, c .before .loop-test .taken),
+      omega (arith, e .1),
+      rw (add-one (loop .i)) (omega (arith, e .0, sum-suc (loop .i) f, loop .inv .2)),
+    )
+
+returns : tie.Need-returns Inv-loop μ-loop
+returns c =
+    let at-loop = c .before in let loop = at-loop .loop in let args = at-loop .before .args in
+    let h : loop .i ≡ height (boardOf (args .b)) = omega (arith, c .loop-test .left, height-of (args .b)) in
+    (rw (← h) (loop .inv .2), omega arith)
+
+pub row-crossings-spec : {M : Type 1} → statement M
+row-crossings-spec =
+    tie.close
+    (tie.spec
+    Inv-loop
+    μ-loop
+    loop-holds
+    crossing-nets-requires
+    add-n
+    add-i
+    loop-less
+    loop-again
+    returns)
