@@ -10,7 +10,7 @@ use Rattle.std.proofs.Math.Seq.{get_or-set_other}
 use Rattle.std.proofs.Math.Numerals.{add-one}
 use Rattle.count.specs.TruthLaws.{le_or_lt}
 use Rattle.count.specs.Lists.{up_to, length-rising, getD-rising, rising_snoc, map_rising}
-use Rattle.board.specs.Board.{Board, height, left, right, no_row}
+use Rattle.board.specs.Board.{height, left, right, no_row}
 use Rattle.board.specs.Degree.{cell?}
 use Rattle.board.specs.declared.Row.{Row}
 use Rattle.board.specs.declared.Board as code

@@ -1,4 +1,6 @@
 // Boards: rows of unit cells, their vertices and edges. Every function is total: it answers for any value, within the limits or not.
+#![tactic(auto)]
+
 ghost use Rattle.std.specs.Prelude.{◌≡◌, ◌-◌, ◌≤◌, get_or};
 ghost use Rattle.count.specs.Truth.{one, Decides};
 ghost use Rattle.board.specs.Board.{no_row, right, IsVertex, IsEdge};
@@ -9,27 +11,27 @@ ghost use Rattle.board.specs.View.{board_of};
 use numbers::{before, wide};
 
 // A row of unit cells, from column left to column right.
-#[derive(Drop)]
+#[derive(Clone, Copy)]
 pub struct Row {
     pub left: u8,
     pub right: u8,
 }
 
 // A board: its first `count` rows, from the top. What stands in the other places plays no part.
-#[derive(Drop)]
+#[derive(Clone, Copy)]
 pub struct Board {
     pub count: u8,
     pub rows: [Row; 31],
 }
 
 // The place where a line and a column meet.
-#[derive(Drop)]
+#[derive(Clone, Copy)]
 pub struct Vertex {
     pub line: u8,
     pub column: u8,
 }
 
-#[derive(Drop)]
+#[derive(Clone, Copy)]
 pub enum Direction {
     Up,
     Right,

@@ -63,7 +63,7 @@ before_then u v w (inr p) (inl q) = inl (omega (arith, p.0))
 before_then u v w (inr p) (inr q) = inr (omega (arith, p.0, q.0), omega (arith, p.1, q.1))
 
 before_other : (u v : Vertex) → Before u v → same v u ≡ false
-before_other u v b = truth.not-true (same v u) (λ e. never (rw ((same_exact v u).0 e) at b))
+before_other u v b = truth.not_true (same v u) (λ e. never (rw ((same_exact v u).0 e) at b))
   where
     never : Before u u → ⊥
     never (inl p) = omega arith

@@ -1,4 +1,6 @@
 // A block: a board with its rule book and the pins that the package has taken, and the pins that nets may use.
+#![tactic(auto)]
+
 ghost use Rattle.std.specs.Prelude.{◌≡◌, ◌-◌, ◌≤◌, ◌<◌};
 ghost use Rattle.board.specs.View.{board_of};
 ghost use Rattle.board_block.specs.Book.{book_number, book_of, pins_by};
@@ -11,21 +13,21 @@ use board::{Board, Vertex};
 use numbers::wide;
 
 // The foundry's rule books, 0 the old and 1 the new: under the new one a vertex of degree 2 has one pin.
-#[derive(Drop)]
+#[derive(Clone, Copy)]
 pub enum Book {
     Old,
     New,
 }
 
 // So many pins of the vertex are taken.
-#[derive(Drop)]
+#[derive(Clone, Copy)]
 pub struct TakenPins {
     pub vertex: Vertex,
     pub count: u8,
 }
 
 // How many pins are taken at each vertex, that of line l and column c at place l * 32 + c.
-#[derive(Drop)]
+#[derive(Clone, Copy)]
 pub struct Block {
     pub board: Board,
     pub book: Book,

@@ -1,4 +1,6 @@
 // Is a board within the limits, and is it convex?
+#![tactic(auto)]
+
 ghost use Rattle.std.specs.Prelude.{◌≡◌, ◌≤◌};
 ghost use Rattle.count.specs.Truth.{Decides};
 ghost use Rattle.board.specs.Board.{Within};

@@ -1,4 +1,6 @@
 // Degrees of vertices, by the cells of the board that meet there, and the pins that they leave.
+#![tactic(auto)]
+
 ghost use Rattle.std.specs.Prelude.{◌≡◌, ◌≤◌};
 ghost use Rattle.board.specs.Degree.{degree, pins};
 ghost use Rattle.board.specs.View.{board_of};
@@ -7,7 +9,7 @@ ghost use Rattle.board_degree.specs.Kind.{kind_by, kind_of, degree_of_kind};
 use board::{Board, Vertex};
 
 // What a place is to the board, by how many of the board's cells meet there. Every vertex of a convex board is one of the first four.
-#[derive(Drop)]
+#[derive(Clone, Copy)]
 pub enum VertexKind {
     // one cell
     OuterCorner,

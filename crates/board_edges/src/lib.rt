@@ -1,4 +1,6 @@
 // How many edges a board has.
+#![tactic(auto)]
+
 ghost use Rattle.std.specs.Prelude.{◌≡◌, ◌<◌};
 ghost use Rattle.board.specs.Board.{Within};
 ghost use Rattle.board.specs.Path.{Convex};

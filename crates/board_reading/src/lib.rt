@@ -1,4 +1,6 @@
 // Reading a board from words and from bytes: a session with an empty pile, or a refusal and the blank session.
+#![tactic(auto)]
+
 ghost use Rattle.std.specs.Prelude.{◌≡◌};
 ghost use Rattle.board.specs.View.{board_of};
 ghost use Rattle.board_block.specs.View.{block_of};
@@ -15,21 +17,21 @@ use words::{BOARD_WORDS, BoardWord};
 use words_bytes::Filled;
 
 // What reading answers: a refusal has its number and place.
-#[derive(Drop)]
+#[derive(Clone, Copy)]
 pub enum ReadAnswer {
     Accepted,
     Refused(u8, usize),
 }
 
 // What reading hands back.
-#[derive(Drop)]
+#[derive(Clone, Copy)]
 pub struct AfterRead {
     pub answer: ReadAnswer,
     pub session: Session,
 }
 
 // The taken pins of all words, at each vertex's place; or `over`, and the index of the first word that takes more pins than its vertex has.
-#[derive(Drop)]
+#[derive(Clone, Copy)]
 pub struct TakenAll {
     pub over: bool,
     pub index: usize,
@@ -37,14 +39,14 @@ pub struct TakenAll {
 }
 
 // The nets so far with one word more; number 0, or that of the refusal.
-#[derive(Drop)]
+#[derive(Clone, Copy)]
 pub struct Added {
     pub number: u8,
     pub nets: [Place; 64],
 }
 
 // The nets of all words, or the number and index of the first that is refused.
-#[derive(Drop)]
+#[derive(Clone, Copy)]
 pub struct AddedAll {
     pub number: u8,
     pub index: usize,

@@ -10,7 +10,6 @@ use Rattle.count.specs.Each.{each_append}
 use Rattle.board.specs.declared.Row.{Row}
 use Rattle.board_block.specs.Taken.{in_order?}
 use Rattle.board_block.specs.declared.TakenPins.{TakenPins}
-use Rattle.net.specs.declared.Net.{Net}
 use Rattle.session_rules.specs.Refusal.{line, first_refusal}
 use Rattle.session_laws.specs.Rising.{From}
 use Rattle.words.specs.BoardWord.{row_word, taken_word, net_word, end_word, board_word}

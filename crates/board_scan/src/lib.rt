@@ -1,4 +1,6 @@
 // The words of a board, taken one by one: each through refusals 12 to 15.
+#![tactic(auto)]
+
 ghost use Rattle.std.specs.Prelude.{◌≡◌};
 ghost use Rattle.session_rules.specs.Refusal.{refusal};
 ghost use Rattle.call_rules.specs.Result.{no};
@@ -26,7 +28,7 @@ use words::{BOARD_WORDS, BoardEnd, BoardWord};
 
 // What the words so far have said: the board's rows, whether pins are taken and the last vertex of them, how many nets, the last net's number,
 // whether the end word has been, and the book that it names, the old one before it.
-#[derive(Drop)]
+#[derive(Clone, Copy)]
 pub struct Scan {
     pub board: Board,
     pub pins: bool,
@@ -38,7 +40,7 @@ pub struct Scan {
 }
 
 // A refusal's number and the index of its word, 0 and 0 for none, and what the words have said.
-#[derive(Drop)]
+#[derive(Clone, Copy)]
 pub struct Scanned {
     pub number: u8,
     pub index: usize,

@@ -1,4 +1,6 @@
 // Writing a session's board and nets as words into a lent buffer.
+#![tactic(auto)]
+
 ghost use Rattle.std.specs.Prelude.{◌≡◌, map, ◌+◌, ◌≤◌, ◌<◌, length};
 ghost use Rattle.board_block.specs.View.{taken_of};
 ghost use Rattle.session.specs.View.{session_of};
@@ -17,7 +19,7 @@ use session::Session;
 use words::{BOARD_WORDS, BoardEnd};
 
 // What writing answers: the count of words written, or a refusal: 20 an unsound session, 18 a buffer under BOARD_WORDS words.
-#[derive(Drop)]
+#[derive(Clone, Copy)]
 pub enum WriteAnswer {
     Written(usize),
     Unsound,

@@ -7,7 +7,6 @@ use Rattle.board.specs.declared.Direction.{Direction}
 use Rattle.net.specs.declared.Net.{Net}
 use Rattle.session_rules.specs.Refusal.{Refusal, refusal}
 use Rattle.words.specs.RoutingWord.{routing_word, path_in, run_in}
-use Rattle.words.specs.declared.Path.{Path}
 use Rattle.words.specs.declared.Run.{Run}
 use Rattle.words.specs.declared.RoutingWord.{RoutingWord}
 use Rattle.words.specs.declared.RoutingWord.TheVariants as word

@@ -1,4 +1,6 @@
 // The layout editor's calls, for programs in C. editor/cidrask.h tells a caller how to use them.
+#![tactic(auto)]
+
 ghost use Rattle.std.specs.Prelude.{◌≡◌};
 ghost use Rattle.call_rules.specs.Editor.{editor_wire, editor_judge, editor_alike};
 ghost use Rattle.cidrask_told.specs.Told.{wire_told, judge_told, alike_told};

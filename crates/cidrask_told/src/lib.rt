@@ -1,4 +1,6 @@
 // The numbers by which a program in C is told what a call answered.
+#![tactic(auto)]
+
 ghost use Rattle.std.specs.Prelude.{◌≡◌};
 ghost use Rattle.session_rules.specs.Refusal.{refusal};
 ghost use Rattle.call_rules.specs.Route.{overfull_refusal};
@@ -15,7 +17,7 @@ use route_call::RouteAnswer;
 use wire_call::WireAnswer;
 
 // The numbers by which a caller is told what came out.
-#[derive(Drop)]
+#[derive(Clone, Copy)]
 pub struct Told {
     pub number: u32,
     pub first: u64,

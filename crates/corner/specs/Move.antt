@@ -10,10 +10,9 @@ use Rattle.board.specs.declared.Vertex.{Vertex}
 use Rattle.net.specs.declared.Pair.{Pair}
 use Rattle.net.specs.Terminals.{same}
 use Rattle.cut.specs.declared.Cut.{Cut}
-use Rattle.cut.specs.Cut.{edges, side}
+use Rattle.cut.specs.Cut.{side}
 use Rattle.count.specs.Bits.{leb_next}
 use Rattle.corner.specs.Pairs.{pair, apart, All, leaving, standing, Proper, Take}
-use Rattle.board_convex.specs.Form.{width}
 use Rattle.net.specs.Same.{same_true, same_self}
 use Rattle.corner.specs.Apart.{astray_start, astray_end}
 use Rattle.corner.specs.Tallies.{all_zip, standing_cons, leaving_cons, all_out, leaving_ext}

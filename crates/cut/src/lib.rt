@@ -1,4 +1,6 @@
 // Cuts of a board: rows and columns, their edges, the nets that cross them, and their margins.
+#![tactic(auto)]
+
 ghost use Rattle.std.specs.Prelude.{◌≡◌, ◌≤◌, pos, ◌-ℤ◌};
 ghost use Rattle.std.specs.Int.Signed.{lt_z};
 ghost use Rattle.count.specs.Truth.{Decides};
@@ -13,14 +15,14 @@ use net::{Held, Pair, Place};
 use numbers::{before, larger};
 
 // A row i, or a column j: the cut between columns j and j + 1.
-#[derive(Drop)]
+#[derive(Clone, Copy)]
 pub enum Cut {
     Row(u8),
     Column(u8),
 }
 
 // What was counted of one cut: its edges and the nets that cross it.
-#[derive(Drop)]
+#[derive(Clone, Copy)]
 pub struct Tally {
     pub edges: u8,
     pub nets: u8,

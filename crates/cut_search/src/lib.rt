@@ -1,4 +1,6 @@
 // Searches: the first overfull cut of a board, and its first odd vertex.
+#![tactic(auto)]
+
 ghost use Rattle.std.specs.Prelude.{◌≡◌};
 ghost use mathlib.Core.List.{head?};
 ghost use Rattle.board.specs.View.{board_of};
@@ -14,14 +16,14 @@ use net::{Held, Place};
 use numbers::{larger, smaller, wide};
 
 // The first overfull cut, if there is one.
-#[derive(Drop)]
+#[derive(Clone, Copy)]
 pub enum FoundCut {
     Nothing,
     At(Cut),
 }
 
 // The first vertex that a search looks for, if there is one: here the first odd one.
-#[derive(Drop)]
+#[derive(Clone, Copy)]
 pub enum FoundVertex {
     Nothing,
     At(Vertex),

@@ -4,6 +4,8 @@
 // Prints a line of text for each line of the board, with a sign for each column from 0 to 31: "o" an outer corner, of degree 2; "s" a straight side,
 // of degree 3; "c" a concave corner and "i" a vertex inside, of degree 4; a space where no vertex is. Or "refused", the number and the place.
 // ("t", two cells that touch at a corner only, never comes: a board that is read is convex, see law `named_kinds`.)
+#![tactic(auto)]
+
 ghost use Rattle.std.specs.Prelude.{◌≡◌, ◌+◌, ◌≤◌, length};
 ghost use Rattle.text.specs.Put.{Put, Holds};
 ghost use Rattle.board.specs.View.{board_of};

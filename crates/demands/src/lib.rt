@@ -1,4 +1,6 @@
 // Cidrask's calls in one place, each with its promise: what specs/Demands.antt speaks of.
+#![tactic(auto)]
+
 ghost use Rattle.std.specs.Prelude.{◌≡◌, take};
 ghost use Rattle.count.specs.Truth.{Decides};
 ghost use Rattle.board.specs.Board.{Within};

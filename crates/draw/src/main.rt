@@ -3,6 +3,8 @@
 // Standard input is the board's words and then the routing's, as files have them, four bytes a word, lowest first: cat BOARD LIST | draw. The board
 // ends with its end word, the first word of kind 15. 65,536 bytes are read at most, more than any board and routing have.
 // Prints the page, 63 characters and a line feed for each of its text lines; or "refused", the number and the place.
+#![tactic(auto)]
+
 ghost use Rattle.std.specs.Prelude.{◌≡◌, ◌≤◌, length};
 ghost use Rattle.text.specs.Put.{Holds};
 ghost use Rattle.session.specs.View.{session_of};

@@ -1,4 +1,6 @@
 // Drawing a routing of a session as a page of text, from a list of routing words given as words or as bytes.
+#![tactic(auto)]
+
 ghost use Rattle.std.specs.Prelude.{◌≡◌};
 ghost use Rattle.session_rules.specs.Refusal.{refusal};
 ghost use Rattle.session.specs.View.{session_of};
@@ -12,7 +14,7 @@ use judge_shape::{Checked, Refusal};
 use session::Session;
 
 // What drawing answers: the count of bytes written, or the refusal.
-#[derive(Drop)]
+#[derive(Clone, Copy)]
 pub enum DrawAnswer {
     Drawn(usize),
     Refused(Refusal),

@@ -1,4 +1,6 @@
 // Two routings are alike when each net uses the same set of edges in both: their maps of used edges have the same net at every slot.
+#![tactic(auto)]
+
 ghost use Rattle.std.specs.Prelude.{◌≡◌};
 ghost use Rattle.judge_alike.specs.MapsAlike.{maps_alike};
 

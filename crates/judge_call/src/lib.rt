@@ -1,4 +1,6 @@
 // Judging and comparing lists of routing words against a session, given as words or as bytes.
+#![tactic(auto)]
+
 ghost use Rattle.std.specs.Prelude.{◌≡◌};
 ghost use Rattle.session.specs.View.{session_of};
 ghost use Rattle.call_rules.specs.Judge.{judge_words, compare_words, judge_bytes, compare_bytes};
@@ -12,7 +14,7 @@ use words::ROUTING_WORDS;
 use words_bytes::Filled;
 
 // What judging answers: the report; 20 an unsound session; 10 a count of bytes that is no multiple of 4; or 41 to 46.
-#[derive(Drop)]
+#[derive(Clone, Copy)]
 pub enum Judgement {
     Passed(Report),
     Unsound,
@@ -21,7 +23,7 @@ pub enum Judgement {
 }
 
 // What comparing answers: whether the two are alike; 20; 10 for either list; or the refusal of the first list, with 0, or of the second, with 1.
-#[derive(Drop)]
+#[derive(Clone, Copy)]
 pub enum Likeness {
     Alike(bool),
     Unsound,

@@ -1,6 +1,6 @@
 -- Routings that are alike are alike in the older sense: every net uses equally many edges in both.
 -- Assumes that they are routings of the same pairs, where no edge is used twice; so it holds of any two lists that pass.
-use Rattle.std.specs.Prelude.{◌≡◌, refl, true, false, cond, ℕ, suc, ◌+◌, ◌≤◌, ◌<◌, eqb, length}
+use Rattle.std.specs.Prelude.{◌≡◌, refl, true, false, cond, ℕ, suc, ◌≤◌, ◌<◌, eqb, length}
 use Rattle.std.proofs.Common.{ap, sym, inl, inr, arith, eq-eqb}
 use mathlib.Core.List.{List, [], ◌∷◌, ◌++◌, flatten}
 use Rattle.count.specs.Truth.{one}

@@ -1,12 +1,12 @@
 -- Runs of which two in a row differ in direction: they are the runs of their directions.
 -- Assumes nothing.
-use Rattle.std.specs.Prelude.{◌≡◌, refl, false, List, [], ◌∷◌, ◌++◌, map, ℕ, zero, suc, ◌+◌, ◌-◌, ◌<◌, length, replicate}
+use Rattle.std.specs.Prelude.{◌≡◌, refl, false, List, [], ◌∷◌, ◌++◌, map, ℕ, zero, suc, ◌+◌, ◌-◌, ◌<◌, replicate}
 use Rattle.std.proofs.Common.{ap, sym, ◌∙◌, arith, eq-eqb}
 use Rattle.std.proofs.Math.Option.{Option, some}
 use Rattle.board.specs.Path.{number}
 use Rattle.board.specs.declared.Direction.{Direction}
 use Rattle.words.specs.Bits.{bits}
-use Rattle.words.specs.RoutingWord.{run_word, direction, run_in, step_then, runs_of}
+use Rattle.words.specs.RoutingWord.{run_word, run_in, step_then, runs_of}
 use Rattle.words.specs.Inverse.{direction_back, number_small}
 use Rattle.words.specs.declared.Run.{Run}
 use Rattle.call_rules.specs.Shape.{repeated, runs_from}

@@ -15,7 +15,6 @@ use Rattle.words.specs.RoutingWord.{routing_word, path_word, run_word, routing_e
 use Rattle.words.specs.Inverse.{SaysRouting, says_path, says_run, says_routing_end, says_no_routing, says_routing}
 use Rattle.words.specs.declared.Path.{Path}
 use Rattle.words.specs.declared.Run.{Run}
-use Rattle.words.specs.declared.RoutingWord.TheVariants as word
 use Rattle.call_rules.specs.Shape.{Due, between, in_path, over, runs_due, repeated, move_between, move_in_path, onward, words_refused, PathAt, paths_from}
 use Rattle.call_rules.specs.Judge.{paths_in}
 use Rattle.judge_laws.specs.Runs.{steps, Runs, no_more, one_more, runs_back, runs_in_words}

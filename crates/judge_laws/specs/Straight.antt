@@ -1,6 +1,6 @@
 -- The runs of a path on a board within the limits: of 1 to 31 edges, two in a row in different directions; and they give its directions back.
 -- Assumes that the board is within the limits.
-use Rattle.std.specs.Prelude.{◌≡◌, refl, true, List, [], ◌∷◌, ◌⊎◌, ℕ, suc, ◌+◌, ◌-◌, ◌<◌, ◌≤◌, eqb, length}
+use Rattle.std.specs.Prelude.{◌≡◌, refl, true, List, [], ◌∷◌, ◌⊎◌, ℕ, suc, ◌+◌, ◌-◌, ◌<◌, ◌≤◌, eqb}
 use Rattle.std.proofs.Common.{ap, sym, ◌∙◌, subst, inl, inr, add-one, arith, eqb-true}
 use Rattle.std.proofs.Math.Option.{none, some}
 use Rattle.count.specs.TruthLaws.{bool}

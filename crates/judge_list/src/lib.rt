@@ -1,4 +1,6 @@
 // Judging a list of routing words against a board and its nets, from words or bytes, and comparing two. That the session is sound is tested above.
+#![tactic(auto)]
+
 ghost use Rattle.std.specs.Prelude.{◌≡◌, ◌≤◌, length};
 ghost use Rattle.call_rules.specs.Shape.{routing_limit};
 ghost use Rattle.board.specs.View.{board_of};
@@ -21,21 +23,21 @@ use words::ROUTING_WORDS;
 use words_bytes::Filled;
 
 // The report on a list that passes, or its refusal.
-#[derive(Drop)]
+#[derive(Clone, Copy)]
 pub enum Verdict {
     Passed(Report),
     Refused(Refusal),
 }
 
 // Whether two lists that pass are alike; or the refusal of the first, with 0, or of the second, with 1.
-#[derive(Drop)]
+#[derive(Clone, Copy)]
 pub enum Comparison {
     Alike(bool),
     Refused(u8, Refusal),
 }
 
 // What a list of bytes comes to: it passes; 10 a count of bytes that is no multiple of 4; or 41 to 46.
-#[derive(Drop)]
+#[derive(Clone, Copy)]
 pub enum BytesChecked {
     Passed,
     UnevenBytes,

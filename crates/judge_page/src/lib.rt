@@ -1,4 +1,6 @@
 // A routing drawn as a page of text, from a board and a map of used edges.
+#![tactic(auto)]
+
 ghost use Rattle.std.specs.Prelude.{◌≡◌, ◌≤◌, ◌<◌, ltb, length, get_or};
 ghost use Rattle.board.specs.View.{board_of};
 ghost use Rattle.call_rules.specs.Result.{yes};

@@ -1,5 +1,7 @@
 // The report on the paths of a list of routing words: edges used, turns, knock-knees. A path is traced run by run.
 // A mark of each vertex says how many turns occurred there: none, one, or more.
+#![tactic(auto)]
+
 ghost use Rattle.std.specs.Prelude.{◌≡◌, ◌+◌, ◌-◌, ◌*◌, ◌≤◌, ltb, length};
 ghost use Rattle.count.specs.Truth.{one};
 ghost use Rattle.call_rules.specs.Judge.{paths_in};
@@ -30,7 +32,7 @@ use numbers::as_word;
 use words::Run;
 
 // Where a path has come to, the direction of its last step, and its edges and turns so far.
-#[derive(Drop)]
+#[derive(Clone, Copy)]
 pub struct Trace {
     pub line: u32,
     pub column: u32,
@@ -40,7 +42,7 @@ pub struct Trace {
 }
 
 // The index of the next path word, and the edges and turns of the paths so far.
-#[derive(Drop)]
+#[derive(Clone, Copy)]
 pub struct Sum {
     pub at: usize,
     pub edges: u32,
@@ -48,7 +50,7 @@ pub struct Sum {
 }
 
 // The report on a judged routing.
-#[derive(Drop)]
+#[derive(Clone, Copy)]
 pub struct Report {
     pub edges: u32,
     pub turns: u32,

@@ -1,4 +1,6 @@
 // The shape of a list of routing words: refusals 41 to 43.
+#![tactic(auto)]
+
 ghost use Rattle.std.specs.Prelude.{◌≡◌, suc, ◌≤◌, length, drop};
 ghost use Rattle.call_rules.specs.Shape.{routing_limit, between, repeated, at_end, words_refused};
 ghost use Rattle.net_places.specs.Places.{nets_from, nets_of};
@@ -19,28 +21,28 @@ use net::Place;
 use words::{ROUTING_WORDS, RoutingWord};
 
 // A refusal with one place number.
-#[derive(Drop)]
+#[derive(Clone, Copy)]
 pub struct Refusal {
     pub number: u8,
     pub place: u16,
 }
 
 // A check passed, or its refusal.
-#[derive(Drop)]
+#[derive(Clone, Copy)]
 pub enum Checked {
     Passed,
     Refused(Refusal),
 }
 
 // The direction of the run before, if there is one in the path.
-#[derive(Drop)]
+#[derive(Clone, Copy)]
 pub enum Last {
     Nothing,
     Was(Direction),
 }
 
 // What is due: a path word or the end word; one more run word and then so many; nothing.
-#[derive(Drop)]
+#[derive(Clone, Copy)]
 pub enum Due {
     Between,
     InPath(u16, Last),
@@ -48,7 +50,7 @@ pub enum Due {
 }
 
 // What a word leads to: a refusal; what is due then; the same where the next net got its path.
-#[derive(Drop)]
+#[derive(Clone, Copy)]
 pub enum Move {
     Wrong(u8),
     Same(Due),

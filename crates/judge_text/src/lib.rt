@@ -1,4 +1,6 @@
 // What judging and comparing answer, as a line of text at the start of a buffer; each function answers how many bytes it is.
+#![tactic(auto)]
+
 ghost use Rattle.std.specs.Prelude.{[], ◌∷◌};
 ghost use Rattle.text.specs.Line.{refused_line};
 ghost use Rattle.text.specs.Put.{Holds};

@@ -1,5 +1,7 @@
 // The paths of a list of routing words are walked on a board: refusals 44 to 46.
 // Which net uses an edge is looked up in a map of 2,048 slots, two for each vertex: the edge to its right and the edge down from it.
+#![tactic(auto)]
+
 ghost use Rattle.std.specs.Prelude.{◌≡◌, suc, ◌+◌, ◌<◌, ◌≤◌, min, length};
 ghost use Rattle.board.specs.View.{board_of};
 ghost use Rattle.net_places.specs.Places.{nets_of};
@@ -23,21 +25,21 @@ use numbers::{before, long, wide};
 use words::Run;
 
 // Where a run ends, or the number of its refusal.
-#[derive(Drop)]
+#[derive(Clone, Copy)]
 pub enum Walked {
     At(Vertex),
     Refused(u8),
 }
 
 // The index of the next path word, or a refusal.
-#[derive(Drop)]
+#[derive(Clone, Copy)]
 pub enum Onward {
     At(usize),
     Refused(Refusal),
 }
 
 // A path's runs as a part of the list: the index of the first and the index after the last. Nothing where the list is over.
-#[derive(Drop)]
+#[derive(Clone, Copy)]
 pub enum Part {
     Nothing,
     Runs(usize, usize),

@@ -7,6 +7,8 @@
 //     list NUMBER      40 of these nets on the bare board, in one call
 //     single NUMBER    the same nets in 40 calls
 // Then the last answer is printed: "accepted", or "refused" with the number.
+#![tactic(auto)]
+
 ghost use Rattle.std.specs.Prelude.{◌≤◌};
 
 use board::{Board, Row, Vertex};
@@ -16,7 +18,7 @@ use session::Session;
 use session_answers::Told;
 
 // A session, and what the last call on it answered.
-#[derive(Drop)]
+#[derive(Clone, Copy)]
 struct Lap {
     told: Told,
     session: Session,

@@ -1,4 +1,6 @@
 // Nets on a board: their terminals, and the 64 numbers that a session keeps them by.
+#![tactic(auto)]
+
 ghost use Rattle.std.specs.Prelude.{◌≡◌, ◌≤◌};
 ghost use Rattle.net.specs.Terminals.{same, ends, terminals};
 ghost use Rattle.net.specs.View.{held_ends, pairs_of};
@@ -6,35 +8,35 @@ ghost use Rattle.net.specs.View.{held_ends, pairs_of};
 use board::Vertex;
 
 // Two vertices that a path is to join: the first and the second terminal of a net.
-#[derive(Drop)]
+#[derive(Clone, Copy)]
 pub struct Pair {
     pub first: Vertex,
     pub second: Vertex,
 }
 
 // A net: a number and its terminals.
-#[derive(Drop)]
+#[derive(Clone, Copy)]
 pub struct Net {
     pub number: u8,
     pub ends: Pair,
 }
 
 // A change of a session: the net that was added or withdrawn.
-#[derive(Drop)]
+#[derive(Clone, Copy)]
 pub enum Change {
     Added(Net),
     Withdrawn(Net),
 }
 
 // What is held under a net's number.
-#[derive(Drop)]
+#[derive(Clone, Copy)]
 pub enum Held {
     Nothing,
     Ends(Pair),
 }
 
 // The place of one number; number n has place n - 1 of 64.
-#[derive(Drop)]
+#[derive(Clone, Copy)]
 pub struct Place {
     pub held: Held,
 }

@@ -1,4 +1,6 @@
 // The 64 places of a session's nets. Every function is total: it answers for any value.
+#![tactic(auto)]
+
 ghost use Rattle.std.specs.Prelude.{◌≡◌, ◌≤◌, length};
 ghost use Rattle.session_rules.specs.Session.{holds, recorded};
 ghost use Rattle.net_places.specs.Numbered.{replaced, index_of};

@@ -1,7 +1,7 @@
 -- How a loop over the places counts the terminals of all vertices: after i places those of the first i.
 -- Assumes nothing.
 use Rattle.std.specs.Prelude.{◌≡◌, refl, Bool, true, false, List, ℕ, ◌+◌, ◌*◌, ◌≤◌, ◌<◌, length, get_or, drop, replicate}
-use Rattle.std.proofs.Common.{ap, sym, ◌∙◌, inl, inr, arith, lt-ltb}
+use Rattle.std.proofs.Common.{ap, ◌∙◌, inl, inr, arith, lt-ltb}
 use Rattle.std.proofs.lemmas.List.{length-replicate, get_or-replicate}
 use Rattle.count.specs.Truth.{one}
 use Rattle.count.specs.TruthLaws.{bool}

@@ -1,4 +1,6 @@
 // Terminals counted once for all vertices: how many stand at each, that of line l and column c at place l * 32 + c.
+#![tactic(auto)]
+
 ghost use Rattle.std.specs.Prelude.{◌≡◌};
 ghost use Rattle.net.specs.View.{pairs_of};
 ghost use Rattle.net.specs.Grid.{changed_at};

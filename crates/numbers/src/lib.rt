@@ -1,4 +1,6 @@
 // Casts that lose nothing, and small functions on numbers, for every crate.
+#![tactic(auto)]
+
 ghost use Rattle.std.specs.Prelude.{◌≡◌, ◌-◌, ◌<◌, min, max};
 
 // A byte as an index.

@@ -1,4 +1,6 @@
 // Helper pairs for boards with odd vertices: the search for a pairing of these vertices that leaves no cut overfull.
+#![tactic(auto)]
+
 ghost use Rattle.std.specs.Prelude.{◌≡◌, true, false, cond, List, [], ◌++◌, map, ◌+◌, ◌≤◌, ◌<◌, length, get_or, set};
 ghost use Rattle.std.proofs.Math.Option.{some};
 ghost use Rattle.count.specs.Lists.{up_to, select};
@@ -32,14 +34,14 @@ use net::{Pair, Place};
 use numbers::wide;
 
 // The edges that are left at each cut, that of cut i at place i; or some cut is overfull.
-#[derive(Drop)]
+#[derive(Clone, Copy)]
 pub struct Slack {
     pub fits: bool,
     pub left: [u8; 62],
 }
 
 // Helper pairs, the first `count` of six; or there are none.
-#[derive(Drop)]
+#[derive(Clone, Copy)]
 pub struct FoundPairs {
     pub found: bool,
     pub count: usize,
@@ -47,7 +49,7 @@ pub struct FoundPairs {
 }
 
 // Odd vertices in reading order, in the last `count` places; or there are more than twelve.
-#[derive(Drop)]
+#[derive(Clone, Copy)]
 pub struct Odds {
     pub many: bool,
     pub count: usize,

@@ -25,6 +25,8 @@
 // its two numbers, parted by a space. Then come the nets in rising number, each a line "net" with what add was given, and the pile from its top, each
 // a line "added" or "withdrawn" with the net; then the names that hold something, each a line "kept" with the name and how many nets it holds, and
 // these nets as above; then, where the board is under the new rule, a line "book 1".
+#![tactic(auto)]
+
 ghost use Rattle.std.specs.Prelude.{◌≤◌, length};
 
 use board::{Board, Row, Vertex};
@@ -39,7 +41,7 @@ use session_pile::Pile;
 use wire_call::WireAnswer;
 
 // A number that was read, and where it ended.
-#[derive(Drop)]
+#[derive(Clone, Copy)]
 struct Read {
     value: u8,
     next: usize,
@@ -133,7 +135,7 @@ fn next_line(s: &[u8], from: usize) -> usize {
 }
 
 // A terminal that was read, and where it ended.
-#[derive(Drop)]
+#[derive(Clone, Copy)]
 struct ReadVertex {
     vertex: Vertex,
     next: usize,
@@ -152,7 +154,7 @@ fn vertex(s: &[u8], from: usize) -> ReadVertex {
 }
 
 // A net that was read, and where it ended.
-#[derive(Drop)]
+#[derive(Clone, Copy)]
 struct ReadNet {
     net: Net,
     next: usize,
@@ -177,7 +179,7 @@ fn net(s: &[u8], from: usize) -> ReadNet {
 }
 
 // A list of nets: the first of the array, so many.
-#[derive(Drop)]
+#[derive(Clone, Copy)]
 struct NetList {
     nets: [Net; LISTED],
     count: usize,

@@ -2,6 +2,8 @@
 //
 // Standard input is the board's words as a file has them, four bytes a word, lowest first.
 // Prints each routing word on a line, or "refused", the number and the place numbers.
+#![tactic(auto)]
+
 ghost use Rattle.std.specs.Prelude.{◌≡◌, List, ℕ, ◌%◌, ◌≤◌, length, take};
 ghost use Rattle.io.specs.Counts.{IsPrefixLen};
 ghost use Rattle.route.specs.Text.{BoardText};

@@ -1,4 +1,6 @@
 // The call `route`: the nets of a session joined by edge-disjoint paths, or what stands in the way.
+#![tactic(auto)]
+
 ghost use Rattle.std.specs.Prelude.{◌≡◌, ◌≤◌, length};
 ghost use Rattle.session.specs.View.{session_of};
 ghost use Rattle.session_rules.specs.Sound.{Sound};
@@ -21,7 +23,7 @@ const WORDS: usize = ROUTING_WORDS;
 
 // What routing answers: the count of words written, or a refusal: 20 an unsound session, 31 a buffer of fewer than 1 + nets + edges
 // words, 32 the first of more than 12 odd vertices, 33 the first overfull cut, 34 no routing though no cut is overfull.
-#[derive(Drop)]
+#[derive(Clone, Copy)]
 pub enum RouteAnswer {
     Routed(usize),
     Unsound,

@@ -1,4 +1,6 @@
 // Corners where no pair ends: a pair is divided there, or a helper pair is added.
+#![tactic(auto)]
+
 ghost use Rattle.std.specs.Prelude.{◌≡◌, cond, ◌≤◌, ◌<◌};
 ghost use Rattle.router_notes.specs.Limits.{pair_limit, last_pair};
 ghost use Rattle.router_invariant.specs.Divide.{dir1, dir2};

@@ -1,16 +1,15 @@
 -- The writes of a step at a corner with one edge make the step.
 -- Assumes what the parts promise.
-use Rattle.std.specs.Prelude.{◌≡◌, Bool, true, false, List, ◌⊎◌, ℕ, ◌+◌, ◌-◌, ◌*◌, ◌%◌, ◌≤◌, ◌<◌, get_or, set}
+use Rattle.std.specs.Prelude.{◌≡◌, Bool, true, false, List, ℕ, ◌+◌, ◌*◌, ◌%◌, ◌≤◌, ◌<◌, get_or, set}
 use Rattle.std.proofs.Common.{ap, ◌∙◌, sym, inl, inr, arith}
-use Rattle.count.specs.TruthLaws.{eq_or_ne, le_or_lt}
-use Rattle.router_table.specs.Scans.{First, seen_d}
+use Rattle.count.specs.TruthLaws.{eq_or_ne}
+use Rattle.router_table.specs.Scans.{seen_d}
 use Rattle.router_table.specs.Writes.{Moved}
-use Rattle.router_invariant.specs.Run.{Run, line_r, col_r, ul_r, nul_r, bul_r, bul_w}
+use Rattle.router_invariant.specs.Run.{Run, line_r, col_r, ul_r, bul_w}
 use Rattle.router_invariant.specs.Ready.{up_n}
-use Rattle.router_invariant.specs.OneEdge.{right_run, down_run}
-use Rattle.router_invariant.specs.Step.{Step, Stuck, FirstR, end_r, right, down, no_right, no_down, no_edge, no_line}
+use Rattle.router_invariant.specs.Step.{right, down, no_right, no_down, no_edge, no_line}
 use Rattle.router_ends.specs.declared.Work.{Work}
-use Rattle.router_ends.specs.View.{run, Went, OneEdgeR, halted, counted}
+use Rattle.router_ends.specs.View.{run, OneEdgeR, halted, counted}
 
 pub seen_low : (o : Bool) (l : ℕ) → l ≤ 31 → seen_d o l < 32
 seen_low true l h = omega arith

@@ -1,15 +1,14 @@
 -- The writes of each part of a step make the step.
 -- Assumes what the parts promise.
-use Rattle.std.specs.Prelude.{◌≡◌, Bool, true, false, cond, List, ◌⊎◌, ℕ, ◌+◌, ◌*◌, ◌≤◌, ◌<◌, get_or, set, eqb}
+use Rattle.std.specs.Prelude.{◌≡◌, Bool, true, false, cond, List, ℕ, ◌+◌, ◌*◌, ◌<◌, get_or, set, eqb}
 use Rattle.std.proofs.Common.{ap, ◌∙◌, sym, subst, inl, inr, arith}
 use Rattle.count.specs.TruthLaws.{bool}
 use Rattle.router_table.specs.Scans.{First, swap_d}
 use Rattle.router_table.specs.Writes.{Split}
 use Rattle.router_invariant.specs.Run.{Run, line_r, col_r, ul_r, bul_w}
 use Rattle.router_invariant.specs.Ready.{up_n}
-use Rattle.router_invariant.specs.TwoEnds.{split_run}
 use Rattle.router_invariant.specs.Choice.{far_w}
-use Rattle.router_invariant.specs.Step.{Step, Stuck, FirstR, end_r, split_two, no_second}
+use Rattle.router_invariant.specs.Step.{FirstR, split_two, no_second}
 use Rattle.router_ends.specs.declared.Work.{Work}
 use Rattle.router_ends.specs.View.{run, TwoEndsR, halted, counted}
 

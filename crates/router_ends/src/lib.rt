@@ -1,4 +1,6 @@
 // Corners where a pair ends: the one pair goes along the corner's one edge, or two pairs along its two edges.
+#![tactic(auto)]
+
 ghost use Rattle.std.specs.Prelude.{◌≡◌, cond, ◌+◌, ◌*◌, ◌≤◌, ◌<◌, set};
 ghost use Rattle.router_notes.specs.Limits.{pair_limit, vertex_limit};
 ghost use Rattle.router_table.specs.Writes.{Moved};
@@ -11,7 +13,7 @@ use router_notes::{PAIRS, VERTICES};
 
 // Where the router stands: lines top to bottom as the shape is read, upside down where `up` holds; the count of live pairs, and the first number
 // that no pair has had. It is stuck only where the problem was not good.
-#[derive(Drop)]
+#[derive(Clone, Copy)]
 pub struct Work {
     pub top: usize,
     pub bottom: usize,

@@ -2,7 +2,6 @@
 -- Assumes Ready, a corner with two edges and no terminal, a full top cut and room at the left one.
 use Rattle.std.specs.Prelude.{◌≡◌, refl, Bool, true, false, ℕ, ◌+◌, ◌<◌, get_or}
 use Rattle.std.proofs.Common.{ap, ◌∙◌, inl, inr, arith}
-use Rattle.count.specs.Truth.{one}
 use Rattle.count.specs.TruthLaws.{le_or_lt}
 use Rattle.board.specs.declared.Vertex.{Vertex}
 use Rattle.net.specs.Terminals.{same}
@@ -16,7 +15,7 @@ use Rattle.router_notes.specs.Corner.{turn_twice}
 use Rattle.router_notes.specs.Inv.{turn, turn_i}
 use Rattle.router_notes.specs.Arrays.{vtx}
 use Rattle.router_notes.specs.Table.{Has, take_item}
-use Rattle.router_notes.specs.State.{State, room}
+use Rattle.router_notes.specs.State.{State}
 use Rattle.router_table.specs.Scans.{First}
 use Rattle.router_invariant.specs.Run.{Run, shape_r, row_r, pairs_r, Holds, nul_r, bul_r}
 use Rattle.router_invariant.specs.Place.{nul-is, bul-is}

@@ -10,10 +10,8 @@ use Rattle.std.proofs.Math.Dec.{leb}
 use borrow.Author.Tests.{eqb-true, eqb-false, leb-true, leb-false}
 use Rattle.count.specs.TruthLaws.{bool, clash}
 use Rattle.count.specs.Bits.{eq_case}
-use Rattle.board.specs.Board.{at}
 use Rattle.board.specs.declared.Vertex.{Vertex}
 use Rattle.net.specs.Terminals.{same}
-use Rattle.corner.specs.Pairs.{here}
 use Rattle.corner.specs.Taking.{all_take, proper_take}
 use Rattle.corner.specs.Shape.{Shape, Here, last, UL}
 use Rattle.corner.specs.Presence.{corner_here}

@@ -3,10 +3,9 @@
 use Rattle.std.specs.Prelude.{◌≡◌, refl, Bool, true, false, not, List, ℕ, suc, ◌+◌, ◌-◌, ◌≤◌, ◌<◌, get_or, set}
 use Rattle.std.proofs.Common.{ap, ap₂, ◌∙◌, sym, subst, inl, inr, arith, length-set, get_or-set_same, get_or-set_other, add-one}
 use Rattle.count.specs.Bits.{eq_case}
-use Rattle.cut.specs.Cut.{side}
 use Rattle.corner.specs.Shape.{Shape, Good, last, UL, NUL, BUL, narrow}
 use Rattle.corner.specs.Delete.{narrow_less}
-use Rattle.corner.specs.Trails.{hor, ver, lo, hi, same_link}
+use Rattle.corner.specs.Trails.{hor, ver, same_link}
 use Rattle.router_notes.specs.Limits.{pair_limit, last_pair}
 use Rattle.router_notes.specs.Moves.{finish_opp}
 use Rattle.router_notes.specs.Notes.{Move, edge, start, finish, opp, Item, item, bwd, parted}
@@ -14,7 +13,7 @@ use Rattle.router_notes.specs.Corner.{turn_low, across_start, across_finish, dow
 use Rattle.router_notes.specs.Inv.{turn, turn_i, Framed, across_move, down_move}
 use Rattle.router_notes.specs.Arrays.{vtx, move_d, left_of, state_of, partD}
 use Rattle.router_notes.specs.Table.{pairs_of}
-use Rattle.router_notes.specs.State.{State, room}
+use Rattle.router_notes.specs.State.{State}
 use Rattle.router_notes.specs.Steps.{joint-inv}
 use Rattle.router_invariant.specs.Run.{Run, shape_r, row_r, state_r, Holds}
 use Rattle.router_invariant.specs.Place.{nul-is, bul-is}

@@ -8,7 +8,6 @@ use Rattle.std.proofs.Math.ListN.{length, get_or}
 use Rattle.std.proofs.Math.Seq.{get_or-set_same, get_or-set_other}
 use borrow.Author.Tests.{eq-eqb, ne_eqb, lt-ltb}
 use Rattle.count.specs.Bits.{eq_case}
-use Rattle.cut.specs.Cut.{side}
 use Rattle.router_notes.specs.Limits.{last_pair}
 use Rattle.router_notes.specs.Notes.{finish, item, parted}
 use Rattle.router_notes.specs.Arrays.{vtx, move_d, partD}

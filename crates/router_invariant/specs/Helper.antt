@@ -5,11 +5,9 @@ use Rattle.std.specs.Prelude.{◌≡◌, refl, Bool, ℕ, suc, ◌+◌, ◌≤�
 use Rattle.std.proofs.Common.{ap, ◌∙◌, sym, subst, inl, inr, arith, get_or-set_same, get_or-set_other, add-one}
 use Rattle.count.specs.Bits.{eq_case}
 use Rattle.net.specs.Terminals.{same}
-use Rattle.cut.specs.Cut.{side}
 use Rattle.corner.specs.Pairs.{standing}
 use Rattle.corner.specs.Shape.{Shape, last, UL, NUL, BUL, narrow, Roomy, top_cut, left_cut}
 use Rattle.corner.specs.Delete.{narrow_less}
-use Rattle.corner.specs.Trails.{lo, hi}
 use Rattle.router_notes.specs.Limits.{pair_limit}
 use Rattle.router_notes.specs.Notes.{Item, item}
 use Rattle.router_notes.specs.Goods.{helper_table}

@@ -6,11 +6,9 @@ use Rattle.std.proofs.Math.Bool.{true, false}
 use Rattle.std.proofs.Math.Logic.{inl, inr}
 use native.Mathlib.Omega.{arith}
 use Rattle.std.proofs.lemmas.Bool.{lt-leb}
-use Rattle.count.specs.Truth.{one}
 use Rattle.count.specs.TruthLaws.{le_or_lt}
 use Rattle.count.specs.Bits.{le_case}
 use Rattle.count.specs.Sums.{sum_none}
-use Rattle.board.specs.Board.{at}
 use Rattle.net.specs.Terminals.{same}
 use Rattle.corner.specs.Pairs.{standing, apart, hits, across, NoHigher}
 use Rattle.corner.specs.Shape.{Shape, last, UL, NUL, BUL, Full, left_cut}
@@ -22,7 +20,7 @@ use Rattle.router_notes.specs.Corner.{turn_twice}
 use Rattle.router_notes.specs.Inv.{turn, turn_i}
 use Rattle.router_notes.specs.Arrays.{vtx, row_of}
 use Rattle.router_notes.specs.Table.{pairs_of}
-use Rattle.router_notes.specs.State.{State, room}
+use Rattle.router_notes.specs.State.{State}
 use Rattle.router_table.specs.Scans.{cross_d, seen_d, depth_d, depth_at, Least}
 use Rattle.router_invariant.specs.Run.{Run, shape_r, row_r, pairs_r, Holds, nul_r, bul_r}
 use Rattle.router_invariant.specs.Place.{seen_turn, turn_at, last_is, nul-is, bul-is}

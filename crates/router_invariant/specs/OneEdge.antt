@@ -8,10 +8,8 @@ use Rattle.std.proofs.Math.Logic.{inl, inr}
 use Prim.Native.Nat.{ℕ, ◌+◌, ◌*◌, ◌≤◌, ◌<◌}
 use Rattle.count.specs.Bits.{eq_case}
 use Rattle.board.specs.declared.Vertex.{Vertex}
-use Rattle.cut.specs.Cut.{side}
 use Rattle.corner.specs.Shape.{Shape, Good, Less, last, UL, NUL, BUL, narrow, lower}
 use Rattle.corner.specs.Delete.{narrow_less, lower_less}
-use Rattle.corner.specs.Trails.{lo, hi}
 use Rattle.router_notes.specs.Limits.{pair_limit}
 use Rattle.router_notes.specs.Notes.{Move, start, finish, Item, on}
 use Rattle.router_notes.specs.Goods.{right_table, down_table}

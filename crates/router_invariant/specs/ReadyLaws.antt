@@ -5,7 +5,7 @@ use Rattle.std.proofs.Common.{ap, sym, subst, inl, arith, le-leb}
 use Rattle.count.specs.TruthLaws.{and_yes}
 use Rattle.board.specs.declared.Vertex.{Vertex}
 use Rattle.corner.specs.Taking.{all_take}
-use Rattle.corner.specs.Shape.{Shape, present, Here, Top, Shaped, last, UL, NUL, BUL}
+use Rattle.corner.specs.Shape.{Shape, present, Here, Shaped, last, UL, NUL, BUL}
 use Rattle.corner.specs.Presence.{present_yes, last_suc, corner_at}
 use Rattle.corner.specs.Trails.{ver}
 use Rattle.router_notes.specs.Notes.{bwd, stay, on}
@@ -14,7 +14,7 @@ use Rattle.router_notes.specs.Inv.{turn, turn_i, Inv, across_move, down_move}
 use Rattle.router_notes.specs.Arrays.{move_d, hop_at, hop_d, hop_of, left_of}
 use Rattle.router_notes.specs.Table.{take_item}
 use Rattle.router_notes.specs.State.{State, Live}
-use Rattle.router_invariant.specs.Run.{Run, shape_r, row_r, state_r, pairs_r, Sized, Holds, ul_r}
+use Rattle.router_invariant.specs.Run.{Run, shape_r, row_r, state_r, ul_r}
 use Rattle.router_invariant.specs.Ready.{Ready, up_n}
 use Rattle.router_invariant.specs.Place.{ul-is, low-ul}
 use Rattle.router_invariant.specs.CornerNotes.{hop_down, hop_up, go-here, go-kept}

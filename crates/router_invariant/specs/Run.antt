@@ -4,9 +4,7 @@
 -- corner have directions.
 use Rattle.std.specs.Prelude.{◌≡◌, Bool, true, false, List, ◌⊎◌, ℕ, ◌+◌, ◌-◌, ◌*◌, ◌≤◌, ◌<◌, length, get_or}
 use Rattle.net.specs.declared.Pair.{Pair}
-use Rattle.cut.specs.Cut.{side}
 use Rattle.corner.specs.Shape.{Shape}
-use Rattle.corner.specs.Trails.{lo, hi}
 use Rattle.router_notes.specs.Limits.{pair_limit, vertex_limit}
 use Rattle.router_notes.specs.Notes.{Item, Notes}
 use Rattle.router_notes.specs.Inv.{turn_i, Inv}

@@ -4,7 +4,6 @@ use Rattle.std.specs.Prelude.{◌≡◌, Bool, true, false, ◌&&◌, List, ℕ,
 use Rattle.std.proofs.Common.{◌∙◌, sym, subst, arith, le-leb, add-one}
 use Rattle.std.proofs.lemmas.Bool.{lt-leb}
 use Rattle.board.specs.declared.Vertex.{Vertex}
-use Rattle.cut.specs.Cut.{side}
 use Rattle.corner.specs.Shape.{Shape, Shaped, last, narrow, lower}
 use Rattle.corner.specs.Presence.{last_suc}
 use Rattle.corner.specs.Trails.{lo, hi}

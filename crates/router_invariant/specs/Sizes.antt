@@ -2,8 +2,6 @@
 -- Assumes nothing.
 use Rattle.std.specs.Prelude.{◌≡◌, Bool, List, ℕ, length, get_or, set, eqb}
 use Rattle.std.proofs.Common.{◌∙◌, length-set}
-use Rattle.cut.specs.Cut.{side}
-use Rattle.corner.specs.Trails.{lo, hi}
 use Rattle.router_table.specs.Writes.{moved_a, moved_b}
 use Rattle.router_invariant.specs.Run.{Run, Sized, ul_r, nul_r, bul_r}
 use Rattle.router_invariant.specs.Rows.{length_moved}

@@ -6,7 +6,7 @@ use Rattle.net.specs.Terminals.{same}
 use Rattle.corner.specs.Pairs.{standing}
 use Rattle.corner.specs.Shape.{Shape, Shaped, UL, Full, Roomy, top_cut, left_cut}
 use Rattle.router_notes.specs.Limits.{pair_limit, last_pair}
-use Rattle.router_notes.specs.State.{State, room}
+use Rattle.router_notes.specs.State.{State}
 use Rattle.router_table.specs.Scans.{cross_d, Least, swap_d}
 use Rattle.router_invariant.specs.Run.{Run, shape_r, pairs_r, Sized, Holds, line_r, col_r, ul_r}
 use Rattle.router_invariant.specs.Place.{seen_turn, col-is, ul-is}

@@ -6,11 +6,9 @@ use Rattle.std.proofs.Common.{ap, ◌∙◌, sym, subst, inl, inr, arith, le-leb
 use Rattle.std.proofs.lemmas.Bool.{lt-leb}
 use Rattle.count.specs.TruthLaws.{le_or_lt}
 use Rattle.board.specs.declared.Vertex.{Vertex}
-use Rattle.cut.specs.Cut.{side}
 use Rattle.corner.specs.Shape.{Shape, Top, Line, last}
 use Rattle.corner.specs.Presence.{last_suc, top_in}
 use Rattle.corner.specs.Flip.{flip, flip_good, flip_top}
-use Rattle.corner.specs.Trails.{lo, hi}
 use Rattle.router_notes.specs.Inv.{Inv}
 use Rattle.router_notes.specs.Turn.{turn_inv}
 use Rattle.router_notes.specs.Alike.{Alike, flip_alike, inv-alike}

@@ -9,10 +9,8 @@ use Rattle.std.proofs.Math.ListN.{get_or}
 use Rattle.count.specs.Bits.{eq_case}
 use Rattle.board.specs.declared.Vertex.{Vertex}
 use Rattle.net.specs.Terminals.{same}
-use Rattle.cut.specs.Cut.{side}
 use Rattle.corner.specs.Pairs.{standing}
 use Rattle.corner.specs.Shape.{Shape, UL, narrow}
-use Rattle.corner.specs.Trails.{lo, hi}
 use Rattle.router_notes.specs.Limits.{pair_limit}
 use Rattle.router_notes.specs.Notes.{Moved}
 use Rattle.router_notes.specs.Split.{split-inv}

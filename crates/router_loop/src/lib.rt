@@ -1,4 +1,6 @@
 // The corner router: corner after corner is cut off until no pair is live.
+#![tactic(auto)]
+
 ghost use Rattle.std.specs.Prelude.{◌≡◌, false, ◌+◌, ◌≤◌, ◌<◌, get_or};
 ghost use Rattle.router_ends.specs.View.{Low};
 ghost use Rattle.router_loop.specs.Promise.{Turned, CutAll, Kept};

@@ -4,11 +4,10 @@ use Rattle.std.specs.Prelude.{◌≡◌, refl, Bool, true, false, ◌&&◌, [], 
 use Rattle.std.proofs.Common.{ap, ◌∙◌, sym, subst, inl, inr, arith}
 use Rattle.count.specs.Truth.{one}
 use Rattle.count.specs.TruthLaws.{bool, clash, and_true, and_yes}
-use Rattle.count.specs.Bits.{eq_case, one_imply, and_off}
+use Rattle.count.specs.Bits.{eq_case, one_imply}
 use Rattle.count.specs.Sums.{sum_none}
 use Rattle.board.specs.declared.Vertex.{Vertex}
 use Rattle.net.specs.Terminals.{same}
-use Rattle.corner.specs.Pairs.{back}
 use Rattle.net.specs.Same.{same_true, same_self}
 use Rattle.corner.specs.Shape.{size}
 use Rattle.corner.specs.Trails.{Link, lo, hi, same_link}

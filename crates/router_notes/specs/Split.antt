@@ -6,7 +6,7 @@ use Rattle.count.specs.Bits.{eq_case}
 use Rattle.board.specs.declared.Vertex.{Vertex}
 use Rattle.net.specs.Terminals.{same}
 use Rattle.corner.specs.Pairs.{standing, Proper}
-use Rattle.corner.specs.Shape.{Shape, present, Good, Top, Less, size, last, UL, NUL, BUL, narrow}
+use Rattle.corner.specs.Shape.{Shape, present, Good, Top, Less, last, UL, NUL, BUL, narrow}
 use Rattle.corner.specs.Presence.{present_yes, last_suc}
 use Rattle.corner.specs.Delete.{narrow_less}
 use Rattle.router_notes.specs.Notes.{Item, Moved, on}

@@ -1,5 +1,6 @@
 // The forward invariant over all later notes: laws for the router and for path assembly. They are in specs/, Notes first. The code has the
 // sizes of the router's arrays alone.
+#![tactic(auto)]
 
 // The vertices of 32 lines and 32 columns.
 pub const VERTICES: usize = 1024;

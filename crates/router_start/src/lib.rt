@@ -1,4 +1,6 @@
 // How the router starts: the lines of a board, and the table of the pairs that are to be joined.
+#![tactic(auto)]
+
 ghost use Rattle.std.specs.Prelude.{◌≡◌, ◌+◌, ◌-◌, ◌≤◌, ◌<◌, length, take};
 ghost use Rattle.board.specs.View.{board_of};
 ghost use Rattle.net.specs.View.{pairs_of};

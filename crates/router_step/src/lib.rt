@@ -1,4 +1,6 @@
 // One step of the corner router on a table of live pairs: the corner is cut off, and what left it is noted.
+#![tactic(auto)]
+
 ghost use Rattle.std.specs.Prelude.{◌≡◌, ◌%◌, ◌≤◌, ◌<◌, get_or};
 ghost use Rattle.router_notes.specs.Limits.{pair_limit, last_pair};
 ghost use Rattle.router_ends.specs.View.{Low, Near};

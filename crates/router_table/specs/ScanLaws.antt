@@ -1,11 +1,11 @@
 -- One row more: what each scan knows after the next row.
 -- Assumes nothing.
-use Rattle.std.specs.Prelude.{◌≡◌, refl, Bool, true, false, cond, List, ◌⊎◌, ℕ, suc, ◌+◌, ◌-◌, ◌/◌, ◌%◌, ◌≤◌, ◌<◌, get_or, eqb, leb}
-use Rattle.std.proofs.Common.{ap, ap₂, ◌∙◌, sym, inl, inr, arith, add-one}
+use Rattle.std.specs.Prelude.{◌≡◌, refl, Bool, List, ◌⊎◌, ℕ, ◌+◌, ◌/◌, ◌%◌, ◌≤◌, ◌<◌, get_or, eqb, leb}
+use Rattle.std.proofs.Common.{ap, ◌∙◌, sym, inl, inr, arith, add-one}
 use Rattle.count.specs.Bits.{eq_case}
-use Rattle.count.specs.Sum.{sum, sum_suc, sum_zero}
+use Rattle.count.specs.Sum.{sum_suc, sum_zero}
 use Rattle.corner.specs.Pairs.{apart}
-use Rattle.router_table.specs.Scans.{Clear, cross_d, leave_d, depth_d, depth_at, Least, LeastSo}
+use Rattle.router_table.specs.Scans.{Clear, cross_d, leave_d, depth_at, Least, LeastSo}
 
 pub clear_more : (la lb : List ℕ) (v from i : ℕ) → Clear la lb v from i → (get_or la i 0 ≡ v → ⊥) → (get_or lb i 0 ≡ v → ⊥) → Clear la lb v from (i + 1)
 clear_more la lb v from i h a b k l m = elim (eq_case k i) [

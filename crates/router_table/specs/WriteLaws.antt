@@ -1,6 +1,6 @@
 -- Two ends moved one after the other are a split.
 -- Assumes what the two moves leave.
-use Rattle.std.specs.Prelude.{◌≡◌, refl, List, ℕ, ◌+◌, ◌*◌, get_or, set}
+use Rattle.std.specs.Prelude.{refl, List, ℕ, ◌+◌, ◌*◌, get_or, set}
 use Rattle.std.proofs.Common.{ap, ap₂, ◌∙◌}
 use Rattle.router_table.specs.Writes.{moved_a, moved_b, Moved, Split}
 

@@ -1,5 +1,7 @@
 // Scans over the table of live pairs, and the writes of each corner step. A vertex is the word 32 * line + column; row i has the ends la[i] and
 // lb[i] and the number ids[i].
+#![tactic(auto)]
+
 ghost use Rattle.std.specs.Prelude.{◌≡◌, cond, ◌+◌, ◌-◌, ◌*◌, ◌%◌, ◌≤◌, ◌<◌, get_or, set, eqb};
 ghost use Rattle.corner.specs.Pairs.{apart};
 ghost use Rattle.router_notes.specs.Limits.{pair_limit, last_pair, vertex_limit};

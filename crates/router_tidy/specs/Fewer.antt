@@ -1,7 +1,7 @@
 -- Each step deletes one vertex, a turn none; a shape has a vertex, and at most 1,024.
 -- Assumes Ready where a step is made.
-use Rattle.std.specs.Prelude.{◌≡◌, refl, Bool, true, false, not, List, ◌⊎◌, ℕ, zero, suc, ◌+◌, ◌*◌, ◌≤◌, ◌<◌, length, get_or, set}
-use Rattle.std.proofs.Common.{ap, ◌∙◌, sym, subst, inl, inr, arith, add-one}
+use Rattle.std.specs.Prelude.{◌≡◌, Bool, true, false, ◌+◌, ◌≤◌, ◌<◌, get_or, set}
+use Rattle.std.proofs.Common.{ap, ◌∙◌, sym, inl, inr, arith, add-one}
 use Rattle.count.specs.Truth.{one}
 use Rattle.count.specs.TruthLaws.{one_le}
 use Rattle.count.specs.Sum.{sum, sum_eq}
@@ -9,12 +9,10 @@ use Rattle.count.specs.Sums.{sum_le, sum_get, sum_const}
 use Rattle.corner.specs.Shape.{size, last, Shape, present, vertices, Shaped, narrow, lower}
 use Rattle.corner.specs.Presence.{last_suc, present_one}
 use Rattle.corner.specs.Delete.{narrow_less, lower_less, fewer}
-use Rattle.corner.specs.Flip.{flip, flip_vertices}
 use Rattle.router_notes.specs.Limits.{vertex_limit}
 use Rattle.router_notes.specs.State.{State}
 use Rattle.router_notes.specs.Alike.{Alike, present-alike, shape_of, turn_l, narrow_alike}
-use Rattle.router_table.specs.Scans.{seen_d}
-use Rattle.router_invariant.specs.Run.{Run, Holds, shape_r, line_r, col_r}
+use Rattle.router_invariant.specs.Run.{Run, shape_r, line_r, col_r}
 use Rattle.router_invariant.specs.Place.{seen_turn, last_is, col-is}
 use Rattle.router_invariant.specs.Ready.{Ready}
 use Rattle.router_invariant.specs.ReadyLaws.{shaped}

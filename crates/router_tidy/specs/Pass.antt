@@ -1,22 +1,21 @@
 -- Between two steps: rows that are not trivial are proper pairs, the shape read the other way has as many vertices, and what a step starts from.
 -- Assumes the invariant.
-use Rattle.std.specs.Prelude.{◌≡◌, refl, Bool, true, false, not, List, ℕ, zero, suc, ◌+◌, ◌-◌, ◌≤◌, ◌<◌, get_or}
-use Rattle.std.proofs.Common.{ap, ◌∙◌, sym, subst, arith}
+use Rattle.std.specs.Prelude.{◌≡◌, Bool, List, ℕ, zero, suc, ◌≤◌, ◌<◌, get_or}
+use Rattle.std.proofs.Common.{ap, ◌∙◌, sym, arith}
 use Rattle.count.specs.TruthLaws.{not_true}
-use Rattle.board.specs.declared.Vertex.{Vertex}
 use Rattle.net.specs.Terminals.{same}
 use Rattle.corner.specs.Pairs.{Proper}
 use Rattle.net.specs.Same.{same_true}
-use Rattle.corner.specs.Shape.{last, Shape, vertices, Top}
+use Rattle.corner.specs.Shape.{last, vertices, Top}
 use Rattle.corner.specs.Presence.{last_suc}
-use Rattle.corner.specs.Flip.{flip, flip_vertices}
+use Rattle.corner.specs.Flip.{flip_vertices}
 use Rattle.router_notes.specs.State.{State}
 use Rattle.router_notes.specs.Table.{pairs_of}
 use Rattle.router_notes.specs.Inv.{turn, turn_i}
 use Rattle.router_notes.specs.Corner.{turn_twice}
 use Rattle.router_notes.specs.Alike.{flip_alike}
 use Rattle.router_notes.specs.Arrays.{vtx, row_of}
-use Rattle.router_invariant.specs.Run.{Run, Holds, Sized, shape_r, pairs_r, row_r}
+use Rattle.router_invariant.specs.Run.{Run, Holds, Sized, shape_r, pairs_r}
 use Rattle.router_invariant.specs.Place.{vtx_same, last_is}
 use Rattle.router_invariant.specs.Ready.{Ready}
 use Rattle.router_invariant.specs.Turned.{turn_run}

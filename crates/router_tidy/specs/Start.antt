@@ -1,14 +1,13 @@
 -- The start and the end of all steps: zeroed notes with row i numbered i are in order, and with no live pair the notes give a routing of the start.
 -- Assumes a good problem at the start.
-use Rattle.std.specs.Prelude.{◌≡◌, refl, Bool, true, false, List, ◌⊎◌, ℕ, ◌+◌, ◌*◌, ◌≤◌, ◌<◌, get_or, ltb, eqb}
-use Rattle.std.proofs.Common.{ap, ap₂, ◌∙◌, sym, inl, inr, arith, eq-eqb, ne_eqb, le-leb}
+use Rattle.std.specs.Prelude.{◌≡◌, List, ℕ, ◌+◌, ◌*◌, ◌≤◌, ◌<◌, get_or, ltb}
+use Rattle.std.proofs.Common.{◌∙◌, sym, inl, inr, arith, eq-eqb, ne_eqb, le-leb}
 use Rattle.std.proofs.lemmas.Bool.{lt-leb}
 use Rattle.count.specs.TruthLaws.{bool}
 use Rattle.corner.specs.Shape.{last, Good}
 use Rattle.router_notes.specs.State.{State, Routes}
 use Rattle.router_notes.specs.Leads.{leads_refl, leads_end}
-use Rattle.router_notes.specs.Inv.{Inv}
-use Rattle.router_notes.specs.Arrays.{vtx, hop_at, hop_d, hop_of, partD}
+use Rattle.router_notes.specs.Arrays.{hop_at, hop_d, hop_of, partD}
 use Rattle.router_invariant.specs.Run.{Run, state_r, shape_r, pairs_r, notes_r, row_r, Holds}
 
 abbrev Zeros : List ℕ → Type 0

@@ -1,5 +1,5 @@
 -- Definitions only: what dropping trivial pairs leaves. Nothing is proved here.
-use Rattle.std.specs.Prelude.{◌≡◌, Bool, List, ℕ, ◌≤◌, ◌<◌, get_or}
+use Rattle.std.specs.Prelude.{◌≡◌, List, ℕ, ◌<◌, get_or}
 use Rattle.router_notes.specs.Limits.{pair_limit}
 use Rattle.router_notes.specs.State.{State}
 use Rattle.router_invariant.specs.Run.{Run, Holds, Sized}

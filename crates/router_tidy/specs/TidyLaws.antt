@@ -1,13 +1,11 @@
 -- One row more: it is dropped, or it is not trivial.
 -- Assumes what the rows before left.
-use Rattle.std.specs.Prelude.{◌≡◌, refl, List, [], ◌∷◌, ◌⊎◌, ℕ, zero, suc, ◌+◌, ◌-◌, ◌≤◌, ◌<◌, length, get_or, set}
-use Rattle.std.proofs.Common.{ap, ◌∙◌, sym, subst, inl, inr, arith, get_or-set_same, get_or-set_other}
-use Rattle.count.specs.TruthLaws.{eq_or_ne, le_or_lt}
+use Rattle.std.specs.Prelude.{◌≡◌, List, ℕ, ◌+◌, ◌-◌, ◌≤◌, ◌<◌, get_or}
+use Rattle.std.proofs.Common.{sym, subst, inl, inr, arith, get_or-set_other}
+use Rattle.count.specs.TruthLaws.{eq_or_ne}
 use Rattle.router_notes.specs.Limits.{pair_limit}
-use Rattle.router_notes.specs.State.{State}
 use Rattle.router_table.specs.Writes.{Dropped}
-use Rattle.router_invariant.specs.Run.{Run, Holds, Sized}
-use Rattle.router_invariant.specs.Drop.{drop_run, drop-holds}
+use Rattle.router_invariant.specs.Drop.{drop-holds}
 use Rattle.router_invariant.specs.Halving.{stored}
 use Rattle.router_invariant.specs.Sizes.{sized_drop}
 use Rattle.router_tidy.specs.Tidy.{table_r, Tidied}

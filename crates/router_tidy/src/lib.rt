@@ -1,4 +1,6 @@
 // Between two corner steps: trivial pairs are dropped.
+#![tactic(auto)]
+
 ghost use Rattle.std.specs.Prelude.{◌≡◌, ◌≤◌};
 ghost use Rattle.router_notes.specs.Limits.{pair_limit};
 ghost use Rattle.router_tidy.specs.Tidy.{Tidied};

@@ -3,6 +3,8 @@
 // downwards, and 1 more of one that left it upwards. half[k] is the id of pair k's first half, the second is the next one, 0 of an undivided
 // pair; d1[k] and d2[k] are the moves between the halves. s1[k] and s2[k] are the vertices that pair k was made with.
 // Every function answers for any notes; what finds no room is not written.
+#![tactic(auto)]
+
 ghost use Rattle.std.specs.Prelude.{◌≡◌, [], ◌∷◌, ◌≤◌, ◌<◌};
 ghost use Rattle.router_notes.specs.Limits.{pair_limit};
 ghost use Rattle.router_notes.specs.Arrays.{hop_at, hop_d};

@@ -1,4 +1,6 @@
 // The words of a routing, written from the router's notes.
+#![tactic(auto)]
+
 ghost use Rattle.std.specs.Prelude.{◌≡◌, ◌+◌, ◌≤◌, ◌<◌, length, set};
 ghost use Rattle.board.specs.Path.{number};
 ghost use Rattle.words.specs.RoutingWord.{direction, path_words};

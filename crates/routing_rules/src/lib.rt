@@ -1,1 +1,2 @@
 // What a routing is: definitions, in specs/. There is no code.
+#![tactic(auto)]

@@ -5,6 +5,8 @@
 //     bytes BYTE ..    the same of at most 904 bytes
 //     write            the blank session is written into buffers of 1, 50, 223 and 224 words: prints "written" with the count, or the refusal
 // Other lines are passed over.
+#![tactic(auto)]
+
 ghost use Rattle.std.specs.Prelude.{◌≡◌, ◌≤◌, length, take};
 ghost use Rattle.io.specs.Counts.{IsPrefixLen};
 ghost use Rattle.text.specs.Put.{Holds};

@@ -1,4 +1,6 @@
 // The boards of the table "Boards to be proved": what the library answers of each, on a line of its own.
+#![tactic(auto)]
+
 mod build;
 mod say;
 

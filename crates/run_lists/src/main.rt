@@ -1,5 +1,7 @@
 // Judges stored lists of routing words and prints each verdict on a line: "passed" with edges, turns and knock-knees, or "refused" with
 // number and place. Four comparisons stand between them.
+#![tactic(auto)]
+
 use board::{Board, Row, Vertex};
 use judge_list::{Comparison, Verdict};
 use net::{Held, Pair, Place};

@@ -5,6 +5,8 @@
 //     board WORD ..    the session that the lists are judged against, at most 2,050 words
 //     list WORD ..     is judged, at most 2,050 words of it
 // Other lines are passed over.
+#![tactic(auto)]
+
 ghost use Rattle.std.specs.Prelude.{◌≡◌};
 ghost use Rattle.text.specs.Put.{Holds};
 ghost use Rattle.session.specs.View.{session_of};
@@ -27,7 +29,7 @@ fn print_list(s: Session, words: &[u32]) {
 }
 
 // The session after a line, and where the next line begins.
-#[derive(Drop)]
+#[derive(Clone, Copy)]
 struct Lined {
     session: Session,
     next: usize,

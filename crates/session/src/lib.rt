@@ -1,6 +1,8 @@
 // Sessions: a block, the nets on its board, the pile of changes that can be taken back, and the trial layouts kept under eight names.
 // Each call takes a session and hands back the next. A refused call hands back the session that it was given; `add_all` hands back the one that the
 // nets before the refused one left.
+#![tactic(auto)]
+
 ghost use Rattle.std.specs.Prelude.{◌≡◌, ◌+◌, ◌<◌, ◌^◌};
 ghost use Rattle.count.specs.Truth.{Decides};
 ghost use Rattle.session_rules.specs.Sound.{Sound, sound?};
@@ -21,7 +23,7 @@ use session_names::{Layout, NAMES};
 use session_pile::Pile;
 
 // Net n is held at place n - 1.
-#[derive(Drop)]
+#[derive(Clone, Copy)]
 pub struct Session {
     pub block: Block,
     pub nets: [Place; 64],
@@ -30,37 +32,37 @@ pub struct Session {
 }
 
 // What each call hands back: its answer and the next session.
-#[derive(Drop)]
+#[derive(Clone, Copy)]
 pub struct AfterAdd {
     pub answer: AddAnswer,
     pub session: Session,
 }
 
-#[derive(Drop)]
+#[derive(Clone, Copy)]
 pub struct AfterAddAll {
     pub answer: AddAllAnswer,
     pub session: Session,
 }
 
-#[derive(Drop)]
+#[derive(Clone, Copy)]
 pub struct AfterWithdraw {
     pub answer: WithdrawAnswer,
     pub session: Session,
 }
 
-#[derive(Drop)]
+#[derive(Clone, Copy)]
 pub struct AfterTakeBack {
     pub answer: TakeBackAnswer,
     pub session: Session,
 }
 
-#[derive(Drop)]
+#[derive(Clone, Copy)]
 pub struct AfterKeep {
     pub answer: KeepAnswer,
     pub session: Session,
 }
 
-#[derive(Drop)]
+#[derive(Clone, Copy)]
 pub struct AfterReturn {
     pub answer: ReturnAnswer,
     pub session: Session,

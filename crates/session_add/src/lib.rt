@@ -1,4 +1,6 @@
 // What adding a net answers: refusals 21 to 25, in the order of the table.
+#![tactic(auto)]
+
 ghost use Rattle.std.specs.Prelude.{◌≡◌};
 ghost use Rattle.board_block.specs.View.{block_of};
 ghost use Rattle.session_rules.specs.Add.{full, accepts};

@@ -1,5 +1,7 @@
 // What the calls that change a session answer, and the number and place by which each answer is told; that of a move, which may have a place of two
 // numbers, is told in crate session_text.
+#![tactic(auto)]
+
 ghost use Rattle.std.specs.Prelude.{◌≡◌, ◌+◌, ◌<◌, ◌^◌};
 ghost use Rattle.session_answers.specs.Answers.{is_accepted, goes_on, counting, add_answer, withdraw_answer, take_back_answer, told};
 ghost use Rattle.session_answers.specs.Answers.{keep_answer, return_answer};
@@ -7,7 +9,7 @@ ghost use Rattle.session_answers.specs.Answers.{keep_answer, return_answer};
 use board::Vertex;
 
 // What add answers. The number is that of the terminal: 0 the first, 1 the second.
-#[derive(Drop)]
+#[derive(Clone, Copy)]
 pub enum AddAnswer {
     Accepted,
     Unsound,
@@ -20,34 +22,34 @@ pub enum AddAnswer {
 
 // What adding a list of nets answers: how many went on, and why no more did. That is Accepted where none was refused, Unsound where the session was
 // unsound, and else what the add of the next net answered.
-#[derive(Drop)]
+#[derive(Clone, Copy)]
 pub struct AddAllAnswer {
     pub count: usize,
     pub last: AddAnswer,
 }
 
-#[derive(Drop)]
+#[derive(Clone, Copy)]
 pub enum WithdrawAnswer {
     Accepted,
     Unsound,
     NotOnBoard,
 }
 
-#[derive(Drop)]
+#[derive(Clone, Copy)]
 pub enum TakeBackAnswer {
     Accepted,
     Unsound,
     PileEmpty,
 }
 
-#[derive(Drop)]
+#[derive(Clone, Copy)]
 pub enum KeepAnswer {
     Accepted,
     Unsound,
     NoName,
 }
 
-#[derive(Drop)]
+#[derive(Clone, Copy)]
 pub enum ReturnAnswer {
     Accepted,
     Unsound,
@@ -56,7 +58,7 @@ pub enum ReturnAnswer {
 }
 
 // What a move to the new rule answers. The vertex is the first that the new rule gives too few pins for its terminals and taken pins.
-#[derive(Drop)]
+#[derive(Clone, Copy)]
 pub enum MoveAnswer {
     Accepted,
     Unsound,
@@ -64,7 +66,7 @@ pub enum MoveAnswer {
 }
 
 // An answer by its number and place; both are 0 where the call is accepted.
-#[derive(Drop)]
+#[derive(Clone, Copy)]
 pub struct Told {
     pub number: u8,
     pub place: u8,

@@ -1,1 +1,2 @@
 // Whole lists of calls on a session. No code.
+#![tactic(auto)]

@@ -5,7 +5,7 @@ use Rattle.std.proofs.Common.{arith, ne_eqb}
 use Rattle.count.specs.TruthLaws.{and_true, and_yes}
 use Rattle.board.specs.declared.Vertex.{Vertex}
 use Rattle.board_block.specs.Block.{Block, pins_of}
-use Rattle.net.specs.Terminals.{ends, terminals}
+use Rattle.net.specs.Terminals.{terminals}
 use Rattle.net.specs.declared.Net.{Net}
 use Rattle.session_rules.specs.Session.{pairs, holds, insert}
 use Rattle.session_rules.specs.Add.{accepts}

@@ -1,4 +1,6 @@
 // A list of nets that stands in an array, added in one call: the array is lent to `add_all`, so that a caller needs no slice of nets of its own.
+#![tactic(auto)]
+
 ghost use Rattle.std.specs.Prelude.{◌≤◌, take};
 ghost use Rattle.session.specs.Promise.{AddAllPromise};
 

@@ -1,4 +1,6 @@
 // The call that moves a session to the new rule, with its nets.
+#![tactic(auto)]
+
 ghost use Rattle.std.specs.Prelude.{◌≡◌};
 ghost use Rattle.count.specs.Lists.{first};
 ghost use Rattle.board.specs.Order.{reading_order};
@@ -20,7 +22,7 @@ use session::Session;
 use session_answers::MoveAnswer;
 
 // What the call hands back: its answer and the next session.
-#[derive(Drop)]
+#[derive(Clone, Copy)]
 pub struct AfterMove {
     pub answer: MoveAnswer,
     pub session: Session,

@@ -1,4 +1,6 @@
 // The eight names of a session, and the trial layouts that are kept under them. Every function is total: it answers for any value.
+#![tactic(auto)]
+
 ghost use Rattle.std.specs.Prelude.{◌≡◌, leb, get_or, set};
 ghost use Rattle.session_rules.specs.Session.{last_name};
 ghost use Rattle.session_names.specs.Names.{no_layout, keeping};
@@ -12,7 +14,7 @@ pub const NAMES: usize = 8;
 pub const LAST_NAME: u8 = 7;
 
 // A trial layout, what is kept under a name: nets, of which there may be none, or nothing. Where nothing is kept, the places play no part.
-#[derive(Drop)]
+#[derive(Clone, Copy)]
 pub struct Layout {
     pub kept: bool,
     pub nets: [Place; 64],

@@ -1,4 +1,6 @@
 // The pile of changes that can be taken back. Every function is total: it answers for any value.
+#![tactic(auto)]
+
 ghost use Rattle.std.specs.Prelude.{◌≡◌, ◌++◌, leb, length, drop};
 ghost use Rattle.session_pile.specs.Pile.{no_slot, empty_pile, top_of, lifted, laid};
 
@@ -7,13 +9,13 @@ use net::{Change, Net, Pair};
 use numbers::wide;
 
 // A change on the pile.
-#[derive(Drop)]
+#[derive(Clone, Copy)]
 pub struct Slot {
     pub change: Change,
 }
 
 // A pile: its first `depth` slots, the lowest change first. What stands in the other slots plays no part.
-#[derive(Drop)]
+#[derive(Clone, Copy)]
 pub struct Pile {
     pub depth: u8,
     pub changes: [Slot; 64],

@@ -1,1 +1,2 @@
 // The session and its list machine: definitions, in specs/. There is no code.
+#![tactic(auto)]

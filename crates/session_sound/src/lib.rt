@@ -1,4 +1,6 @@
 // Does what a session holds stand on its board: could its nets all be added, and those under each name, and can its pile be lifted to the bottom?
+#![tactic(auto)]
+
 ghost use Rattle.std.specs.Prelude.{◌≡◌, length};
 ghost use Rattle.board.specs.Board.{Within};
 ghost use Rattle.board.specs.View.{board_of};

@@ -1,4 +1,6 @@
 // What a call that changes a session answers, as the line that is printed.
+#![tactic(auto)]
+
 ghost use Rattle.text.specs.Put.{Holds};
 ghost use Rattle.session_answers.specs.Answers.{add_all_answer, move_answer};
 ghost use Rattle.session_text.specs.Text.{answer_line, told_answer};

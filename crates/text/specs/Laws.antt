@@ -2,7 +2,7 @@
 -- Assumes nothing.
 use Rattle.std.specs.Prelude.{◌≡◌, ℕ, zero, suc, ◌+◌, ◌-◌, ◌*◌, ◌/◌, ◌%◌, ◌^◌, ◌≤◌, ◌<◌, min, length, take, get_or, set}
 use Rattle.std.proofs.Math.Path.{refl, ap, sym, subst⁻¹}
-use Rattle.std.proofs.Common.{subst, ◌∙◌, inl, inr, pow-suc, add-one, arith, length-append, take-suc, take_all, length-take-le, lt-ltb, le-ltb}
+use Rattle.std.proofs.Common.{◌∙◌, inl, inr, pow-suc, add-one, arith, length-append, take-suc, take_all, length-take-le, lt-ltb, le-ltb}
 use mathlib.Core.List.{List, [], ◌∷◌, ◌++◌, flat_map, append_assoc, append-nil}
 use Rattle.std.proofs.Math.Nat.{pow-le-pow_right}
 use Rattle.std.proofs.Math.Seq.{paste, paste-suc}

@@ -1,4 +1,6 @@
 // Words and numbers as text: functions that put a text into a buffer, and what prints such a text on standard output.
+#![tactic(auto)]
+
 ghost use Rattle.std.specs.Prelude.{◌≡◌, ◌+◌, ◌*◌, ◌≤◌, ◌<◌, length, take};
 ghost use mathlib.Core.List.{[], ◌∷◌, flat_map};
 ghost use Rattle.text.specs.Hex.{digit_at, hex_line, hex_lines};

@@ -1,17 +1,19 @@
 // Lists of numbers in hexadecimal text, as programs read them that run stored lists. A list is on a line, which goes on where the next line
 // begins with a space.
+#![tactic(auto)]
+
 ghost use Rattle.std.specs.Prelude.{◌≡◌, ◌≤◌, length};
 ghost use Rattle.io.specs.Counts.{IsPrefixLen};
 
 // How many numbers a line has, and where the next line begins.
-#[derive(Drop)]
+#[derive(Clone, Copy)]
 pub struct Listed {
     pub count: usize,
     pub next: usize,
 }
 
 // What is read of a line so far: the number that is under way, and how many are stored.
-#[derive(Drop)]
+#[derive(Clone, Copy)]
 struct Under {
     open: bool,
     value: u32,

@@ -1,4 +1,6 @@
 // Two figures of the wire that a session's nets take, told before they are routed; and the room that routing asks for.
+#![tactic(auto)]
+
 ghost use Rattle.std.specs.Prelude.{◌≡◌, ◌<◌};
 ghost use Rattle.count.specs.Sum.{sum};
 ghost use Rattle.board.specs.Board.{height};
@@ -18,14 +20,14 @@ use numbers::wide;
 use session::Session;
 
 // The sum of crossing nets over all rows and columns, and the board's edge count.
-#[derive(Drop)]
+#[derive(Clone, Copy)]
 pub struct Figures {
     pub crossings: usize,
     pub edges: usize,
 }
 
 // What the call answers: the figures, or 20 for an unsound session.
-#[derive(Drop)]
+#[derive(Clone, Copy)]
 pub enum WireAnswer {
     Told(Figures),
     Unsound,

@@ -1,4 +1,6 @@
 // What the call `wire` answers, as the line that is printed.
+#![tactic(auto)]
+
 ghost use Rattle.text.specs.Put.{Holds};
 ghost use Rattle.wire_call.specs.Answers.{wire_answer};
 ghost use Rattle.wire_text.specs.Text.{wire_line};

@@ -1,4 +1,6 @@
 // The words of boards and of routings: one place that packs each kind and one that unpacks it, by division and remainder.
+#![tactic(auto)]
+
 ghost use Rattle.std.specs.Prelude.{◌≡◌, ◌≤◌};
 ghost use Rattle.board.specs.Path.{number};
 ghost use Rattle.words.specs.Bits.{kind};
@@ -29,7 +31,7 @@ pub const BOARD_WORDS: usize = 224;
 pub const ROUTING_WORDS: usize = 2049;
 
 // What a board's end word says: the rule book, and the counts of rows and nets.
-#[derive(Drop)]
+#[derive(Clone, Copy)]
 pub struct BoardEnd {
     pub book: Book,
     pub rows: u8,
@@ -37,7 +39,7 @@ pub struct BoardEnd {
 }
 
 // A word of a board. Unknown: another kind, or a bit set that has no name, or 0 or 3 taken pins, or a book that is neither 0 nor 1.
-#[derive(Drop)]
+#[derive(Clone, Copy)]
 pub enum BoardWord {
     Row(Row),
     Taken(TakenPins),
@@ -47,21 +49,21 @@ pub enum BoardWord {
 }
 
 // What a path word says: the net, and how many run words follow.
-#[derive(Drop)]
+#[derive(Clone, Copy)]
 pub struct Path {
     pub number: u8,
     pub runs: u16,
 }
 
 // So many edges in one direction.
-#[derive(Drop)]
+#[derive(Clone, Copy)]
 pub struct Run {
     pub direction: Direction,
     pub length: u8,
 }
 
 // A word of a routing. Unknown: another kind, or a bit set that has no name.
-#[derive(Drop)]
+#[derive(Clone, Copy)]
 pub enum RoutingWord {
     Path(Path),
     Run(Run),

@@ -1,4 +1,6 @@
 // Words in bytes: four bytes a word, lowest first.
+#![tactic(auto)]
+
 ghost use Rattle.std.specs.Prelude.{◌≡◌, ◌+◌, ◌*◌, ◌≤◌, ◌<◌, length, take};
 ghost use Rattle.words_bytes.specs.Words.{word_at, FilledWith, FilledAll};
 ghost use Rattle.words_bytes.specs.Put.{with_word, put_into};
@@ -30,7 +32,7 @@ pub fn fill_words(bytes: &[u8], n: usize, out: &mut [u32])
 }
 
 // Bytes as words: so many; or the count of the bytes is no multiple of 4; or they are more words than there is room for.
-#[derive(Drop)]
+#[derive(Clone, Copy)]
 pub enum Filled {
     Words(usize),
     Uneven,

@@ -12,7 +12,7 @@ use Rattle.board_block.specs.declared.TakenPins.{TakenPins}
 use Rattle.net.specs.declared.Change.TheVariants.{Withdrawn}
 use Rattle.session_rules.specs.Session.{Session, with_nets, with_names}
 use Rattle.session_rules.specs.Machine.{Call, add, withdraw, take_back, keep, return_to, answers}
-use Rattle.session_rules.specs.Sound.{sound?, call, bare, blank}
+use Rattle.session_rules.specs.Sound.{sound?, bare, blank}
 use Rattle.call_rules.specs.Result.{Result, no, yes}
 use Rattle.call_rules.specs.Reading.{read_words}
 use Rattle.call_rules.specs.Writing.{board_words}

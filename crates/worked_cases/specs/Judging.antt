@@ -3,7 +3,6 @@
 -- Assumes nothing.
 use Rattle.std.specs.Prelude.{◌≡◌, refl, Bool, true, false, List, [], ◌∷◌, map, ℕ, length, replicate}
 use Rattle.count.specs.Lists.{select}
-use Rattle.board.specs.Path.{turns}
 use Rattle.board.specs.declared.Direction.{Direction}
 use Rattle.board.specs.declared.Direction.TheVariants.{Up, Right, Down, Left}
 use Rattle.net.specs.declared.Net.{Net}

@@ -5,7 +5,7 @@ use mathlib.Core.List.{List, [], ◌∷◌, head?}
 use Rattle.std.proofs.Math.Option.{some}
 use Rattle.count.specs.TruthLaws.{clash}
 use Rattle.board.specs.Board.{Board, IsVertex, at}
-use Rattle.board.specs.Path.{turns, Convex}
+use Rattle.board.specs.Path.{Convex}
 use Rattle.board.specs.Degree.{pins}
 use Rattle.board.specs.Tests.{vertex_exact}
 use Rattle.board.specs.declared.Direction.{Direction}
@@ -14,7 +14,7 @@ use Rattle.board_convex.specs.Test.{in_limits, is_convex}
 use Rattle.board_convex.specs.Limits.{in-limits}
 use Rattle.board_convex.specs.Exact.{is-convex}
 use Rattle.net.specs.declared.Net.{Net}
-use Rattle.cut.specs.Cut.{edges, margin}
+use Rattle.cut.specs.Cut.{margin}
 use Rattle.cut.specs.Odd.{odd_vertices}
 use Rattle.cut.specs.declared.Cut.TheVariants as cut
 use Rattle.routing_rules.specs.Routing.{Routing}
@@ -23,7 +23,6 @@ use Rattle.session_rules.specs.Session.{pairs}
 use Rattle.words.specs.RoutingWord.{routing_words}
 use Rattle.call_rules.specs.Result.{yes}
 use Rattle.call_rules.specs.Reading.{read_words}
-use Rattle.call_rules.specs.Report.{knock_knees}
 use Rattle.call_rules.specs.Judge.{judge_words}
 use Rattle.worked_cases.specs.Everything.{everything}
 use Rattle.worked_cases.specs.Boards.{row, board, net, session, ring, ring_input, ring_output}

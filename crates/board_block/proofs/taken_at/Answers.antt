@@ -1,0 +1,20 @@
+-- The array's entry at the vertex's place; outside the array there is none.
+use mathlib.Core.Path.{refl}
+use borrow.Author.Tests.{lt-ltb, le-ltb}
+use Rattle.board_block.proofs.taken_at.Goals as goal
+
+pub returns-then-v-lt32-2 : goal.returns-then-v-lt32-2
+returns-then-v-lt32-2 c =
+    let in-columns = c in
+    rw (
+      lt-ltb _ _ in-columns.if-v-lt32.true,
+      lt-ltb _ _ in-columns.if-v-lt32-2.true,
+      c.wide.ensures.0,
+      c.wide-then-v-lt32-2.ensures.0,
+    ) refl
+
+pub returns-else-v-lt32-2 : goal.returns-else-v-lt32-2
+returns-else-v-lt32-2 c = rw (lt-ltb _ _ c.if-v-lt32.true, le-ltb _ _ c.if-v-lt32-2.false) refl
+
+pub returns-else-v-lt32 : goal.returns-else-v-lt32
+returns-else-v-lt32 c = rw (le-ltb _ _ c.if-v-lt32.false) refl

@@ -1,0 +1,21 @@
+-- The four cells, asked one by one, are those that the definition counts.
+use mathlib.Core.Path.{refl, ◌∙◌}
+use Rattle.board_convex.specs.Cells.{cells_at}
+use Rattle.board_degree.specs.Kind.{opposite?, kind_of}
+use Rattle.board_degree.proofs.kind_of.Goals as goal
+
+pub returns : goal.returns
+unfolding kind_of cells_at opposite?
+returns c =
+    let at-below-right = c in let at-below-left = at-below-right in
+    let at-above-right = at-below-left in let at-above-left = at-above-right in
+    c.kind_by.ensures ∙ rw (
+      c.bit-4.ensures.value,
+      c.bit-3.ensures.value,
+      c.bit-2.ensures.value,
+      c.bit.ensures.value,
+      at-below-right.below_right-br.ensures,
+      at-below-left.below_left-bl.ensures,
+      at-above-right.above_right-ar.ensures,
+      at-above-left.above_left-al.ensures,
+    ) refl

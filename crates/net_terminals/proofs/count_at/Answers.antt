@@ -1,0 +1,23 @@
+-- `count_at` counts a terminal within lines and columns 0 to 31, and no other.
+use mathlib.Core.Path.{refl}
+use borrow.Author.Tests.{lt-ltb, le-ltb}
+use Rattle.net.specs.Grid.{changed_at}
+use Rattle.net_terminals.proofs.count_at.Goals as goal
+
+pub returns-then-v-lt32-2 : goal.returns-then-v-lt32-2
+unfolding changed_at
+returns-then-v-lt32-2 c = rw (
+  lt-ltb _ _ c.if-v-lt32.true,
+  lt-ltb _ _ c.if-v-lt32-2.true,
+  c.raised.ensures,
+  c.wide.ensures.0,
+  c.wide-then-v-lt32-2.ensures.0,
+) refl
+
+pub returns-else-v-lt32-2 : goal.returns-else-v-lt32-2
+unfolding changed_at
+returns-else-v-lt32-2 c = rw (lt-ltb _ _ c.if-v-lt32.true, le-ltb _ _ c.if-v-lt32-2.false) refl
+
+pub returns-else-v-lt32 : goal.returns-else-v-lt32
+unfolding changed_at
+returns-else-v-lt32 c = rw (le-ltb _ _ c.if-v-lt32.false) refl
