@@ -1,4 +1,1 @@
 pub mod Kind
-pub mod KindLaws
-pub mod Convex
-pub mod Examples

@@ -1,4 +1,1 @@
 pub mod EdgeCount
-pub mod Spans
-pub mod Framed
-pub mod ByRows

@@ -1,11 +1,5 @@
 pub mod Value
-pub mod ValueLaws
 pub mod Listed
-pub mod ListedLaws
 pub mod Pins
-pub mod PinsLaws
 pub mod Adding
-pub mod AddingLaws
 pub mod Promise
-pub mod PromiseLaws
-pub mod ReadAs

@@ -11,7 +11,7 @@ use Rattle.board.specs.declared.Row.{Row}
 use Rattle.board_block.specs.Taken.{in_order?}
 use Rattle.board_block.specs.declared.TakenPins.{TakenPins}
 use Rattle.session_rules.specs.Refusal.{line, first_refusal}
-use Rattle.session_laws.specs.Rising.{From}
+use Rattle.session_laws.proofs.Rising.{From}
 use Rattle.words.specs.BoardWord.{row_word, taken_word, net_word, end_word, board_word}
 use Rattle.words.specs.Inverse.{TakenFits, says_row, says_taken, says_net, says_end, says_nothing, says_board}
 use Rattle.words.specs.declared.BoardEnd.{BoardEnd}
@@ -35,7 +35,7 @@ use Rattle.call_rules.specs.Reading.{
   reverse,
 }
 use Rattle.board_roundtrip.specs.Parts.{nets_in, nets_then, said, Falling, PinsFit}
-use Rattle.call_rules.specs.Results.{yes_same, passed, line_passed}
+use Rattle.call_rules.proofs.Results.{yes_same, passed, line_passed}
 use Rattle.board_roundtrip.specs.Pins.{order_more}
 
 -- ── one word that was accepted ──

@@ -10,12 +10,12 @@ use Rattle.session_rules.specs.Refusal.{Refusal}
 use Rattle.session_rules.specs.Session.{insert}
 use Rattle.session_rules.specs.Add.{add_refused, is_none, accepts}
 use Rattle.session_rules.specs.Sound.{addable?}
-use Rattle.session_laws.specs.Rising.{From}
-use Rattle.session_laws.specs.InOrder.{Below, below_more, one_more, below_next, accepted_none}
+use Rattle.session_laws.proofs.Rising.{From}
+use Rattle.session_laws.proofs.InOrder.{Below, below_more, one_more, below_next, accepted_none}
 use Rattle.call_rules.specs.Result.{yes}
 use Rattle.call_rules.specs.Reading.{Listed, placed_at, add_listed}
 use Rattle.board_roundtrip.specs.Parts.{nets_in}
-use Rattle.call_rules.specs.Results.{yes_same, passed}
+use Rattle.call_rules.proofs.Results.{yes_same, passed}
 
 -- ── nets as adds ──
 none_accepted : (b : Block) (on : List Net) (n : Net) (i : ℕ) → placed_at i (add_refused b on n) ≡ none → accepts b on n ≡ true

@@ -9,13 +9,13 @@ use Rattle.board.specs.Degree.{vertex?}
 use Rattle.board.specs.Tests.{vertex_exact}
 use Rattle.board.specs.declared.Row.{Row}
 use Rattle.board.specs.declared.Vertex.{Vertex}
-use Rattle.board_convex.specs.Places.{vertex_in_row}
+use Rattle.board_convex.proofs.Places.{vertex_in_row}
 use Rattle.board_block.specs.Block.{Block}
 use Rattle.board_block.specs.Taken.{in_order?, all_there?, taken_fine?}
-use Rattle.board_block.specs.TakenLaws.{There, taken_vertices}
+use Rattle.board_block.proofs.TakenLaws.{There, taken_vertices}
 use Rattle.board_block.specs.declared.TakenPins.{TakenPins}
 use Rattle.net.specs.declared.Net.{Net}
-use Rattle.session_laws.specs.Fine.{AllGood}
+use Rattle.session_laws.proofs.Fine.{AllGood}
 use Rattle.words.specs.Inverse.{VertexFits}
 use Rattle.board_roundtrip.specs.Parts.{RowsFit, PinsFit, NetsFit}
 

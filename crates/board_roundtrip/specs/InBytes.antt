@@ -12,7 +12,7 @@ use Rattle.net.specs.declared.Net.{Net}
 use Rattle.session_rules.specs.Refusal.{line, first_refusal}
 use Rattle.session_rules.specs.Session.{Session}
 use Rattle.session_rules.specs.Sound.{Sound}
-use Rattle.session_laws.specs.Stays.{sound_fine}
+use Rattle.session_laws.proofs.Stays.{sound_fine}
 use Rattle.words.specs.BoardWord.{row_word, taken_word, net_word, end_word}
 use Rattle.words.specs.Bytes.{words_in, uneven, bytes_of}
 use Rattle.words.specs.Inverse.{book_small}
@@ -20,8 +20,8 @@ use Rattle.call_rules.specs.Result.{yes}
 use Rattle.call_rules.specs.Reading.{read_words, read_bytes}
 use Rattle.call_rules.specs.Writing.{board_words}
 use Rattle.board_roundtrip.specs.Parts.{RowsFit, PinsFit, NetsFit, Words, Bytes}
-use Rattle.call_rules.specs.Results.{passed, line_passed}
-use Rattle.session_laws.specs.Few.{few_nets}
+use Rattle.call_rules.proofs.Results.{passed, line_passed}
+use Rattle.session_laws.proofs.Few.{few_nets}
 use Rattle.board_roundtrip.specs.Fits.{rows-fit, pins_fit, nets_fit}
 
 -- ── from words to bytes and back ──

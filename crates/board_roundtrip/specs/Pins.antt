@@ -11,7 +11,7 @@ use Rattle.board_block.specs.declared.Book.{Book}
 use Rattle.board_block.specs.declared.TakenPins.{TakenPins}
 use Rattle.session_rules.specs.Refusal.{first_refusal}
 use Rattle.call_rules.specs.Reading.{not_after, pin_lines}
-use Rattle.call_rules.specs.Results.{line_passed}
+use Rattle.call_rules.proofs.Results.{line_passed}
 use Rattle.board_roundtrip.specs.Parts.{PinsFit}
 
 -- ── reading order ──

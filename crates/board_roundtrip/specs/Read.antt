@@ -6,14 +6,14 @@ use Rattle.std.proofs.Math.Option.{none}
 use Rattle.std.proofs.lemmas.Bool.{not-false}
 use Rattle.count.specs.TruthLaws.{and_yes}
 use Rattle.board_convex.specs.Test.{is_convex}
-use Rattle.board_convex.specs.Exact.{is-convex}
+use Rattle.board_convex.proofs.Exact.{is-convex}
 use Rattle.board_block.specs.Taken.{in_order?, all_there?, taken_fine?}
 use Rattle.net.specs.declared.Net.{Net}
 use Rattle.session_rules.specs.Refusal.{line, first_refusal}
 use Rattle.session_rules.specs.Session.{nothing_kept, Session, with_nets}
 use Rattle.session_rules.specs.Sound.{bare, Sound, addable?, lifts?}
-use Rattle.session_laws.specs.Stays.{fresh_bare}
-use Rattle.session_laws.specs.Rising.{From, from_rising}
+use Rattle.session_laws.proofs.Stays.{fresh_bare}
+use Rattle.session_laws.proofs.Rising.{From, from_rising}
 use Rattle.words.specs.BoardWord.{row_word, taken_word, end_word}
 use Rattle.call_rules.specs.Result.{yes, and_then}
 use Rattle.call_rules.specs.Reading.{
@@ -32,7 +32,7 @@ use Rattle.call_rules.specs.Reading.{
 }
 use Rattle.call_rules.specs.Writing.{board_words}
 use Rattle.board_roundtrip.specs.Parts.{nets_in, said}
-use Rattle.call_rules.specs.Results.{yes_same, passed, line_passed, then_yes}
+use Rattle.call_rules.proofs.Results.{yes_same, passed, line_passed, then_yes}
 use Rattle.board_roundtrip.specs.Pins.{lines_there}
 use Rattle.board_roundtrip.specs.Adds.{listed_addable}
 use Rattle.board_roundtrip.specs.Accepted.{taken_said, falling_from, then_reverse, length_reverse}

@@ -7,13 +7,13 @@ use Rattle.std.proofs.lemmas.Bool.{not-false}
 use Rattle.session_rules.specs.Refusal.{line, first_refusal}
 use Rattle.session_rules.specs.Session.{nothing_kept, Session}
 use Rattle.session_rules.specs.Sound.{Sound, sound?}
-use Rattle.session_laws.specs.Exact.{sound_exact}
+use Rattle.session_laws.proofs.Exact.{sound_exact}
 use Rattle.words.specs.Bytes.{words_in, bytes_of}
 use Rattle.call_rules.specs.Result.{Result, no, yes}
 use Rattle.call_rules.specs.Reading.{board_limit, read_words, read_bytes}
 use Rattle.call_rules.specs.Writing.{board_words, write_board, count_of, buffer_after}
 use Rattle.board_roundtrip.specs.Parts.{Bytes, as_read}
-use Rattle.call_rules.specs.Results.{yes_same, passed, line_passed}
+use Rattle.call_rules.proofs.Results.{yes_same, passed, line_passed}
 use Rattle.board_roundtrip.specs.Written.{words-read}
 use Rattle.board_roundtrip.specs.Read.{read_holds}
 use Rattle.board_roundtrip.specs.InBytes.{words_back, bytes_even, bytes_back, sound_words, even_read, read_even}

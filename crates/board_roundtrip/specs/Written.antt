@@ -10,12 +10,12 @@ use Rattle.std.proofs.lemmas.List.{length-map}
 use borrow.Author.Tests.{ne_eqb, le-ltb}
 use Rattle.count.specs.TruthLaws.{and_true}
 use Rattle.board_block.specs.Taken.{in_order?, all_there?}
-use Rattle.board_convex.specs.Exact.{is-convex}
+use Rattle.board_convex.proofs.Exact.{is-convex}
 use Rattle.net.specs.declared.Net.{Net}
 use Rattle.session_rules.specs.Session.{Session}
 use Rattle.session_rules.specs.Sound.{Sound, addable?}
-use Rattle.session_laws.specs.Rising.{From}
-use Rattle.session_laws.specs.Stays.{sound_fine}
+use Rattle.session_laws.proofs.Rising.{From}
+use Rattle.session_laws.proofs.Stays.{sound_fine}
 use Rattle.words.specs.BoardWord.{row_word, taken_word, net_word, end_word}
 use Rattle.call_rules.specs.Result.{yes}
 use Rattle.call_rules.specs.Reading.{board_limit, nothing_parsed, take_words, add_listed, reverse, read_nets, read_parsed, read_words}
@@ -24,7 +24,7 @@ use Rattle.board_roundtrip.specs.Parts.{ended, nets_in, listed_from, listed_onto
 use Rattle.board_roundtrip.specs.Pins.{there_lines}
 use Rattle.board_roundtrip.specs.Adds.{addable_listed}
 use Rattle.board_roundtrip.specs.Packed.{take_rows, take_pins, take_nets, take_end, length_onto, reverse_onto, nets-from}
-use Rattle.session_laws.specs.Few.{few_nets, few_taken}
+use Rattle.session_laws.proofs.Few.{few_nets, few_taken}
 use Rattle.board_roundtrip.specs.Fits.{rows-fit, pins_fit, nets_fit}
 
 -- ── their count ──

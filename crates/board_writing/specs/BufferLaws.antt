@@ -3,7 +3,7 @@
 use Rattle.std.specs.Prelude.{◌≡◌, refl, List, [], ◌∷◌, ◌++◌, ℕ, ◌+◌, ◌<◌, length, drop, set}
 use Rattle.std.proofs.Common.{ap, sym, ◌∙◌, append_assoc, append-nil, arith, length-append, length-drop, length-set}
 use Rattle.call_rules.specs.Writing.{written_into}
-use Rattle.call_rules.specs.WritingLaws.{store_next}
+use Rattle.call_rules.proofs.WritingLaws.{store_next}
 use Rattle.board_writing.specs.Buffer.{Continues, Remains}
 
 pub continues_none : (before : List ℕ) (from : ℕ) → Continues [] before before from from

@@ -15,7 +15,7 @@ use Rattle.words.specs.BoardWord.{taken_word, net_word, end_word}
 use Rattle.call_rules.specs.Result.{no, yes}
 use Rattle.call_rules.specs.Reading.{board_limit}
 use Rattle.call_rules.specs.Writing.{board_words, written_into, write_board}
-use Rattle.call_rules.specs.WritingLaws.{store_next}
+use Rattle.call_rules.proofs.WritingLaws.{store_next}
 use Rattle.board_writing.specs.Buffer.{Continues}
 use Rattle.board_writing.specs.BufferLaws.{continues_more}
 use Rattle.board_writing.specs.Words.{row_words, net_words}

@@ -13,7 +13,7 @@ use Rattle.call_rules.specs.Page.{draw_bytes}
 use Rattle.call_rules.specs.Wire.{Figures, wire}
 use Rattle.call_rules.specs.Editor.{unread, read, editor_wire, editor_judge, editor_alike, editor_draw}
 use Rattle.board_reading.specs.Promise.{ReadPromise}
-use Rattle.board_reading.specs.ReadAs.{read_refused, read_accepted}
+use Rattle.board_reading.proofs.ReadAs.{read_refused, read_accepted}
 use Rattle.board_reading.specs.declared.AfterRead.{AfterRead}
 use Rattle.board_reading.specs.declared.ReadAnswer.TheVariants as answer
 use Rattle.draw_call.specs.Answers.{draw_answer}

@@ -13,7 +13,7 @@ use Rattle.board.specs.Degree.{vertex?, degree}
 use Rattle.board.specs.OrderLaws.{none_passes, first_passes}
 use Rattle.board.specs.Tests.{vertex_exact}
 use Rattle.board.specs.declared.Vertex.{Vertex}
-use Rattle.board_convex.specs.Places.{vertex_placed}
+use Rattle.board_convex.proofs.Places.{vertex_placed}
 use Rattle.net.specs.declared.Pair.{Pair}
 use Rattle.net.specs.Terminals.{terminals}
 use Rattle.cut.specs.Cut.{Overfull, overfull?, cuts, overfull_cuts}

@@ -12,8 +12,8 @@ use Rattle.board.specs.declared.Row as row
 use Rattle.board.specs.declared.Direction.{Direction}
 use Rattle.board.specs.declared.Direction.TheVariants.{Right, Down}
 use Rattle.board_convex.specs.LineEnds.{line_right}
-use Rattle.board_convex.specs.Lines.{line_spans_row, edge_joins}
-use Rattle.board_convex.specs.Places.{vertex_in_row}
+use Rattle.board_convex.proofs.Lines.{line_spans_row, edge_joins}
+use Rattle.board_convex.proofs.Places.{vertex_in_row}
 use Rattle.cut.specs.Cut.{edges}
 use Rattle.cut.specs.Tally.{cut_edge}
 use Rattle.cut.specs.Extent.{lines_of, columns_of, extent}

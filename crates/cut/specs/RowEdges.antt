@@ -13,7 +13,7 @@ use Rattle.board.specs.Degree.{edge?}
 use Rattle.board.specs.Tests.{edge_exact}
 use Rattle.board.specs.declared.Direction.TheVariants.{Right, Down}
 use Rattle.board_convex.specs.LineEnds.{line_left, line_right}
-use Rattle.board_convex.specs.Lines as lines
+use Rattle.board_convex.proofs.Lines as lines
 use Rattle.cut.specs.Cut.{edges}
 use Rattle.cut.specs.declared.Cut.TheVariants.{Row, Column}
 

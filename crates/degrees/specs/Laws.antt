@@ -14,13 +14,13 @@ use Rattle.board.specs.Board.{Board, at, IsVertex}
 use Rattle.board.specs.View.{board_of}
 use Rattle.board.specs.declared.Vertex.{Vertex}
 use Rattle.board_degree.specs.Kind.{kind_of, FallsUnderOne}
-use Rattle.board_degree.specs.Convex.{falls_under_one}
+use Rattle.board_degree.proofs.Convex.{falls_under_one}
 use Rattle.session_rules.specs.Session.{Session}
 use Rattle.call_rules.specs.Result.{yes}
 use Rattle.call_rules.specs.Reading.{read_bytes}
 use Rattle.board_roundtrip.specs.RoundTrip.{read_bytes_sound}
 use Rattle.board_reading.specs.Promise.{ReadPromise}
-use Rattle.board_reading.specs.ReadAs.{read_refused, read_accepted}
+use Rattle.board_reading.proofs.ReadAs.{read_refused, read_accepted}
 use Rattle.board_reading.specs.declared.AfterRead.{AfterRead}
 use Rattle.board_reading.specs.declared.ReadAnswer.TheVariants as answer
 use Rattle.degrees.specs.Drawing.{sign_of, signs_on, line_drawn, board_drawn, drawn, bytes_drawn}

@@ -12,7 +12,7 @@ use Rattle.call_rules.specs.Writing.{Writes}
 use Rattle.call_rules.specs.Page.{page_room, draw_bytes}
 use Rattle.call_rules.specs.Editor.{editor_draw}
 use Rattle.board_reading.specs.Promise.{ReadPromise}
-use Rattle.board_reading.specs.ReadAs.{read_refused, read_accepted}
+use Rattle.board_reading.proofs.ReadAs.{read_refused, read_accepted}
 use Rattle.board_reading.specs.declared.AfterRead.{AfterRead}
 use Rattle.board_reading.specs.declared.ReadAnswer.TheVariants as answer
 use Rattle.draw.specs.Text.{board_end, page_text, text_of}

@@ -14,7 +14,7 @@ use Rattle.session_rules.specs.Refusal as machine
 use Rattle.session_rules.specs.Refusal.{refusal}
 use Rattle.session_rules.specs.Session.{Session, pairs}
 use Rattle.session_rules.specs.Sound.{sound?}
-use Rattle.session_laws.specs.Exact.{sound_exact}
+use Rattle.session_laws.proofs.Exact.{sound_exact}
 use Rattle.words.specs.Bytes.{words_in}
 use Rattle.call_rules.specs.Result.{Result, no, yes}
 use Rattle.call_rules.specs.Shape.{PathAt, paths_from}
@@ -22,7 +22,7 @@ use Rattle.call_rules.specs.Walk.{walk_paths}
 use Rattle.call_rules.specs.Judge.{paths_in, judged, if_sound, if_even}
 use Rattle.call_rules.specs.Writing.{Writes}
 use Rattle.call_rules.specs.Page.{page, used_in, page_room, if_room, judged_page, draw_words, draw_bytes}
-use Rattle.call_rules.specs.PageLaws.{page-same, draw_words_is, draw_bytes_is, room_short, room_enough}
+use Rattle.call_rules.proofs.PageLaws.{page-same, draw_words_is, draw_bytes_is, room_short, room_enough}
 use Rattle.judge_shape.specs.Refused.{refusal_of}
 use Rattle.judge_shape.specs.declared.Refusal.{Refusal}
 use Rattle.judge_shape.specs.declared.Checked.{Checked}

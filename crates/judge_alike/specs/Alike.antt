@@ -10,14 +10,14 @@ use Rattle.count.specs.TruthLaws.{bool, bool_eq, eq_or_ne}
 use Rattle.board.specs.Board.{Board, Within, Edge}
 use Rattle.net.specs.declared.Net.{Net}
 use Rattle.routing_rules.specs.Routing.{edges_from, trails, uses, Routing}
-use Rattle.session_laws.specs.Rising.{From, from_less}
+use Rattle.session_laws.proofs.Rising.{From, from_less}
 use Rattle.call_rules.specs.Shape.{PathAt}
 use Rattle.call_rules.specs.Report.{directions}
 use Rattle.call_rules.specs.Alike.{Alike, alike?}
-use Rattle.call_rules.specs.AlikeLaws.{alike_exact}
+use Rattle.call_rules.proofs.AlikeLaws.{alike_exact}
 use Rattle.call_rules.specs.Judge.{paths_in}
 use Rattle.judge_laws.specs.Walks.{ends_of}
-use Rattle.routing_laws.specs.Used.{uses_append, All, all_edges, joins_edges}
+use Rattle.routing_laws.proofs.Used.{uses_append, All, all_edges, joins_edges}
 use Rattle.judge_laws.specs.Alike.{Once, once_rest}
 use Rattle.judge_walk.specs.Slots.{slot, edge_at}
 use Rattle.judge_walk.specs.SlotLaws.{Lies, edge_lies, slot_small, edge_at_slot}

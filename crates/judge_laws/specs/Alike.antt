@@ -13,9 +13,9 @@ use Rattle.routing_rules.specs.Check.{same_edge_exact}
 use Rattle.session_rules.specs.Session.{Session, pairs}
 use Rattle.call_rules.specs.Result.{yes}
 use Rattle.call_rules.specs.Alike.{Alike, equally_many}
-use Rattle.call_rules.specs.AlikeLaws.{Among}
+use Rattle.call_rules.proofs.AlikeLaws.{Among}
 use Rattle.call_rules.specs.Judge.{judged}
-use Rattle.routing_laws.specs.Used.{uses_append, length_edges}
+use Rattle.routing_laws.proofs.Used.{uses_append, length_edges}
 use Rattle.judge_laws.specs.Exact.{passes_sound}
 
 -- DEFINITION: no edge stands twice in the list

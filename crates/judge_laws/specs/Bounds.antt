@@ -7,9 +7,9 @@ use Rattle.session_rules.specs.Session.{Session, pairs}
 use Rattle.call_rules.specs.Result.{yes}
 use Rattle.call_rules.specs.Judge.{judged}
 use Rattle.call_rules.specs.Wire.{Bounded}
-use Rattle.routing_laws.specs.Used.{used_most}
-use Rattle.routing_laws.specs.Crossed.{used_least}
-use Rattle.routing_laws.specs.Words.{words_few}
+use Rattle.routing_laws.proofs.Used.{used_most}
+use Rattle.routing_laws.proofs.Crossed.{used_least}
+use Rattle.routing_laws.proofs.Words.{words_few}
 use Rattle.judge_laws.specs.Exact.{passes_sound}
 
 -- THE LAW

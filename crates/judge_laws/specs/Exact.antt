@@ -26,9 +26,9 @@ use Rattle.judge_laws.specs.Walks.{yes_eq, no_yes, ends_of, paths_went, paths_ca
 use Rattle.words.specs.RunLaws.{runs_few}
 use Rattle.judge_laws.specs.Straight.{steps_back, runs_fit}
 use Rattle.judge_laws.specs.Passing.{Numbered, shape_passes}
-use Rattle.board_edges.specs.Framed.{edges_most}
-use Rattle.routing_laws.specs.Used.{used_most}
-use Rattle.routing_laws.specs.Words.{words_few}
+use Rattle.board_edges.proofs.Framed.{edges_most}
+use Rattle.routing_laws.proofs.Used.{used_most}
+use Rattle.routing_laws.proofs.Words.{words_few}
 
 -- DEFINITION: the words are those of a routing of the session's nets, with the paths dss
 pub record Passing (s : Session) (ws : List ℕ) (dss : List (List Direction)) : Type 0 where

@@ -8,10 +8,10 @@ use Rattle.board.specs.EdgesAt.{edge_rises}
 use Rattle.board.specs.declared.Vertex.{Vertex}
 use Rattle.board.specs.declared.Direction.{Direction}
 use Rattle.board.specs.declared.Direction.TheVariants.{Up, Right, Down, Left}
-use Rattle.board_convex.specs.Runs.{path_join}
+use Rattle.board_convex.proofs.Runs.{path_join}
 use Rattle.routing_rules.specs.Routing.{edges_from, uses}
 use Rattle.call_rules.specs.Alike.{SameEdges}
-use Rattle.routing_laws.specs.Used.{uses_append}
+use Rattle.routing_laws.proofs.Used.{uses_append}
 
 -- DEFINITION: the direction back
 abbrev pub back : Direction → Direction

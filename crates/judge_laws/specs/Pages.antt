@@ -11,8 +11,8 @@ use Rattle.call_rules.specs.Alike.{SameEdges}
 use Rattle.call_rules.specs.Judge.{judged}
 use Rattle.call_rules.specs.Page.{page, edges_of, used_in, page_of}
 use Rattle.call_rules.specs.ReadOff.{ReadsOff}
-use Rattle.call_rules.specs.PageLaws.{page-reads, used_in_exact, same_edges, read_alike}
-use Rattle.routing_laws.specs.Used.{all_edges, joins_edges}
+use Rattle.call_rules.proofs.PageLaws.{page-reads, used_in_exact, same_edges, read_alike}
+use Rattle.routing_laws.proofs.Used.{all_edges, joins_edges}
 use Rattle.judge_laws.specs.Exact.{passes_sound}
 
 -- the edges of a list that passes are edges of the board

@@ -9,7 +9,7 @@ use Rattle.board.specs.Path.{next, along, number, Path}
 use Rattle.board.specs.declared.Vertex.{Vertex}
 use Rattle.board.specs.declared.Direction.{Direction}
 use Rattle.board.specs.declared.Direction.TheVariants.{Up, Right, Down, Left}
-use Rattle.board_edges.specs.Spans.{Across, Downward, edge_spans}
+use Rattle.board_edges.proofs.Spans.{Across, Downward, edge_spans}
 use Rattle.words.specs.RoutingWord.{direction, step_then, runs_of}
 use Rattle.words.specs.declared.Run.{Run}
 use Rattle.words.specs.Inverse.{direction_back}

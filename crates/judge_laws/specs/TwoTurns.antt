@@ -12,7 +12,7 @@ use Rattle.board.specs.EdgesAt.{no_edge_in_place}
 use Rattle.board.specs.declared.Vertex.{Vertex}
 use Rattle.board.specs.declared.Direction.{Direction}
 use Rattle.board.specs.declared.Direction.TheVariants.{Up, Right, Down, Left}
-use Rattle.board_convex.specs.Turns.{turn_case}
+use Rattle.board_convex.proofs.Turns.{turn_case}
 use Rattle.net.specs.Terminals.{same}
 use Rattle.net.specs.Same.{same_true}
 use Rattle.net.specs.declared.Pair.{Pair}
@@ -21,10 +21,10 @@ use Rattle.routing_rules.specs.Check.{same_edge_exact}
 use Rattle.session_rules.specs.Session.{Session, pairs}
 use Rattle.call_rules.specs.Result.{yes}
 use Rattle.call_rules.specs.Report.{turns_at, turns_of_each, turns_occurring, knock_knee, TwoTurns}
-use Rattle.call_rules.specs.ReportLaws.{occurring_no_pair, occurring_more, knock_knee_exact}
+use Rattle.call_rules.proofs.ReportLaws.{occurring_no_pair, occurring_more, knock_knee_exact}
 use Rattle.call_rules.specs.Judge.{judged}
-use Rattle.board_edges.specs.Spans.{edge_spans}
-use Rattle.routing_laws.specs.Used.{uses_append, all_edges, joins_edges}
+use Rattle.board_edges.proofs.Spans.{edge_spans}
+use Rattle.routing_laws.proofs.Used.{uses_append, all_edges, joins_edges}
 use Rattle.judge_laws.specs.Exact.{passes_sound}
 use Rattle.judge_laws.specs.Loops.{back, step_back}
 

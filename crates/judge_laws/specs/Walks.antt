@@ -19,7 +19,7 @@ use Rattle.routing_rules.specs.Check.{same_edge_exact}
 use Rattle.session_rules.specs.Refusal.{Refusal, line, first_refusal}
 use Rattle.call_rules.specs.Result.{Result, no, yes, and_then, unless}
 use Rattle.call_rules.specs.Shape.{RunAt, PathAt}
-use Rattle.routing_laws.specs.Used.{uses_append}
+use Rattle.routing_laws.proofs.Used.{uses_append}
 use Rattle.call_rules.specs.Walk.{Walker, walk_steps, walk_runs, walk_path, walk_paths}
 use Rattle.call_rules.specs.Report.{directions}
 use Rattle.call_rules.specs.Judge.{paths_in}

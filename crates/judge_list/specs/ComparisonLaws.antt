@@ -12,10 +12,10 @@ use Rattle.net.specs.declared.Held.TheVariants.{Nothing, Ends}
 use Rattle.net.specs.declared.Place.{Place}
 use Rattle.routing_rules.specs.Routing.{Routing}
 use Rattle.session_rules.specs.Session.{pairs}
-use Rattle.session_laws.specs.Rising.{From, from_less}
+use Rattle.session_laws.proofs.Rising.{From, from_less}
 use Rattle.net_places.specs.Places.{held_net, nets_from, nets_of}
 use Rattle.call_rules.specs.Result.{Result, no, yes, and_then}
-use Rattle.call_rules.specs.Results.{yes_same, passed, then_yes}
+use Rattle.call_rules.proofs.Results.{yes_same, passed, then_yes}
 use Rattle.call_rules.specs.Shape.{PathAt, paths_from}
 use Rattle.call_rules.specs.Walk.{walk_paths}
 use Rattle.call_rules.specs.Judge.{paths_in, judged, of_list, alike_on}

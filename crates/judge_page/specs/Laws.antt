@@ -11,9 +11,9 @@ use Rattle.board.specs.Degree.{vertex?}
 use Rattle.board.specs.declared.Direction.TheVariants.{Right, Down}
 use Rattle.call_rules.specs.Result.{yes}
 use Rattle.call_rules.specs.Writing.{written_into, Writes}
-use Rattle.call_rules.specs.WritingLaws.{store_next}
+use Rattle.call_rules.proofs.WritingLaws.{store_next}
 use Rattle.call_rules.specs.Page.{plus, dash, bar, space, sign_if, on_line, below_line, character_at, page}
-use Rattle.call_rules.specs.PageLaws.{page-length, page-at, page-feed}
+use Rattle.call_rules.proofs.PageLaws.{page-length, page-at, page-feed}
 use Rattle.judge_walk.specs.Slots.{slot_at}
 use Rattle.judge_walk.specs.SlotLaws.{slot_across, slot_down}
 use Rattle.judge_page.specs.Marked.{marked, byte_at}

@@ -3,7 +3,7 @@
 use Rattle.std.specs.Prelude.{◌≡◌, refl, Bool, true, false, cond, not, List, [], ◌∷◌, ◌++◌, ℕ, zero, suc, ◌+◌, eqb, length, replicate}
 use Rattle.std.proofs.Common.{ap, ◌∙◌, arith, length-append, lt-ltb}
 use Rattle.std.proofs.lemmas.List.{length-replicate}
-use Rattle.board_convex.specs.Turns.{turn_self}
+use Rattle.board_convex.proofs.Turns.{turn_self}
 use Rattle.board.specs.Board.{at}
 use Rattle.board.specs.Path.{next, number, turn, turns}
 use Rattle.board.specs.declared.Vertex.{Vertex}

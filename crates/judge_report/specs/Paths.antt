@@ -14,9 +14,9 @@ use Rattle.session_rules.specs.Session.{pairs}
 use Rattle.net_places.specs.Places.{net, held_net, nets_from, nets_of}
 use Rattle.call_rules.specs.Shape.{paths_from}
 use Rattle.call_rules.specs.Report.{edges_used, turns_made, turns_at, turns_occurring, knock_knee, knock_knees, report_of}
-use Rattle.call_rules.specs.ReportLaws.{occurring_no_path, occurring_no_pair, occurring_more}
+use Rattle.call_rules.proofs.ReportLaws.{occurring_no_path, occurring_no_pair, occurring_more}
 use Rattle.call_rules.specs.Judge.{paths_in}
-use Rattle.net_places.specs.CountLaws.{nets_more, nets_none}
+use Rattle.net_places.proofs.CountLaws.{nets_more, nets_none}
 use Rattle.judge_walk.specs.PartLaws.{Found, paths_out, paths_part}
 use Rattle.judge_report.specs.Traces.{knocks_in}
 use Rattle.judge_report.specs.Knocks.{vertex_at, knocks_are}

@@ -14,7 +14,7 @@ use Rattle.net.specs.declared.Place.{Place}
 use Rattle.session_rules.specs.Refusal as machine
 use Rattle.session_rules.specs.Refusal.{refusal}
 use Rattle.net_places.specs.Places.{net, held_net, nets_from, nets_of, held_one}
-use Rattle.net_places.specs.CountLaws.{nets_more}
+use Rattle.net_places.proofs.CountLaws.{nets_more}
 use Rattle.words.specs.RoutingWord.{routing_word}
 use Rattle.words.specs.declared.RoutingWord.{RoutingWord}
 use Rattle.words.specs.declared.RoutingWord.TheVariants as word

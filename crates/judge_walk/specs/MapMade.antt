@@ -28,7 +28,7 @@ use Rattle.routing_rules.specs.Routing.{edges_from, uses, same_edge}
 use Rattle.routing_rules.specs.Check.{same_edge_exact}
 use Rattle.session_rules.specs.Refusal.{Refusal, line, first_refusal}
 use Rattle.call_rules.specs.Report.{directions}
-use Rattle.call_rules.specs.Results.{line_passed}
+use Rattle.call_rules.proofs.Results.{line_passed}
 use Rattle.call_rules.specs.Shape.{RunAt, PathAt}
 use Rattle.judge_walk.specs.Slots.{slot, slot_at, edge_at}
 use Rattle.judge_walk.specs.EdgeMap.{unused, on_path, net_on, map_of}

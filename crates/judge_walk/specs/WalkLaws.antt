@@ -23,7 +23,7 @@ use Rattle.call_rules.specs.Shape.{runs_from, paths_from}
 use Rattle.judge_shape.specs.declared.Refusal.{Refusal}
 use Rattle.judge_shape.specs.declared.Checked.{Checked}
 use Rattle.judge_shape.specs.declared.Checked.TheVariants as checked
-use Rattle.net_places.specs.CountLaws.{nets_more, nets_none}
+use Rattle.net_places.proofs.CountLaws.{nets_more, nets_none}
 use Rattle.judge_walk.specs.Slots.{slot_at}
 use Rattle.judge_walk.specs.MapWalk.{
   came,

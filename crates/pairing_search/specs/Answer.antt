@@ -13,8 +13,8 @@ use Rattle.cut.specs.Odd.{odd_vertices}
 use Rattle.routing_rules.specs.Routing.{Routable}
 use Rattle.corner.specs.Problem.{Problem, Helpers}
 use Rattle.pairing.specs.Search.{pair_up, helpers}
-use Rattle.pairing.specs.Test.{open_exact}
-use Rattle.pairing.specs.Exact.{helpers-open, helpers-found, routable-some}
+use Rattle.pairing.proofs.Test.{open_exact}
+use Rattle.pairing.proofs.Exact.{helpers-open, helpers-found, routable-some}
 use Rattle.pairing_search.specs.View.{Left, pairs_found, found_of, Pairs, Few, Helps}
 use Rattle.pairing_search.specs.declared.FoundPairs.{FoundPairs}
 use Rattle.pairing_search.specs.declared.Odds.{Odds}

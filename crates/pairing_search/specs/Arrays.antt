@@ -13,7 +13,7 @@ use Rattle.net.specs.declared.Pair.{Pair}
 use Rattle.corner.specs.Pairs.{pair}
 use Rattle.pairing.specs.Search.{open?, others, or_else, first_of, with_pair, pair_up}
 use Rattle.pairing_search.specs.View.{pairs_found, no_pairs, found_of}
-use Rattle.pairing.specs.Laws.{attempt, pair_more, attempt_open, attempt_shut}
+use Rattle.pairing.proofs.Laws.{attempt, pair_more, attempt_open, attempt_shut}
 use Rattle.pairing_search.specs.declared.FoundPairs.{FoundPairs}
 
 -- one pair more

@@ -14,7 +14,7 @@ use Rattle.cut.specs.Order.{IsCut}
 use Rattle.cut.specs.First.{no-overfull}
 use Rattle.cut.specs.Laws.{overfull_more}
 use Rattle.pairing.specs.Search.{open?}
-use Rattle.pairing.specs.Test.{open_exact}
+use Rattle.pairing.proofs.Test.{open_exact}
 use Rattle.pairing_search.specs.View.{cut_at, Left, Lowers}
 use Rattle.pairing_search.specs.declared.Slack.{Slack}
 

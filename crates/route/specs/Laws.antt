@@ -8,8 +8,8 @@ use Rattle.session_rules.specs.Refusal.{refusal}
 use Rattle.session.specs.View.{session_of}
 use Rattle.call_rules.specs.Reading.{read_bytes}
 use Rattle.board_reading.specs.Promise.{ReadPromise}
-use Rattle.board_reading.specs.ReadAs.{read_refused, read_accepted}
-use Rattle.board_reading.specs.PromiseLaws.{bytes-uneven, bytes-long}
+use Rattle.board_reading.proofs.ReadAs.{read_refused, read_accepted}
+use Rattle.board_reading.proofs.PromiseLaws.{bytes-uneven, bytes-long}
 use Rattle.board_reading.specs.declared.AfterRead.{AfterRead}
 use Rattle.board_reading.specs.declared.ReadAnswer.TheVariants as answer
 use Rattle.route_text.specs.Text.{RouteText}

@@ -18,7 +18,7 @@ use Rattle.cut_search.specs.declared.FoundVertex as code-vertex
 use Rattle.session_rules.specs.Refusal.{refusal}
 use Rattle.session_rules.specs.Session.{Session, pairs}
 use Rattle.session_rules.specs.Sound.{sound?}
-use Rattle.session_laws.specs.Exact.{sound_exact}
+use Rattle.session_laws.proofs.Exact.{sound_exact}
 use Rattle.call_rules.specs.Result.{no, yes}
 use Rattle.call_rules.specs.Route.{
   route_room,
@@ -35,8 +35,8 @@ use Rattle.call_rules.specs.Route.{
   refused,
   given,
 }
-use Rattle.call_rules.specs.RouteLaws.{short_31, left, passed}
-use Rattle.corner.specs.Paths.{routing_routable}
+use Rattle.call_rules.proofs.RouteLaws.{short_31, left, passed}
+use Rattle.corner.proofs.Paths.{routing_routable}
 use Rattle.pairing_search.specs.View.{no_odds, Few, Collects, Helps}
 use Rattle.pairing_search.specs.Collect.{few_none}
 use Rattle.pairing_search.specs.Answer.{answer-helpers, answer-none}

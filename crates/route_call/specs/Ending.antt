@@ -11,7 +11,7 @@ use Rattle.board.specs.Board.{Board, height, Within}
 use Rattle.board.specs.Path.{Convex}
 use Rattle.board.specs.declared.Vertex.{Vertex}
 use Rattle.net.specs.declared.Pair.{Pair}
-use Rattle.board_convex.specs.Lemma1.{lemma_1}
+use Rattle.board_convex.proofs.Lemma1.{lemma_1}
 use Rattle.session_rules.specs.Session.{Session, pairs}
 use Rattle.session_rules.specs.Sound.{Sound}
 use Rattle.call_rules.specs.Route.{route_room, HandsBack}
@@ -20,7 +20,7 @@ use Rattle.corner.specs.Pairs.{pair}
 use Rattle.corner.specs.Shape.{Shape, present, last}
 use Rattle.corner.specs.Trails.{Link, hor, ver, lo, hi, joined}
 use Rattle.corner.specs.Links.{on_board}
-use Rattle.corner.specs.Lines.{lines_of, joined-board}
+use Rattle.corner.proofs.Lines.{lines_of, joined-board}
 use Rattle.router_notes.specs.Limits.{pair_limit}
 use Rattle.router_notes.specs.Notes.{Item, Routed}
 use Rattle.router_notes.specs.Lift.{lift_fewer}

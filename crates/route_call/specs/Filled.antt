@@ -3,7 +3,7 @@ use Rattle.std.specs.Prelude.{◌≡◌, false, List, ◌++◌, ℕ, ◌≤◌}
 use Rattle.net.specs.declared.Pair.{Pair}
 use Rattle.session_rules.specs.Session.{Session, pairs}
 use Rattle.corner.specs.Shape.{Good}
-use Rattle.corner.specs.Lines.{lines_of}
+use Rattle.corner.proofs.Lines.{lines_of}
 use Rattle.router_ends.specs.declared.Work.{Work}
 use Rattle.router_start.specs.Table.{Table}
 

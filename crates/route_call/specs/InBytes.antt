@@ -22,7 +22,7 @@ use Rattle.call_rules.specs.Route.{
   refused,
   given,
 }
-use Rattle.call_rules.specs.RouteLaws.{same_why}
+use Rattle.call_rules.proofs.RouteLaws.{same_why}
 use Rattle.route_call.specs.Answers.{route_answer, written}
 use Rattle.route_call.specs.Room.{cut_short}
 use Rattle.route_call.specs.declared.RouteAnswer.{RouteAnswer}

@@ -3,12 +3,12 @@
 use Rattle.std.specs.Prelude.{◌≡◌, refl, ℕ, ◌≤◌, min, ltb}
 use Rattle.std.proofs.Common.{sym, ◌∙◌, inl, inr, arith, lt-ltb, le-ltb}
 use Rattle.count.specs.TruthLaws.{bool, le_or_lt}
-use Rattle.board_edges.specs.Framed.{edges_most}
+use Rattle.board_edges.proofs.Framed.{edges_most}
 use Rattle.session_rules.specs.Session.{Session}
 use Rattle.session_rules.specs.Sound.{Sound, sound?}
-use Rattle.session_laws.specs.Exact.{sound_exact}
-use Rattle.session_laws.specs.Few.{few_nets}
-use Rattle.session_laws.specs.Stays.{sound_fine}
+use Rattle.session_laws.proofs.Exact.{sound_exact}
+use Rattle.session_laws.proofs.Few.{few_nets}
+use Rattle.session_laws.proofs.Stays.{sound_fine}
 use Rattle.call_rules.specs.Shape.{routing_limit}
 use Rattle.call_rules.specs.Route.{route_room, route_refused}
 

@@ -10,11 +10,11 @@ use Rattle.net.specs.declared.Pair.{Pair}
 use Rattle.session_rules.specs.Session.{Session, pairs}
 use Rattle.corner.specs.Pairs.{pair, tally, All, SamePairs}
 use Rattle.corner.specs.Shape.{Here, Shaped, Good, last, size}
-use Rattle.corner.specs.Presence.{last_suc}
-use Rattle.corner.specs.Lines.{lines_of}
-use Rattle.corner.specs.Order.{good_same}
-use Rattle.corner.specs.OddBoards.{helped-good}
-use Rattle.corner_pins.specs.Few.{few-pairs}
+use Rattle.corner.proofs.Presence.{last_suc}
+use Rattle.corner.proofs.Lines.{lines_of}
+use Rattle.corner.proofs.Order.{good_same}
+use Rattle.corner.proofs.OddBoards.{helped-good}
+use Rattle.corner_pins.proofs.Few.{few-pairs}
 use Rattle.router_notes.specs.Limits.{pair_limit, vertex_limit}
 use Rattle.router_notes.specs.Notes.{Item, item}
 use Rattle.router_notes.specs.Inv.{turn_i}
@@ -22,7 +22,7 @@ use Rattle.router_notes.specs.Table.{pairs_of, tally-of}
 use Rattle.router_notes.specs.Alike.{good-alike}
 use Rattle.router_notes.specs.Arrays.{vtx}
 use Rattle.router_invariant.specs.Run.{Run, Sized, row_r, shape_r, pairs_r}
-use Rattle.router_invariant.specs.Place.{vtx_at, last_is}
+use Rattle.router_invariant.proofs.Place.{vtx_at, last_is}
 use Rattle.router_tidy.specs.Start.{Starts}
 use Rattle.router_ends.specs.declared.Work.{Work}
 use Rattle.router_ends.specs.View.{run}
@@ -31,7 +31,7 @@ use Rattle.router_start.specs.LineLaws.{lined-lo, lined-hi, lined_alike}
 use Rattle.router_start.specs.Table.{word_of, no_pair, Clear, Table, Fills}
 use Rattle.router_start.specs.TableLaws.{fills-table}
 use Rattle.session_rules.specs.Sound.{Sound}
-use Rattle.session_laws.specs.Exact.{sound_exact}
+use Rattle.session_laws.proofs.Exact.{sound_exact}
 use Rattle.pairing_search.specs.declared.FoundPairs.{FoundPairs}
 use Rattle.route_call.specs.Answers.{Helped}
 use Rattle.route_call.specs.Filled.{first_work, Filled}

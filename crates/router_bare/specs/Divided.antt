@@ -6,14 +6,14 @@ use Rattle.std.proofs.lemmas.Bool.{eqb-false}
 use Rattle.count.specs.TruthLaws.{bool, eq_or_ne, le_or_lt}
 use Rattle.count.specs.Sum.{sum_zero, sum_suc}
 use Rattle.corner.specs.Pairs.{apart}
-use Rattle.corner.specs.Apart.{apart_le}
+use Rattle.corner.proofs.Apart.{apart_le}
 use Rattle.router_notes.specs.Limits.{pair_limit, last_pair}
 use Rattle.router_table.specs.Scans.{First, Least, cross_d, leave_d}
 use Rattle.router_table.specs.Writes.{Added, Divided}
 use Rattle.router_invariant.specs.Run.{Run, line_r, col_r, ul_r, nul_r, bul_r, bul_w}
 use Rattle.router_invariant.specs.Divide.{divide_run, dir1, dir2}
-use Rattle.router_invariant.specs.Helper.{helper_run}
-use Rattle.router_invariant.specs.Step.{Step, Stuck, FirstR, NoEnd, LeftFull, TopFull, end_r, nearest, at_nul, helped, no_nearest, no_nul}
+use Rattle.router_invariant.proofs.Helper.{helper_run}
+use Rattle.router_invariant.proofs.Step.{Step, Stuck, FirstR, NoEnd, LeftFull, TopFull, end_r, nearest, at_nul, helped, no_nearest, no_nul}
 use Rattle.router_ends.specs.declared.Work.{Work}
 use Rattle.router_ends.specs.View.{run, Low, Went, halted, counted}
 use Rattle.router_bare.specs.Promise.{CutRow, NoEndsR}

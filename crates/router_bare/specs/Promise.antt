@@ -3,7 +3,7 @@
 use Rattle.std.specs.Prelude.{◌≡◌, Bool, false, cond, List, ℕ, ◌+◌, get_or, set}
 use Rattle.router_invariant.specs.Run.{Run, line_r, col_r}
 use Rattle.router_invariant.specs.Divide.{dir1, dir2}
-use Rattle.router_invariant.specs.Step.{NoEnd, end_r}
+use Rattle.router_invariant.proofs.Step.{NoEnd, end_r}
 use Rattle.router_ends.specs.declared.Work.{Work}
 use Rattle.router_ends.specs.View.{run, Went, counted}
 

@@ -7,7 +7,7 @@ use Rattle.router_table.specs.Scans.{seen_d}
 use Rattle.router_table.specs.Writes.{Moved}
 use Rattle.router_invariant.specs.Run.{Run, line_r, col_r, ul_r, bul_w}
 use Rattle.router_invariant.specs.Ready.{up_n}
-use Rattle.router_invariant.specs.Step.{right, down, no_right, no_down, no_edge, no_line}
+use Rattle.router_invariant.proofs.Step.{right, down, no_right, no_down, no_edge, no_line}
 use Rattle.router_ends.specs.declared.Work.{Work}
 use Rattle.router_ends.specs.View.{run, OneEdgeR, halted, counted}
 

@@ -3,7 +3,7 @@
 use Rattle.std.specs.Prelude.{◌≡◌, Bool, true, false, List, ◌⊎◌, ℕ, ◌+◌, ◌≤◌, ◌<◌, get_or}
 use Rattle.router_notes.specs.Limits.{pair_limit}
 use Rattle.router_invariant.specs.Run.{Run, line_r, col_r, ul_r}
-use Rattle.router_invariant.specs.Step.{Step, Stuck, FirstR, end_r}
+use Rattle.router_invariant.proofs.Step.{Step, Stuck, FirstR, end_r}
 use Rattle.router_ends.specs.declared.Work.{Work}
 
 abbrev pub run : (la lb ids side vert half s1 s2 d1 d2 lo hi : List ℕ) → Work → Run

@@ -7,8 +7,8 @@ use Rattle.router_table.specs.Scans.{First, swap_d}
 use Rattle.router_table.specs.Writes.{Split}
 use Rattle.router_invariant.specs.Run.{Run, line_r, col_r, ul_r, bul_w}
 use Rattle.router_invariant.specs.Ready.{up_n}
-use Rattle.router_invariant.specs.Choice.{far_w}
-use Rattle.router_invariant.specs.Step.{FirstR, split_two, no_second}
+use Rattle.router_invariant.proofs.Choice.{far_w}
+use Rattle.router_invariant.proofs.Step.{FirstR, split_two, no_second}
 use Rattle.router_ends.specs.declared.Work.{Work}
 use Rattle.router_ends.specs.View.{run, TwoEndsR, halted, counted}
 

@@ -5,9 +5,9 @@ use Rattle.std.specs.Prelude.{◌≡◌, refl, true, ℕ, suc, ◌≤◌, ◌<�
 use Rattle.std.proofs.Common.{ap, inl, arith, get_or-set_same, get_or-set_other, le-leb}
 use Rattle.count.specs.TruthLaws.{and_yes}
 use Rattle.net.specs.Terminals.{same}
-use Rattle.corner.specs.Taking.{all_take}
+use Rattle.corner.proofs.Taking.{all_take}
 use Rattle.corner.specs.Shape.{Here, last}
-use Rattle.corner.specs.Presence.{present_yes}
+use Rattle.corner.proofs.Presence.{present_yes}
 use Rattle.router_notes.specs.Limits.{pair_limit}
 use Rattle.router_notes.specs.Inv.{turn, turn_i}
 use Rattle.router_notes.specs.Arrays.{vtx, left_of}

@@ -8,12 +8,12 @@ use Rattle.router_notes.specs.Limits.{pair_limit, last_pair, vertex_limit}
 use Rattle.router_notes.specs.State.{State}
 use Rattle.router_table.specs.Scans.{seen_d}
 use Rattle.router_invariant.specs.Run.{Run, Holds, Sized, shape_r, col_r}
-use Rattle.router_invariant.specs.Place.{seen_turn, low-col}
+use Rattle.router_invariant.proofs.Place.{seen_turn, low-col}
 use Rattle.router_invariant.specs.Ready.{Ready}
-use Rattle.router_invariant.specs.ReadyLaws.{shaped}
-use Rattle.router_invariant.specs.Turned.{turn_run, turn_holds, top-stays, top-turns}
-use Rattle.router_invariant.specs.Step.{Step, Stuck}
-use Rattle.router_invariant.specs.StepLaws.{step-holds, never_stuck}
+use Rattle.router_invariant.proofs.ReadyLaws.{shaped}
+use Rattle.router_invariant.proofs.Turned.{turn_run, turn_holds, top-stays, top-turns}
+use Rattle.router_invariant.proofs.Step.{Step, Stuck}
+use Rattle.router_invariant.proofs.StepLaws.{step-holds, never_stuck}
 use Rattle.router_tidy.specs.Tidy.{table_r, Tidied}
 use Rattle.router_tidy.specs.Fewer.{vertices_some, vertices_few, step_fewer}
 use Rattle.router_tidy.specs.Pass.{turn_vertices, ready_for}

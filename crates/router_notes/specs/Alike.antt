@@ -5,10 +5,10 @@ use Rattle.std.proofs.Common.{ap, ◌∙◌, sym, inl, inr, arith, get_or-set_sa
 use Rattle.count.specs.TruthLaws.{bool_eq}
 use Rattle.count.specs.Bits.{eq_case}
 use Rattle.net.specs.declared.Pair.{Pair}
-use Rattle.corner.specs.Tallies.{all_map}
+use Rattle.corner.proofs.Tallies.{all_map}
 use Rattle.corner.specs.Shape.{Shape, present, Good, Line, At, deg, cap, last, narrow}
-use Rattle.corner.specs.Presence.{present_yes, present_true}
-use Rattle.corner.specs.Flip.{flip}
+use Rattle.corner.proofs.Presence.{present_yes, present_true}
+use Rattle.corner.proofs.Flip.{flip}
 use Rattle.corner.specs.Trails.{lo, hi}
 use Rattle.router_notes.specs.State.{State}
 use Rattle.router_notes.specs.Inv.{Inv}

@@ -7,7 +7,7 @@ use Rattle.count.specs.Sum.{sum, sum_eq}
 use Rattle.count.specs.Sums.{sum_le, sum_add, sum_get, sum_const}
 use Rattle.corner.specs.Shape.{size}
 use Rattle.corner.specs.Trails.{Link, hor, ver, same_link}
-use Rattle.corner.specs.TrailLaws.{link_self}
+use Rattle.corner.proofs.TrailLaws.{link_self}
 use Rattle.router_notes.specs.Limits.{path_limit}
 use Rattle.router_notes.specs.Notes.{Move, edge, uses}
 use Rattle.router_notes.specs.Moves.{uses_cons}

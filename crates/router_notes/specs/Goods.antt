@@ -8,11 +8,11 @@ use Rattle.board.specs.declared.Vertex.{Vertex}
 use Rattle.net.specs.declared.Pair.{Pair}
 use Rattle.net.specs.Terminals.{same}
 use Rattle.corner.specs.Pairs.{pair, tally, standing, Take, Proper, hits, across, SamePairs}
-use Rattle.corner.specs.Taking.{tally_take}
-use Rattle.corner.specs.Order.{good_same, good_drop}
+use Rattle.corner.proofs.Taking.{tally_take}
+use Rattle.corner.proofs.Order.{good_same, good_drop}
 use Rattle.corner.specs.Shape.{Shape, Good, Top, UL, NUL, BUL, narrow, lower, Full, Roomy, top_cut, left_cut}
-use Rattle.corner.specs.Steps.{split_good, helper-good, divide-nul, divide-least}
-use Rattle.corner.specs.Move.{move_right_at, move_down_at}
+use Rattle.corner.proofs.Steps.{split_good, helper-good, divide-nul, divide-least}
+use Rattle.corner.proofs.Move.{move_right_at, move_down_at}
 use Rattle.corner.specs.Trails.{hi}
 use Rattle.router_notes.specs.Notes.{Item}
 use Rattle.router_notes.specs.Update.{upd, upd_same, upd_other, sum_change}

@@ -3,7 +3,7 @@
 use Rattle.std.specs.Prelude.{◌≡◌, Bool, true, false, ◌⊎◌, ℕ, suc, ◌-◌, ◌≤◌, ◌<◌}
 use Rattle.board.specs.declared.Vertex.{Vertex}
 use Rattle.corner.specs.Shape.{Shape, present, Good, last, UL}
-use Rattle.corner.specs.Flip.{over}
+use Rattle.corner.proofs.Flip.{over}
 use Rattle.corner.specs.Trails.{hor, ver}
 use Rattle.router_notes.specs.Notes.{Move, Item, item, fwd, bwd}
 use Rattle.router_notes.specs.State.{State, Live, Leads, Fine}

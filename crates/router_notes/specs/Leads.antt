@@ -11,7 +11,7 @@ use Rattle.net.specs.Terminals.{same}
 use Rattle.net.specs.Same.{same_true, same_self}
 use Rattle.corner.specs.Shape.{size}
 use Rattle.corner.specs.Trails.{Link, lo, hi, same_link}
-use Rattle.corner.specs.TrailLaws.{link_true}
+use Rattle.corner.proofs.TrailLaws.{link_true}
 use Rattle.router_notes.specs.Notes.{Move, edge, start, finish, opp, Goes, uses, Item, Notes, Path, Routed, Moved, fwd, bwd, on, parted}
 use Rattle.router_notes.specs.Update.{upd, upd_same, upd_other}
 use Rattle.router_notes.specs.Moves.{start_opp, finish_opp, edge_opp}

@@ -7,8 +7,8 @@ use Rattle.board.specs.declared.Vertex.{Vertex}
 use Rattle.net.specs.Terminals.{same}
 use Rattle.corner.specs.Pairs.{standing, Proper}
 use Rattle.corner.specs.Shape.{Shape, present, Good, Top, Less, last, UL, NUL, BUL, narrow}
-use Rattle.corner.specs.Presence.{present_yes, last_suc}
-use Rattle.corner.specs.Delete.{narrow_less}
+use Rattle.corner.proofs.Presence.{present_yes, last_suc}
+use Rattle.corner.proofs.Delete.{narrow_less}
 use Rattle.router_notes.specs.Notes.{Item, Moved, on}
 use Rattle.router_notes.specs.State.{State, Closes}
 use Rattle.router_notes.specs.Leads.{leads_trans, closes-fine, split-leads}

@@ -5,7 +5,7 @@ use Rattle.std.proofs.Common.{ap, ap₂, ◌∙◌, sym, subst, arith}
 use Rattle.board.specs.declared.Vertex.{Vertex}
 use Rattle.corner.specs.Pairs.{pair}
 use Rattle.corner.specs.Shape.{Shape, present, Good, last}
-use Rattle.corner.specs.Flip.{flip, over, flips, flip_good, flip_mirror}
+use Rattle.corner.proofs.Flip.{flip, over, flips, flip_good, flip_mirror}
 use Rattle.router_notes.specs.Notes.{Item}
 use Rattle.router_notes.specs.State.{State}
 use Rattle.router_notes.specs.Table.{pairs_of}

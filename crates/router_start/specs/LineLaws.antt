@@ -8,7 +8,7 @@ use Rattle.board.specs.View.{board_of}
 use Rattle.board.specs.ViewLaws.{height_of, left-of, right_of}
 use Rattle.board.specs.declared.Row.{Row}
 use Rattle.board.specs.declared.Board as code
-use Rattle.corner.specs.Lines.{lines_of}
+use Rattle.corner.proofs.Lines.{lines_of}
 use Rattle.router_notes.specs.Alike.{Alike, shape_of}
 use Rattle.router_start.specs.Front.{in_front}
 use Rattle.router_start.specs.FrontLaws.{front-size, front-get, front-more}

@@ -2,7 +2,7 @@
 use Rattle.std.specs.Prelude.{◌≡◌, List, map, ℕ}
 use Rattle.count.specs.Lists.{up_to}
 use Rattle.board.specs.Board.{Board}
-use Rattle.corner.specs.Lines.{lines_of}
+use Rattle.corner.proofs.Lines.{lines_of}
 use Rattle.router_start.specs.Front.{in_front}
 
 -- the first n lines are written, and what stood after them is untouched

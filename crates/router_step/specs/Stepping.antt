@@ -4,7 +4,7 @@ use Rattle.std.specs.Prelude.{◌≡◌, Bool, List, ℕ, ◌+◌, ◌*◌, ◌%
 use Rattle.std.proofs.Common.{ap, ◌∙◌, subst, arith}
 use Rattle.router_table.specs.Scans.{First, seen_d}
 use Rattle.router_invariant.specs.Run.{Run, line_r, col_r, ul_r}
-use Rattle.router_invariant.specs.Step.{FirstR, end_r}
+use Rattle.router_invariant.proofs.Step.{FirstR, end_r}
 use Rattle.router_ends.specs.declared.Work.{Work}
 use Rattle.router_ends.specs.View.{run, Went, TwoEndsR, OneEdgeR}
 use Rattle.router_ends.specs.Moved.{column_is}

@@ -7,20 +7,20 @@ use Rattle.count.specs.TruthLaws.{one_le}
 use Rattle.count.specs.Sum.{sum, sum_eq}
 use Rattle.count.specs.Sums.{sum_le, sum_get, sum_const}
 use Rattle.corner.specs.Shape.{size, last, Shape, present, vertices, Shaped, narrow, lower}
-use Rattle.corner.specs.Presence.{last_suc, present_one}
-use Rattle.corner.specs.Delete.{narrow_less, lower_less, fewer}
+use Rattle.corner.proofs.Presence.{last_suc, present_one}
+use Rattle.corner.proofs.Delete.{narrow_less, lower_less, fewer}
 use Rattle.router_notes.specs.Limits.{vertex_limit}
 use Rattle.router_notes.specs.State.{State}
 use Rattle.router_notes.specs.Alike.{Alike, present-alike, shape_of, turn_l, narrow_alike}
 use Rattle.router_invariant.specs.Run.{Run, shape_r, line_r, col_r}
-use Rattle.router_invariant.specs.Place.{seen_turn, last_is, col-is}
+use Rattle.router_invariant.proofs.Place.{seen_turn, last_is, col-is}
 use Rattle.router_invariant.specs.Ready.{Ready}
-use Rattle.router_invariant.specs.ReadyLaws.{shaped}
-use Rattle.router_invariant.specs.OneEdge.{right_run, down_run}
-use Rattle.router_invariant.specs.TwoEnds.{split_run}
-use Rattle.router_invariant.specs.Helper.{helper_run}
+use Rattle.router_invariant.proofs.ReadyLaws.{shaped}
+use Rattle.router_invariant.proofs.OneEdge.{right_run, down_run}
+use Rattle.router_invariant.proofs.TwoEnds.{split_run}
+use Rattle.router_invariant.proofs.Helper.{helper_run}
 use Rattle.router_invariant.specs.Divide.{divide_run}
-use Rattle.router_invariant.specs.Step.{Step, end_r, right, down, split_two, nearest, at_nul, helped}
+use Rattle.router_invariant.proofs.Step.{Step, end_r, right, down, split_two, nearest, at_nul, helped}
 
 pub vertices_alike : (S S' : Shape) → Alike S S' → vertices S ≡ vertices S'
 unfolding vertices

@@ -7,8 +7,8 @@ use Rattle.net.specs.Terminals.{same}
 use Rattle.corner.specs.Pairs.{Proper}
 use Rattle.net.specs.Same.{same_true}
 use Rattle.corner.specs.Shape.{last, vertices, Top}
-use Rattle.corner.specs.Presence.{last_suc}
-use Rattle.corner.specs.Flip.{flip_vertices}
+use Rattle.corner.proofs.Presence.{last_suc}
+use Rattle.corner.proofs.Flip.{flip_vertices}
 use Rattle.router_notes.specs.State.{State}
 use Rattle.router_notes.specs.Table.{pairs_of}
 use Rattle.router_notes.specs.Inv.{turn, turn_i}
@@ -16,9 +16,9 @@ use Rattle.router_notes.specs.Corner.{turn_twice}
 use Rattle.router_notes.specs.Alike.{flip_alike}
 use Rattle.router_notes.specs.Arrays.{vtx, row_of}
 use Rattle.router_invariant.specs.Run.{Run, Holds, Sized, shape_r, pairs_r}
-use Rattle.router_invariant.specs.Place.{vtx_same, last_is}
+use Rattle.router_invariant.proofs.Place.{vtx_same, last_is}
 use Rattle.router_invariant.specs.Ready.{Ready}
-use Rattle.router_invariant.specs.Turned.{turn_run}
+use Rattle.router_invariant.proofs.Turned.{turn_run}
 use Rattle.router_tidy.specs.Fewer.{vertices_alike}
 
 proper_pairs : (la lb ids : List ℕ) (o : Bool) (n : ℕ) → ((k : ℕ) → k < n → ((vtx (get_or la k 0)).line ≤ last) × ((vtx (get_or lb k 0)).line ≤ last))

@@ -6,8 +6,8 @@ use Rattle.count.specs.TruthLaws.{eq_or_ne}
 use Rattle.router_notes.specs.Limits.{pair_limit}
 use Rattle.router_table.specs.Writes.{Dropped}
 use Rattle.router_invariant.specs.Drop.{drop-holds}
-use Rattle.router_invariant.specs.Halving.{stored}
-use Rattle.router_invariant.specs.Sizes.{sized_drop}
+use Rattle.router_invariant.proofs.Halving.{stored}
+use Rattle.router_invariant.proofs.Sizes.{sized_drop}
 use Rattle.router_tidy.specs.Tidy.{table_r, Tidied}
 
 pub tidy_none : (la lb ids : List ℕ) (n : ℕ) → Tidied la lb ids n la lb ids n 0

@@ -7,7 +7,7 @@ use Rattle.board.specs.Board.{Within}
 use Rattle.board.specs.declared.Direction.{Direction}
 use Rattle.net.specs.declared.Pair.{Pair}
 use Rattle.routing_rules.specs.Routing.{Routing}
-use Rattle.routing_laws.specs.Words.{words_few}
+use Rattle.routing_laws.proofs.Words.{words_few}
 use Rattle.session_rules.specs.Session.{Session, pairs}
 use Rattle.call_rules.specs.Route.{route_room, HandsBack}
 use Rattle.call_rules.specs.Writing.{written_into}

@@ -18,8 +18,8 @@ use Rattle.routing_rules.specs.Routing.{Routing}
 use Rattle.corner.specs.Pairs.{pair}
 use Rattle.corner.specs.Trails.{Link, hor, ver, hi, lo, Walk, Trails, total}
 use Rattle.corner.specs.Links.{on_board, dirs_of, paths_of}
-use Rattle.corner.specs.LinkLaws.{on_frame}
-use Rattle.corner.specs.Paths.{routed_routing}
+use Rattle.corner.proofs.LinkLaws.{on_frame}
+use Rattle.corner.proofs.Paths.{routed_routing}
 use Rattle.router_notes.specs.Limits.{pair_limit, path_limit}
 use Rattle.router_notes.specs.Notes.{Move, fwd, bwd, Goes, uses, Item, Routed}
 use Rattle.router_notes.specs.Arrays.{born, notesOf}

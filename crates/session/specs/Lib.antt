@@ -1,10 +1,3 @@
 pub mod View
 pub mod Value
 pub mod Promise
-pub mod Steps
-pub mod Kept
-pub mod Names
-pub mod Tested
-pub mod Starts
-pub mod AllKept
-pub mod Turns

@@ -1,12 +1,4 @@
 pub mod Made
-pub mod Call
-pub mod History
 pub mod Demand
-pub mod Routing
-pub mod Listed
-pub mod Names
 pub mod Answered
 pub mod SameBoard
-pub mod Untaken
-pub mod Moved
-pub mod Rooms

@@ -6,7 +6,7 @@ use Rattle.std.proofs.Common.{sym, ◌∙◌}
 use Rattle.session_rules.specs.Refusal.{Refusal}
 use Rattle.session_rules.specs.Session as machine
 use Rattle.session_rules.specs.Sound.{Sound, sound?}
-use Rattle.session_laws.specs.Exact.{sound_exact}
+use Rattle.session_laws.proofs.Exact.{sound_exact}
 use Rattle.call_rules.specs.Result.{Result}
 use Rattle.call_rules.specs.Judge.{judged, judge_words, judge_bytes, compare_words, compare_bytes}
 use Rattle.call_rules.specs.Page.{draw_words, draw_bytes}
@@ -22,7 +22,7 @@ use Rattle.call_rules.specs.Route.{
   refused,
   given,
 }
-use Rattle.call_rules.specs.RouteLaws.{same_refused}
+use Rattle.call_rules.proofs.RouteLaws.{same_refused}
 use Rattle.call_rules.specs.Wire.{wire}
 use Rattle.session_history.specs.Answered.{AnsweredAlike}
 

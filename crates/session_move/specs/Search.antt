@@ -13,7 +13,7 @@ use Rattle.board.specs.OrderLaws.{reading_by_index}
 use Rattle.board.specs.declared.Vertex.{Vertex}
 use Rattle.board_block.specs.Block.{taken_at}
 use Rattle.board_block.specs.View.{vertex_at, taken_of, block_of}
-use Rattle.board_block.specs.ViewLaws.{taken_here}
+use Rattle.board_block.proofs.ViewLaws.{taken_here}
 use Rattle.board_block.specs.declared.Block as code
 use Rattle.net.specs.Terminals.{terminals}
 use Rattle.net.specs.View.{pairs_of}
@@ -22,7 +22,7 @@ use Rattle.net_terminals.specs.Counts.{Counts}
 use Rattle.session_rules.specs.Session.{pairs}
 use Rattle.session_rules.specs.NewRule.{pins_used, over_new?}
 use Rattle.net_places.specs.Places.{nets_of}
-use Rattle.net_places.specs.NetsLaws.{pairs-of}
+use Rattle.net_places.proofs.NetsLaws.{pairs-of}
 use Rattle.session_move.specs.Value.{over_with}
 
 -- DEFINITION: no place before i has more than the new rule gives it pins, by the counts of terminals and of taken pins

@@ -12,11 +12,11 @@ use Rattle.session_rules.specs.Session.{insert}
 use Rattle.session_rules.specs.Add.{accepts}
 use Rattle.session_rules.specs.Machine.{reversed}
 use Rattle.session_rules.specs.Sound.{liftable?, lifts?}
-use Rattle.session_laws.specs.Accept.{free_of}
+use Rattle.session_laws.proofs.Accept.{free_of}
 use Rattle.net_places.specs.Numbered.{replaced}
-use Rattle.net_places.specs.NumberedLaws.{length-replaced}
+use Rattle.net_places.proofs.NumberedLaws.{length-replaced}
 use Rattle.net_places.specs.Places.{holding, nets_of, reversed_in}
-use Rattle.net_places.specs.NetsLaws.{insert_of, remove_of}
+use Rattle.net_places.proofs.NetsLaws.{insert_of, remove_of}
 use Rattle.session_pile.specs.Pile.{pile_of, top_of, lifted}
 use Rattle.session_pile.specs.Changes.{pile_top, pile_empty}
 use Rattle.session_pile.specs.declared.Pile.{Pile}

@@ -13,8 +13,8 @@ use Rattle.board.specs.Degree.{vertex?, pins}
 use Rattle.board.specs.Tests.{vertex_exact}
 use Rattle.board.specs.declared.Vertex.{Vertex}
 use Rattle.board_block.specs.Block.{Block, pins_of}
-use Rattle.board_block.specs.Pins.{pins_below}
-use Rattle.board_convex.specs.Places.{vertex_in_row}
+use Rattle.board_block.proofs.Pins.{pins_below}
+use Rattle.board_convex.proofs.Places.{vertex_in_row}
 use Rattle.net.specs.Terminals.{same, terminals}
 use Rattle.net.specs.Same.{same_exact}
 use Rattle.net.specs.View.{held_then, pairs_of}
@@ -24,11 +24,11 @@ use Rattle.net.specs.declared.Held.TheVariants.{Nothing, Ends}
 use Rattle.net.specs.declared.Place.{Place}
 use Rattle.net_terminals.specs.Counts.{Counts}
 use Rattle.session_rules.specs.Sound.{addable?}
-use Rattle.session_laws.specs.Rising.{rising_from}
-use Rattle.session_laws.specs.Fine.{Good, AllGood, first_there, second_there}
-use Rattle.session_laws.specs.Addable.{fine_of, fine_addable}
+use Rattle.session_laws.proofs.Rising.{rising_from}
+use Rattle.session_laws.proofs.Fine.{Good, AllGood, first_there, second_there}
+use Rattle.session_laws.proofs.Addable.{fine_of, fine_addable}
 use Rattle.net_places.specs.Places.{net, held_net, nets_from, nets_of}
-use Rattle.net_places.specs.NetsLaws.{pairs-of, rising_of}
+use Rattle.net_places.proofs.NetsLaws.{pairs-of, rising_of}
 use Rattle.session_sound.specs.Room.{counted_at, room_at, held_room, places_room, roomy}
 
 -- ── pins are at vertices alone ──

@@ -1,12 +1,2 @@
 pub mod Everything
 pub mod Boards
-pub mod Table
-pub mod Reading
-pub mod Judging
-pub mod Sessions
-pub mod Names
-pub mod Taken
-pub mod Books
-pub mod Moves
-pub mod Wire
-pub mod Pages

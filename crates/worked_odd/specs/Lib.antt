@@ -1,3 +1,2 @@
 pub mod Revised
 pub mod Boards
-pub mod Cases

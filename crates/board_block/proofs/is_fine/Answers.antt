@@ -3,8 +3,8 @@
 use native.Mathlib.Omega.{arith}
 use mathlib.Core.Path.{refl}
 use Rattle.board.specs.View.{board_of}
-use Rattle.board_block.specs.ViewLaws.{taken_ordered}
-use Rattle.board_block.specs.There.{there-next, there-last}
+use Rattle.board_block.proofs.ViewLaws.{taken_ordered}
+use Rattle.board_block.proofs.There.{there-next, there-last}
 use borrow.Author.Rules.{rules}
 use Rattle.board_block.proofs.is_fine.Goals as goal
 

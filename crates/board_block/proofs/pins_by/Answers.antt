@@ -3,7 +3,7 @@ use mathlib.Core.Path.{refl, sym, ◌∙◌}
 use borrow.Author.Tests.{eq-eqb, ne_eqb}
 use Rattle.board.specs.View.{board_of}
 use Rattle.board_block.specs.Book.{pins_by}
-use Rattle.board_block.specs.Pins.{two_pins}
+use Rattle.board_block.proofs.Pins.{two_pins}
 use Rattle.board_block.proofs.pins_by.Goals as goal
 
 pub returns-in-Old : goal.returns-in-Old

@@ -2,7 +2,7 @@
 use mathlib.Core.Path.{◌≡◌}
 use lib.ListN.{length}
 use Rattle.board_block.specs.Block.{pins_of}
-use Rattle.board_block.specs.ViewLaws.{entry_taken}
+use Rattle.board_block.proofs.ViewLaws.{entry_taken}
 use borrow.Author.Rules.{rules}
 use Rattle.board_block.proofs.pins_of.Goals as goal
 

@@ -1,7 +1,7 @@
 -- The board and its book stay, and the array gets the taken pins.
 use mathlib.Core.Path.{◌≡◌, refl}
 use lib.ListN.{length}
-use Rattle.board_block.specs.ViewLaws.{takes_pins}
+use Rattle.board_block.proofs.ViewLaws.{takes_pins}
 use borrow.Author.Rules.{rules}
 use Rattle.board_block.proofs.with_taken.Goals as goal
 

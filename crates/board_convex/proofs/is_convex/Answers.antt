@@ -3,9 +3,9 @@ use native.Mathlib.Omega.{arith}
 use mathlib.Core.Path.{sym, ◌∙◌}
 use Rattle.count.specs.TruthLaws.{decides}
 use Rattle.board.specs.View.{board_of}
-use Rattle.board_convex.specs.Exact.{is-convex, outside_not_convex}
+use Rattle.board_convex.proofs.Exact.{is-convex, outside_not_convex}
 use Rattle.board_convex.specs.Test.{is_convex}
-use Rattle.board_convex.specs.Value.{count_of, convex_of}
+use Rattle.board_convex.proofs.Value.{count_of, convex_of}
 use Rattle.board_convex.proofs.is_convex.Goals as goal
 
 pub overflow_sub-n : goal.overflow_sub-n

@@ -7,8 +7,8 @@ use mathlib.Core.Bool.{true, false, ◌&&◌}
 use Rattle.count.specs.TruthLaws.{and_true, decides}
 use Rattle.board.specs.View.{board_of}
 use Rattle.board_convex.specs.Test.{in_limits}
-use Rattle.board_convex.specs.Limits.{in-limits}
-use Rattle.board_convex.specs.Value.{limits_of}
+use Rattle.board_convex.proofs.Limits.{in-limits}
+use Rattle.board_convex.proofs.Value.{limits_of}
 use Rattle.board_convex.proofs.within.Goals as goal
 
 pub rows_fit-requires : goal.rows_fit-requires

@@ -3,7 +3,7 @@ use mathlib.Core.Path.{ap, ◌∙◌}
 use native.Mathlib.Omega.{arith}
 use Rattle.board.specs.View.{board_of}
 use Rattle.board_degree.specs.Kind.{degree_of_kind}
-use Rattle.board_degree.specs.KindLaws.{degree_by_kind, degree_at_most}
+use Rattle.board_degree.proofs.KindLaws.{degree_by_kind, degree_at_most}
 use Rattle.board_degree.proofs.degree_of.Goals as goal
 
 pub returns : goal.returns

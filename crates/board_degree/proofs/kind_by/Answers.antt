@@ -1,7 +1,7 @@
 -- The kind is the definition's; past 3 no count but that of a vertex inside is left.
 use mathlib.Core.Path.{sym}
 use native.Mathlib.Omega.{arith}
-use Rattle.board_degree.specs.KindLaws.{inside_by}
+use Rattle.board_degree.proofs.KindLaws.{inside_by}
 use Rattle.board_degree.proofs.kind_by.Goals as goal
 
 pub returns-in_default : goal.returns-in_default

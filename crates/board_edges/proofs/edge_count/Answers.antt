@@ -7,7 +7,7 @@ use Rattle.board.specs.Board.{height}
 use Rattle.board.specs.View.{board_of}
 use Rattle.board.specs.ViewLaws.{height_of}
 use Rattle.board_pins.specs.Pins as pins
-use Rattle.board_edges.specs.ByRows.{row_adds, widest_more, widest_none, edges-by-rows}
+use Rattle.board_edges.proofs.ByRows.{row_adds, widest_more, widest_none, edges-by-rows}
 use Rattle.board_edges.proofs.edge_count.Goals as goal
 
 pub loop-i-init : goal.loop-i-init

@@ -3,7 +3,7 @@ use Prim.Native.Nat.{◌-◌, ◌*◌, ◌≤◌}
 use Rattle.count.specs.Sum.{sum}
 use Rattle.board.specs.View.{board_of}
 use Rattle.board_pins.specs.Pins as pins
-use Rattle.board_edges.specs.ByRows.{row_adds}
+use Rattle.board_edges.proofs.ByRows.{row_adds}
 use Rattle.board_edges.proofs.edge_count.Given as goal
 
 abbrev pub invariant-loop-i : goal.invariant-loop-i

@@ -1,6 +1,6 @@
 -- `add_word` is `added_word`.
 use Rattle.board_reading.specs.Adding.{added_word}
-use Rattle.board_reading.specs.AddingLaws.{told-added, told-kept}
+use Rattle.board_reading.proofs.AddingLaws.{told-added, told-kept}
 use Rattle.session_add.specs.Check.{check_answer}
 use Rattle.session_answers.specs.Answers.{add_answer, told}
 use Rattle.net_places.specs.Places.{nets_of}

@@ -3,7 +3,7 @@ use native.Mathlib.Omega.{arith}
 use borrow.Author.Rules.{rules}
 use Rattle.board_reading.specs.declared.Added.{Added}
 use Rattle.board_reading.specs.Adding.{added_word, Adding}
-use Rattle.board_reading.specs.AddingLaws.{adding_start, adding-more, adding-refused, adding-end}
+use Rattle.board_reading.proofs.AddingLaws.{adding_start, adding-more, adding-refused, adding-end}
 use Rattle.board_scan.specs.Laws.{nonzero}
 use Rattle.words.specs.BoardWord.{board_word}
 use Rattle.board_block.specs.View.{block_of}

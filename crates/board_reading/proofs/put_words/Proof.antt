@@ -9,7 +9,7 @@ use lib.ListN.{length, get_or}
 use Rattle.board.specs.View.{board_of}
 use Rattle.words.specs.BoardWord.{board_word}
 use Rattle.board_reading.specs.Pins.{over_word}
-use Rattle.board_reading.specs.PinsLaws.{Pinning, pinning_start, pinning-more, pinning-refused, pinning-end}
+use Rattle.board_reading.proofs.PinsLaws.{Pinning, pinning_start, pinning-more, pinning-refused, pinning-end}
 use Rattle.board_reading.proofs.put_words.Statement.{statement}
 use Rattle.board_reading.proofs.put_words.Tie as tie
 use Rattle.board_reading.proofs.put_words.Reads as reads

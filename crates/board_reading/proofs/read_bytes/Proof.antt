@@ -5,7 +5,7 @@ use lib.ListN.{length-replicate}
 use borrow.Author.Rules.{rules}
 use Rattle.words_bytes.specs.WordsLaws.{told-uneven, told-long, told-words}
 use Rattle.call_rules.specs.Reading.{read_bytes}
-use Rattle.board_reading.specs.PromiseLaws.{refused_read, bytes-uneven, bytes-long, bytes-words}
+use Rattle.board_reading.proofs.PromiseLaws.{refused_read, bytes-uneven, bytes-long, bytes-words}
 use Rattle.board_reading.proofs.read_bytes.Statement.{statement}
 use Rattle.board_reading.proofs.read_bytes.Tie as tie
 use Rattle.board_reading.proofs.read_bytes.Reads as reads

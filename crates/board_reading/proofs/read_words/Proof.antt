@@ -1,5 +1,5 @@
 -- `read_words` is refused as the definition refuses, and else hands back the session that the words give.
-use Rattle.board_reading.specs.PromiseLaws.{refused_read, scan_refused, bent-refused, pin-refused, net-refused, session-read}
+use Rattle.board_reading.proofs.PromiseLaws.{refused_read, scan_refused, bent-refused, pin-refused, net-refused, session-read}
 use Rattle.call_rules.specs.Reading.{read_words}
 use borrow.Author.Tests.{not-true, not-false}
 use mathlib.Core.Path.{sym, ◌∙◌}

@@ -2,7 +2,7 @@
 use native.Mathlib.Omega.{arith}
 use Rattle.board_writing.specs.Laws.{unsound_write, short_write, whole_write}
 use Rattle.session.specs.View.{session_of}
-use Rattle.session_laws.specs.Few.{few_taken}
+use Rattle.session_laws.proofs.Few.{few_taken}
 use Rattle.board.specs.ViewLaws.{height_of}
 use borrow.Author.Tests.{not-true, not-false}
 use mathlib.Core.Path.{sym, ◌∙◌}

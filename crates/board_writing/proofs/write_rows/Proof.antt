@@ -4,7 +4,7 @@ use borrow.Author.Rules.{rules}
 use Rattle.board_writing.specs.Words.{row_words}
 use Rattle.board_writing.specs.WordsLaws.{row_words_length, row_words_more}
 use Rattle.call_rules.specs.Writing.{written_into}
-use Rattle.call_rules.specs.WritingLaws.{store_next, stored_length}
+use Rattle.call_rules.proofs.WritingLaws.{store_next, stored_length}
 use lib.ListN.{length}
 use mathlib.Core.Path.{◌≡◌, refl}
 use Prim.Native.Nat.{◌-◌, ◌≤◌}

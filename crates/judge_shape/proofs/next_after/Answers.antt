@@ -2,7 +2,7 @@
 use native.Mathlib.Omega.{arith}
 use mathlib.Core.Path.{refl, sym, ◌∙◌}
 use Rattle.judge_shape.specs.States.{at-end}
-use Rattle.net_places.specs.CountLaws.{nets_none}
+use Rattle.net_places.proofs.CountLaws.{nets_none}
 use Rattle.judge_shape.specs.Moves.{nets_skip, starts_here}
 use Rattle.judge_shape.proofs.next_after.Goals as goal
 

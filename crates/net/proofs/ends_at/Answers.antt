@@ -3,6 +3,6 @@ use Rattle.net.proofs.ends_at.Goals as goal
 
 pub returns : goal.returns
 returns c = record {
-      value = cc;
-      upper_bound = omega arith;
-    }
+  value = cc;
+  upper_bound = omega arith;
+}

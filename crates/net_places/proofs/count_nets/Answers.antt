@@ -4,7 +4,7 @@ use mathlib.Core.Path.{◌≡◌, ap}
 use Prim.Native.Nat.{suc}
 use lib.ListN.{length, drop}
 use Rattle.net_places.specs.Places.{nets_from}
-use Rattle.net_places.specs.CountLaws.{nets_none, length_more, length_first}
+use Rattle.net_places.proofs.CountLaws.{nets_none, length_more, length_first}
 use Rattle.net_places.proofs.count_nets.Goals as goal
 
 pub loop-i-init : goal.loop-i-init

@@ -1,7 +1,7 @@
 -- `index_of` gives the index of a number.
 use native.Mathlib.Omega.{arith}
 use mathlib.Core.Path.{◌≡◌, refl, ◌∙◌}
-use Rattle.net_places.specs.NumberedLaws.{index-of}
+use Rattle.net_places.proofs.NumberedLaws.{index-of}
 use Rattle.net_places.proofs.index_of.Goals as goal
 
 pub returns-then-number-gt0 : goal.returns-then-number-gt0

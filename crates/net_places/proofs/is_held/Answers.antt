@@ -1,5 +1,5 @@
 -- `is_held` tells whether a net of the number is held.
-use Rattle.net_places.specs.NetsLaws.{holds_of}
+use Rattle.net_places.proofs.NetsLaws.{holds_of}
 use Rattle.net_places.proofs.is_held.Goals as goal
 
 pub returns-in-Nothing : goal.returns-in-Nothing

@@ -1,5 +1,5 @@
 -- `is_recorded` tells whether this very net is held.
-use Rattle.net_places.specs.NetsLaws.{recorded_of}
+use Rattle.net_places.proofs.NetsLaws.{recorded_of}
 use Rattle.net_places.proofs.is_recorded.Goals as goal
 
 pub returns-in-Nothing : goal.returns-in-Nothing

@@ -1,7 +1,7 @@
 -- `place_of` gives the place of a number, an empty one where there is none.
 use native.Mathlib.Omega.{arith}
 use Rattle.net.specs.View.{nothing}
-use Rattle.net_places.specs.NumberedLaws.{entry_in, entry-out}
+use Rattle.net_places.proofs.NumberedLaws.{entry_in, entry-out}
 use borrow.Author.Rules.{rules}
 use Rattle.net_places.proofs.place_of.Goals as goal
 

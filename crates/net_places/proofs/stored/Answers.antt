@@ -1,6 +1,6 @@
 -- `stored` replaces the place of a number, and nothing where there is none.
 use native.Mathlib.Omega.{arith}
-use Rattle.net_places.specs.NumberedLaws.{replaced-in, replaced-out}
+use Rattle.net_places.proofs.NumberedLaws.{replaced-in, replaced-out}
 use borrow.Author.Rules.{rules}
 use Rattle.net_places.proofs.stored.Goals as goal
 

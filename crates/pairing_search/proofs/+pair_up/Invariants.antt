@@ -8,7 +8,7 @@ use Rattle.board.specs.Board.{Board}
 use Rattle.net.specs.declared.Pair.{Pair}
 use Rattle.pairing.specs.Search.{first_of, pair_up}
 use Rattle.pairing_search.specs.View.{Left, pairs_found, found_of}
-use Rattle.pairing.specs.Laws.{attempt}
+use Rattle.pairing.proofs.Laws.{attempt}
 use Rattle.pairing_search.specs.Arrays.{loop_start, loop-none, loop-some, loop_end, pair_at, attempts}
 use Rattle.pairing_search.specs.Turn.{found_some, found_none, turn-full, turn-found}
 use Rattle.board.specs.declared.Vertex.{Vertex}

@@ -1,6 +1,6 @@
 -- `route_few` names the first overfull cut, or leaves the rest to `route_open`.
 use mathlib.Core.Path.{sym, ◌∙◌}
-use Rattle.net_places.specs.NetsLaws.{pairs-of}
+use Rattle.net_places.proofs.NetsLaws.{pairs-of}
 use Rattle.session.specs.View.{session_of}
 use Rattle.route_call.specs.AnswerLaws.{overfull-at, none_overfull, route-overfull}
 use borrow.Author.Rules.{rules}

@@ -1,6 +1,6 @@
 -- `route_odd` names the first odd vertex where they are too many.
 use mathlib.Core.Path.{sym, ◌∙◌}
-use Rattle.net_places.specs.NetsLaws.{pairs-of}
+use Rattle.net_places.proofs.NetsLaws.{pairs-of}
 use Rattle.session.specs.View.{session_of}
 use Rattle.route_call.specs.AnswerLaws.{collects-of, route-odd}
 use Rattle.pairing_search.specs.Collect.{collected}

@@ -1,9 +1,9 @@
 -- `route_open` hands back a routing where helper pairs are found, and tells that there is none where none are.
 use native.Mathlib.Omega.{arith}
 use Rattle.board.specs.ViewLaws.{height_of}
-use Rattle.net_places.specs.NetsLaws.{pairs-of}
+use Rattle.net_places.proofs.NetsLaws.{pairs-of}
 use Rattle.session.specs.View.{session_of}
-use Rattle.session_laws.specs.Exact.{sound_exact}
+use Rattle.session_laws.proofs.Exact.{sound_exact}
 use Rattle.route_call.specs.AnswerLaws.{few-of, roomy_of, helps-of, found-helped, found-none-exists, route-given, route-none}
 use borrow.Author.Rules.{rules}
 use Rattle.route_call.proofs.route_open.Statement.{statement}

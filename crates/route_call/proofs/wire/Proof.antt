@@ -1,7 +1,7 @@
 -- `wire` starts from the table of the nets' pairs and then the helper pairs.
-use Rattle.net_places.specs.NetsLaws.{pairs-of}
+use Rattle.net_places.proofs.NetsLaws.{pairs-of}
 use Rattle.session.specs.View.{session_of}
-use Rattle.session_laws.specs.Exact.{sound_exact}
+use Rattle.session_laws.proofs.Exact.{sound_exact}
 use native.Mathlib.Omega.{arith}
 use lib.ListN.{take}
 use Rattle.router_start.specs.TableLaws.{puts_fill}

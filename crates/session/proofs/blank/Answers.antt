@@ -1,7 +1,7 @@
 -- `blank` gives the blank session.
 use mathlib.Core.Path.{ap, ◌∙◌}
 use Rattle.session.specs.Value.{fresh_of}
-use Rattle.session.specs.Starts.{blank_promise}
+use Rattle.session.proofs.Starts.{blank_promise}
 use Rattle.session.proofs.blank.Goals as goal
 
 pub returns : goal.returns

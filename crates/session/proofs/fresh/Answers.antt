@@ -1,7 +1,7 @@
 -- `fresh` gives the session with no nets, an empty pile and nothing kept.
 use mathlib.Core.Path.{refl}
 use Rattle.session.specs.Value.{fresh_of}
-use Rattle.session.specs.Starts.{fresh_promise}
+use Rattle.session.proofs.Starts.{fresh_promise}
 use Rattle.session.proofs.fresh.Goals as goal
 
 pub returns : goal.returns

@@ -2,7 +2,7 @@
 use native.Mathlib.Omega.{arith}
 use mathlib.Core.Path.{◌≡◌, ◌∙◌}
 use lib.ListN.{length}
-use Rattle.session_names.specs.NamesLaws.{layout_in, layout_out}
+use Rattle.session_names.proofs.NamesLaws.{layout_in, layout_out}
 use borrow.Author.Rules.{rules}
 use Rattle.session_names.proofs.layout_of.Goals as goal
 

@@ -2,7 +2,7 @@
 use mathlib.Core.Path.{refl, ◌∙◌}
 use borrow.Author.Tests.{lt-ltb, le-ltb}
 use Rattle.board.specs.View.{board_of}
-use Rattle.board_block.specs.ViewLaws.{left_pins}
+use Rattle.board_block.proofs.ViewLaws.{left_pins}
 use Rattle.session_sound.specs.Room.{room_at}
 use Rattle.session_sound.proofs.has_pins.Goals as goal
 

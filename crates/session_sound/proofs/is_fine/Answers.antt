@@ -2,7 +2,7 @@
 use mathlib.Core.Path.{◌≡◌, refl, ◌∙◌}
 use mathlib.Core.Bool.{true, false}
 use borrow.Author.Tests.{not-true, not-false}
-use Rattle.net_places.specs.NetsLaws.{rising_of}
+use Rattle.net_places.proofs.NetsLaws.{rising_of}
 use Rattle.session_sound.specs.RoomLaws.{room_addable}
 use Rattle.session_sound.proofs.is_fine.Goals as goal
 

@@ -15,9 +15,9 @@ bounds-out-count c = search rules
 -- src/lib.rt:49:13
 pub returns-then-count-out : goal.returns-then-count-out
 returns-then-count-out c = record {
-      count_in_bounds = simp length-set (omega arith);
-      out_len_unchanged = simp length-set;
-    }
+  count_in_bounds = simp length-set (omega arith);
+  out_len_unchanged = simp length-set;
+}
 
 -- src/lib.rt:41:1
 pub returns-else-count-out : goal.returns-else-count-out

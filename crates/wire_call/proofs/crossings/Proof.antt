@@ -2,7 +2,7 @@
 use native.Mathlib.Omega.{arith}
 use Rattle.board.specs.View.{board_of}
 use Rattle.net.specs.View.{pairs_of}
-use Rattle.routing_laws.specs.CrossingSum.{crossing-sum}
+use Rattle.routing_laws.proofs.CrossingSum.{crossing-sum}
 use borrow.Author.Rules.{rules}
 use Rattle.wire_call.proofs.crossings.Statement.{statement}
 use Rattle.wire_call.proofs.crossings.Tie as tie

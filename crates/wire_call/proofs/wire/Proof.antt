@@ -1,7 +1,7 @@
 -- `wire` answers as the definition lays down.
 use mathlib.Core.Path.{sym, ◌∙◌}
 use borrow.Author.Tests.{not-true, not-false}
-use Rattle.net_places.specs.NetsLaws.{pairs-of}
+use Rattle.net_places.proofs.NetsLaws.{pairs-of}
 use Rattle.session.specs.View.{session_of}
 use Rattle.wire_call.specs.Laws.{wire-told, wire_unsound}
 use borrow.Author.Rules.{rules}

@@ -1,7 +1,7 @@
 -- One word, the nets and the edges, of which there are at most 1,984.
 use native.Mathlib.Omega.{arith}
 use Rattle.board.specs.View.{board_of}
-use Rattle.board_edges.specs.Framed.{edges_most}
+use Rattle.board_edges.proofs.Framed.{edges_most}
 use borrow.Author.Rules.{rules}
 use Rattle.wire_call.proofs.word_limit.Statement.{statement}
 use Rattle.wire_call.proofs.word_limit.Tie as tie

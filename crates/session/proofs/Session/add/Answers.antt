@@ -2,7 +2,7 @@
 use mathlib.Core.Path.{refl, sym, ◌∙◌}
 use borrow.Author.Tests.{not-true, not-false}
 use Rattle.session.specs.Value.{add_of}
-use Rattle.session.specs.Kept.{add_promise}
+use Rattle.session.proofs.Kept.{add_promise}
 use Rattle.session.proofs.Session.add.Goals as goal
 
 pub returns-then-not-is_sound : goal.returns-then-not-is_sound

@@ -2,11 +2,11 @@
 use mathlib.Core.Path.{◌∙◌}
 use Rattle.count.specs.TruthLaws.{decides}
 use Rattle.session_rules.specs.Sound.{sound?}
-use Rattle.session_laws.specs.Exact.{sound_exact}
+use Rattle.session_laws.proofs.Exact.{sound_exact}
 use Rattle.board_block.specs.View.{block_of}
 use Rattle.session_sound.specs.RoomLaws.{room_addable}
 use Rattle.session.specs.View.{session_of}
-use Rattle.session.specs.Tested.{tested}
+use Rattle.session.proofs.Tested.{tested}
 use Rattle.session.proofs.Session.is_sound.Goals as goal
 
 pub returns : goal.returns

@@ -2,7 +2,7 @@
 use mathlib.Core.Path.{refl, sym, ◌∙◌}
 use borrow.Author.Tests.{not-true, not-false}
 use Rattle.session.specs.Value.{keep_of}
-use Rattle.session.specs.Names.{keep_promise}
+use Rattle.session.proofs.Names.{keep_promise}
 use Rattle.session.proofs.Session.keep.Goals as goal
 
 pub returns-then-not-is_sound : goal.returns-then-not-is_sound

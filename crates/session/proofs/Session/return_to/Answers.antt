@@ -2,7 +2,7 @@
 use mathlib.Core.Path.{refl, sym, ◌∙◌}
 use borrow.Author.Tests.{not-true, not-false}
 use Rattle.session.specs.Value.{return_of}
-use Rattle.session.specs.Names.{return_promise}
+use Rattle.session.proofs.Names.{return_promise}
 use Rattle.session.proofs.Session.return_to.Goals as goal
 
 pub returns-then-not-is_sound : goal.returns-then-not-is_sound

@@ -2,7 +2,7 @@
 use mathlib.Core.Path.{refl, sym, ◌∙◌}
 use borrow.Author.Tests.{not-true, not-false}
 use Rattle.session.specs.Value.{take_back_of}
-use Rattle.session.specs.Kept.{take_back_promise}
+use Rattle.session.proofs.Kept.{take_back_promise}
 use Rattle.session.proofs.Session.take_back.Goals as goal
 
 pub returns-then-not-is_sound : goal.returns-then-not-is_sound

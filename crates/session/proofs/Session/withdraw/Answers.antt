@@ -2,7 +2,7 @@
 use mathlib.Core.Path.{refl, sym, ◌∙◌}
 use borrow.Author.Tests.{not-true, not-false}
 use Rattle.session.specs.Value.{withdraw_of}
-use Rattle.session.specs.Kept.{withdraw_promise}
+use Rattle.session.proofs.Kept.{withdraw_promise}
 use Rattle.session.proofs.Session.withdraw.Goals as goal
 
 pub returns-then-not-is_sound : goal.returns-then-not-is_sound

@@ -4,7 +4,7 @@ use mathlib.Core.Path.{ap, ◌∙◌}
 use Rattle.session_pile.specs.Pile.{no_slot}
 use Rattle.session_pile.specs.declared.Slot.{Slot}
 use Rattle.session_pile.specs.Shift.{length_unmapped_by}
-use Rattle.net_places.specs.NumberedLaws.{entry_in, entry-out}
+use Rattle.net_places.proofs.NumberedLaws.{entry_in, entry-out}
 use borrow.Author.Rules.{rules}
 use Rattle.session_pile.proofs.Pile.top.Goals as goal
 

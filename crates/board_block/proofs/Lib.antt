@@ -1,0 +1,4 @@
+pub mod Pins
+pub mod TakenLaws
+pub mod There
+pub mod ViewLaws

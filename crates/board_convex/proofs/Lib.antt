@@ -1,0 +1,14 @@
+pub mod Corners
+pub mod Enough
+pub mod Exact
+pub mod Examples
+pub mod Lemma1
+pub mod Limits
+pub mod Lines
+pub mod Needed
+pub mod OneBend
+pub mod PeelLaws
+pub mod Places
+pub mod Runs
+pub mod Turns
+pub mod Value

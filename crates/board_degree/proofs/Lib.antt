@@ -1,0 +1,3 @@
+pub mod Convex
+pub mod Examples
+pub mod KindLaws

@@ -1,0 +1,3 @@
+pub mod ByRows
+pub mod Framed
+pub mod Spans

@@ -1,0 +1,5 @@
+pub mod AtVertex
+pub mod Frame
+pub mod Law
+pub mod LinePins
+pub mod Widest

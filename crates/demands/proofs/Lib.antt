@@ -1,0 +1,5 @@
+pub mod Drawing
+pub mod Judging
+pub mod Laws
+pub mod Routing
+pub mod Wire

@@ -1,0 +1,15 @@
+pub mod Accept
+pub mod Addable
+pub mod BoardStays
+pub mod Exact
+pub mod Few
+pub mod Fine
+pub mod InOrder
+pub mod Insert
+pub mod Moves
+pub mod Names
+pub mod NewRule
+pub mod OneByOne
+pub mod Rising
+pub mod Stays
+pub mod Untaken

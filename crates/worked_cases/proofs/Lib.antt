@@ -1,0 +1,10 @@
+pub mod Books
+pub mod Judging
+pub mod Moves
+pub mod Names
+pub mod Pages
+pub mod Reading
+pub mod Sessions
+pub mod Table
+pub mod Taken
+pub mod Wire
