@@ -1,4 +1,4 @@
-// The layout editor's calls, for programs in C. editor/cidrask.h tells a caller how to use them.
+// The layout editor's calls. Crate cidrask_c exports them to programs in C; editor/cidrask.h tells a caller how to use them.
 #![tactic(auto)]
 
 ghost use Rattle.std.specs.Prelude.{◌≡◌};
@@ -90,13 +90,7 @@ fn drawn(board: &[u8], list: &[u8], page: &mut [u8]) -> Told
 
 // Reads a board and routes its nets into the buffer. Answers 0 or the refusal's number; the other two numbers are the count of words and 0,
 // or the place.
-#[unsafe(no_mangle)]
-pub extern "C" fn cidrask_route(
-    board: &[u8],
-    buffer: &mut [u8],
-    first: &mut u64,
-    second: &mut u64,
-) -> u32
+pub fn cidrask_route(board: &[u8], buffer: &mut [u8], first: &mut u64, second: &mut u64) -> u32
     ensures { RoutePromise board.now buffer.old result first.new second.new buffer.new }
 {
     let answer = routed(board, buffer);
@@ -107,8 +101,7 @@ pub extern "C" fn cidrask_route(
 
 // Reads a board and tells the wire that its nets take. Answers 0 or the refusal's number; the other two numbers are the sum of crossing nets over all
 // rows and columns and the board's edge count, or the place.
-#[unsafe(no_mangle)]
-pub extern "C" fn cidrask_wire(board: &[u8], first: &mut u64, second: &mut u64) -> u32
+pub fn cidrask_wire(board: &[u8], first: &mut u64, second: &mut u64) -> u32
     ensures { WirePromise board.now result first.new second.new }
 {
     let figures = wired(board);
@@ -119,8 +112,7 @@ pub extern "C" fn cidrask_wire(board: &[u8], first: &mut u64, second: &mut u64) 
 
 // Reads a board and judges a list of routing words against it. Answers 0 or the refusal's number; the other three numbers are the report's, or
 // the place.
-#[unsafe(no_mangle)]
-pub extern "C" fn cidrask_judge(
+pub fn cidrask_judge(
     board: &[u8],
     list: &[u8],
     first: &mut u64,
@@ -138,14 +130,7 @@ pub extern "C" fn cidrask_judge(
 
 // Reads a board and tells whether two lists of routing words are alike. Answers 0 or the refusal's number; the other two numbers are 1 for alike or
 // 0, and 0; or the place.
-#[unsafe(no_mangle)]
-pub extern "C" fn cidrask_alike(
-    board: &[u8],
-    one: &[u8],
-    two: &[u8],
-    first: &mut u64,
-    second: &mut u64,
-) -> u32
+pub fn cidrask_alike(board: &[u8], one: &[u8], two: &[u8], first: &mut u64, second: &mut u64) -> u32
     ensures { AlikePromise board.now one.now two.now result first.new second.new }
 {
     let told = compared(board, one, two);
@@ -156,8 +141,7 @@ pub extern "C" fn cidrask_alike(
 
 // Reads a board, judges a list of routing words against it and draws its page. Answers 0 or the refusal's number; the other number is the count of
 // bytes, or the place.
-#[unsafe(no_mangle)]
-pub extern "C" fn cidrask_draw(board: &[u8], list: &[u8], page: &mut [u8], first: &mut u64) -> u32
+pub fn cidrask_draw(board: &[u8], list: &[u8], page: &mut [u8], first: &mut u64) -> u32
     ensures { DrawPromise board.now list.now page.old result first.new page.new }
 {
     let drawing = drawn(board, list, page);

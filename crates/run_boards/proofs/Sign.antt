@@ -31,7 +31,7 @@ module _ (z : ℤ) (a b : ℕ) (h : a < 256) (k : b < 256) (e : z ≡ pos a -ℤ
   bounded = rw e (small a b h k)
 
   same : to_z w32 (of_z w32 z) ≡ z
-  same = let s = bounded in to_z-of_z (record { sfits = omega arith })
+  same = let s = bounded in to_z-of_z {w = w32} (record { sfits = omega arith })
 
   pub at-least-zero : lt_z (to_z w32 (of_z w32 z)) (pos 0) ≡ false → Unsigned (to_z w32 (of_z w32 z))
   at-least-zero t = rw same (kept z bounded (rw same at t))

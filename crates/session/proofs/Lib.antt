@@ -1,5 +1,3 @@
-pub mod Passed
-pub mod Called
 pub mod AllKept
 pub mod Kept
 pub mod Names

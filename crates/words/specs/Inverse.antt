@@ -16,10 +16,8 @@ use Rattle.board_block.specs.declared.Book.TheVariants.{Old, New}
 use Rattle.board_block.specs.declared.TakenPins.{TakenPins}
 use Rattle.net.specs.declared.Net.{Net}
 use Rattle.words.specs.Bits.{bits, kind}
-use Rattle.words.specs.BoardWord as board-word
 use Rattle.words.specs.BoardWord.{row_word, taken_word, net_word, end_word, row_in, taken_in, net_in, end_in}
 use Rattle.words.specs.BoardWord.{as_row, as_taken, as_net, as_end, board_word}
-use Rattle.words.specs.RoutingWord as routing-word
 use Rattle.words.specs.RoutingWord.{
   path_word,
   run_word,

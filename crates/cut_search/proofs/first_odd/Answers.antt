@@ -4,20 +4,15 @@ use Rattle.cut_search.specs.Reading.{lines_from, lines_all, lines_more, line_mor
 use Rattle.cut_search.specs.Beyond.{line-done, lines-done}
 use Rattle.cut_search.specs.Found.{odd_with, found_vertex}
 use Rattle.cut_search.specs.Laws.{odd_counted}
-use Rattle.net_terminals.specs.Counts.{Counts}
 use native.Mathlib.Omega.{arith}
 use Rattle.cut.specs.Odd.{odd?, odd_vertices}
 use Rattle.cut.specs.Extent.{lines_of, columns_of}
 use Rattle.net.specs.View.{pairs_of}
-use Rattle.net.specs.declared.Pair.{Pair}
 use Rattle.board.specs.View.{board_of}
 use Rattle.board.specs.Board.{at}
-use Rattle.count.specs.Lists.{rising, first, first-yes, first-no}
-use mathlib.Core.Logic.{⊎_elim}
-use mathlib.Core.List.{List, map, ◌++◌, head?}
-use mathlib.Core.Bool.{false}
+use Rattle.count.specs.Lists.{first, first-yes, first-no}
 use mathlib.Core.Path.{◌≡◌, refl, ap, sym, ◌∙◌}
-use Prim.Native.Nat.{ℕ, ◌+◌, ◌-◌, ◌*◌, ◌≤◌, ◌<◌}
+use Prim.Native.Nat.{ℕ, ◌+◌, ◌*◌, ◌<◌}
 use lib.ListN.{get_or}
 use Rattle.cut_search.proofs.first_odd.Goals as goal
 use Rattle.cut_search.proofs.first_odd.Goals.{else-lines-test, then-lines-test+then-loop-c-test+then-is_odd}
@@ -78,17 +73,17 @@ returns-then-found c = let args = c.args in
     let lines = c.lines in
     elim c.lines-test.branch [
       | else-lines-test w ↦
-        absurd (let z : ◌≡◌ {A = ℕ} 0 1 = cc (w.found-is, lines.invariant.2, c.if-found.true) in omega arith)
+          absurd (let z : ◌≡◌ {A = ℕ} 0 1 = cc (w.found-is, lines.invariant.2, c.if-found.true) in omega arith)
       | then-lines-test+then-loop-c-test+then-is_odd w ↦
-        let i : w.wide.result * 32 + w.wide-in-loop-c.result ≡ lines.l * 32 + w.loop-c.c =
-        rw (w.wide.ensures.0, w.wide-in-loop-c.ensures.0) refl in
-        let e : w.is_odd.result ≡ odd_with b (get_or a (lines.l * 32 + w.loop-c.c) 0) (at lines.l w.loop-c.c) =
-        w.is_odd.ensures ∙ ap (λ (k : ℕ). odd_with b (get_or a k 0) (at lines.l w.loop-c.c)) i in
-        let h : w.loop-c.c < 32 = omega (arith, w.loop-c.invariant.2, w.loop-c-test.true) in
-        rw (w.line-is, w.column-is)
-        (ap found_vertex (sym (first-yes (odd? b ps) (line_more lines.l w.loop-c.c (lines_from (lines.l + 1)) h)
-        (sym (odd_counted b ps a counted.ensures lines.l w.loop-c.c w.loop-c.invariant.0 h)
-        ∙ (sym e ∙ w.if-is_odd.true))) ∙ w.loop-c.invariant.4 ps counted.ensures))
+          let i : w.wide.result * 32 + w.wide-in-loop-c.result ≡ lines.l * 32 + w.loop-c.c =
+          rw (w.wide.ensures.0, w.wide-in-loop-c.ensures.0) refl in
+          let e : w.is_odd.result ≡ odd_with b (get_or a (lines.l * 32 + w.loop-c.c) 0) (at lines.l w.loop-c.c) =
+          w.is_odd.ensures ∙ ap (λ (k : ℕ). odd_with b (get_or a k 0) (at lines.l w.loop-c.c)) i in
+          let h : w.loop-c.c < 32 = omega (arith, w.loop-c.invariant.2, w.loop-c-test.true) in
+          rw (w.line-is, w.column-is)
+          (ap found_vertex (sym (first-yes (odd? b ps) (line_more lines.l w.loop-c.c (lines_from (lines.l + 1)) h)
+          (sym (odd_counted b ps a counted.ensures lines.l w.loop-c.c w.loop-c.invariant.0 h)
+          ∙ (sym e ∙ w.if-is_odd.true))) ∙ w.loop-c.invariant.4 ps counted.ensures))
     ]
 
 pub returns-else-found : goal.returns-else-found
@@ -96,8 +91,8 @@ returns-else-found c = let lines = c.lines in let args = c.args in
     let b = board_of args.b in let ps = pairs_of args.nets in
     elim c.lines-test.branch [
       | else-lines-test w ↦
-        let e : lines.l ≡ lines_of b = omega (arith, w.lines-test.false, lines.invariant.0, lines.invariant.1) in
-        ap found_vertex (sym (lines-done b ps lines.l e) ∙ lines.invariant.3 ps c.count_terminals-counts.ensures)
+          let e : lines.l ≡ lines_of b = omega (arith, w.lines-test.false, lines.invariant.0, lines.invariant.1) in
+          ap found_vertex (sym (lines-done b ps lines.l e) ∙ lines.invariant.3 ps c.count_terminals-counts.ensures)
       | then-lines-test+then-loop-c-test+then-is_odd w ↦
-        absurd (let z : ◌≡◌ {A = ℕ} 0 1 = cc (w.found-is, c.if-found.false) in omega arith)
+          absurd (let z : ◌≡◌ {A = ℕ} 0 1 = cc (w.found-is, c.if-found.false) in omega arith)
     ]

@@ -1,22 +1,15 @@
-use Rattle.cut_search.specs.Reading.{lines_from, lines_all, lines_more, line_more}
-use Rattle.cut_search.specs.Beyond.{line-done, lines-done}
-use Rattle.cut_search.specs.Found.{odd_with, found_vertex}
-use Rattle.cut_search.specs.Laws.{odd_counted}
+use Rattle.cut_search.specs.Reading.{lines_from}
 use Rattle.net_terminals.specs.Counts.{Counts}
-use native.Mathlib.Omega.{arith}
 use Rattle.cut.specs.Odd.{odd?, odd_vertices}
 use Rattle.cut.specs.Extent.{lines_of, columns_of}
-use Rattle.net.specs.View.{pairs_of}
 use Rattle.net.specs.declared.Pair.{Pair}
 use Rattle.board.specs.View.{board_of}
 use Rattle.board.specs.Board.{at}
-use Rattle.count.specs.Lists.{rising, first, first-yes, first-no}
-use mathlib.Core.Logic.{⊎_elim}
+use Rattle.count.specs.Lists.{rising, first}
 use mathlib.Core.List.{List, map, ◌++◌, head?}
 use mathlib.Core.Bool.{false}
-use mathlib.Core.Path.{◌≡◌, refl, ap, sym, ◌∙◌}
-use Prim.Native.Nat.{ℕ, ◌+◌, ◌-◌, ◌*◌, ◌≤◌, ◌<◌}
-use lib.ListN.{get_or}
+use mathlib.Core.Path.{◌≡◌}
+use Prim.Native.Nat.{◌+◌, ◌-◌, ◌≤◌, ◌<◌}
 use Rattle.cut_search.proofs.first_odd.Given as goal
 
 abbrev pub invariant-loop-c : goal.invariant-loop-c

@@ -18,9 +18,9 @@ loop-i-preserved c = (
   omega arith,
   elim c.match-move_to.branch [
     | in-Same w ↦ rw (w.next-is, w.due-is)
-      (stands_same c.loop-i.invariant.1 (omega arith) c.move_to.ensures w.in-Same.is)
+        (stands_same c.loop-i.invariant.1 (omega arith) c.move_to.ensures w.in-Same.is)
     | in-Taken w ↦ rw (w.next-is, w.due-is)
-      (stands-taken c.loop-i.invariant.1 (omega arith) c.move_to.ensures w.in-Taken.is w.next_after.ensures)
+        (stands-taken c.loop-i.invariant.1 (omega arith) c.move_to.ensures w.in-Taken.is w.next_after.ensures)
   ],
 )
 

@@ -1,20 +1,18 @@
 -- `pair_up` answers as the search does: the loop over the later vertices is `first_of` of its attempts.
 use native.Mathlib.Omega.{arith}
-use Prim.Native.Nat.{ℕ, ◌+◌, ◌-◌, ◌≤◌, ◌<◌}
+use Prim.Native.Nat.{ℕ, ◌-◌}
 use mathlib.Core.Path.{◌≡◌, refl, ap, sym, ◌∙◌}
 use mathlib.Core.Bool.{false}
 use mathlib.Core.List.{List, []}
 use lib.ListN.{length, drop}
 use Rattle.board.specs.Board.{Board}
 use Rattle.net.specs.declared.Pair.{Pair}
-use Rattle.pairing.specs.Search.{first_of, pair_up}
-use Rattle.pairing_search.specs.View.{Left, pairs_found, found_of}
-use Rattle.pairing.proofs.Laws.{attempt}
+use Rattle.pairing.specs.Search.{pair_up}
+use Rattle.pairing_search.specs.View.{pairs_found, found_of}
 use Rattle.pairing_search.specs.Arrays.{loop_start, loop-none, loop-some, loop_end, pair_at, attempts}
 use Rattle.pairing_search.specs.Turn.{found_some, found_none, turn-full, turn-found}
 use Rattle.board.specs.declared.Vertex.{Vertex}
 use mathlib.Core.Option.{some}
-use mathlib.Core.Logic.{⊎_elim}
 use borrow.Author.Rules.{rules}
 use Rattle.pairing_search.proofs.+pair_up.Goals as goal
 use Rattle.pairing_search.proofs.+pair_up.Goals.{then-slack+else-found, else-slack}
@@ -69,11 +67,11 @@ loop-j-preserved t c =
       omega arith,
       loop.invariant.1,
       λ b qs L. loop-none (attempts b vs n qs) _ j (n - 1) (omega arith) (loop.invariant.2 b qs L) (elim c.if-slack.branch [
-          | then-slack+else-found w ↦ turn-found b qs n vs j (omega arith) (omega arith) args.m args.left L slack.result slack.ensures w.if-slack.true
+        | then-slack+else-found w ↦ turn-found b qs n vs j (omega arith) (omega arith) args.m args.left L slack.result slack.ensures w.if-slack.true
             w.others.result w.others.ensures w.pair_up-found.result w.pair_up-found.ensures
             ∙ found_none w.pair_up-found.result (pair_at vs n j) w.if-found.false
-          | else-slack w ↦ turn-full b qs n vs j (omega arith) (omega arith) args.m args.left L slack.result slack.ensures w.if-slack.false
-          ]),
+        | else-slack w ↦ turn-full b qs n vs j (omega arith) (omega arith) args.m args.left L slack.result slack.ensures w.if-slack.false
+      ]),
     )
 
 pub returns : goal.returns

@@ -1,19 +1,12 @@
-use native.Mathlib.Omega.{arith}
-use Prim.Native.Nat.{ℕ, ◌+◌, ◌-◌, ◌≤◌, ◌<◌}
-use mathlib.Core.Path.{◌≡◌, refl, ap, sym, ◌∙◌}
-use mathlib.Core.Bool.{false}
-use mathlib.Core.List.{List, []}
+use Prim.Native.Nat.{◌+◌, ◌-◌, ◌≤◌}
+use mathlib.Core.Path.{◌≡◌}
+use mathlib.Core.List.{List}
 use lib.ListN.{length, drop}
 use Rattle.board.specs.Board.{Board}
 use Rattle.net.specs.declared.Pair.{Pair}
 use Rattle.pairing.specs.Search.{first_of, pair_up}
-use Rattle.pairing_search.specs.View.{Left, pairs_found, found_of}
+use Rattle.pairing_search.specs.View.{Left}
 use Rattle.pairing.proofs.Laws.{attempt}
-use Rattle.pairing_search.specs.Arrays.{loop_start, loop-none, loop-some, loop_end, pair_at, attempts}
-use Rattle.pairing_search.specs.Turn.{found_some, found_none, turn-full, turn-found}
-use Rattle.board.specs.declared.Vertex.{Vertex}
-use mathlib.Core.Option.{some}
-use mathlib.Core.Logic.{⊎_elim}
 use Rattle.pairing_search.proofs.+pair_up.Given as goal
 
 abbrev pub decreases-pair_up : goal.decreases-pair_up

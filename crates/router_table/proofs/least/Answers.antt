@@ -16,8 +16,8 @@ loop-i-preserved c = (
   least_next _ _ _ _ _ _ _ _ c.depth-d.result _ _
       (rw (← c.long.ensures.0, ← c.long-in-loop-i.ensures.0) c.depth-d.ensures)
       (elim c.if-d-line.branch [
-      | then-d-line w ↦ inl (w.if-d-line.true, w.best-is, w.line-is)
-      | else-d-line w ↦ inr (w.if-d-line.false, w.best-is, w.line-is)
+        | then-d-line w ↦ inl (w.if-d-line.true, w.best-is, w.line-is)
+        | else-d-line w ↦ inr (w.if-d-line.false, w.best-is, w.line-is)
       ])
       c.loop-i.invariant.1,
 )

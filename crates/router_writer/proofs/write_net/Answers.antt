@@ -21,7 +21,7 @@ pub write_path-requires : goal.write_path-requires
 write_path-requires c =
     let least = c.least-n in
     let assemble = c.assemble-end in
-    omega (arith, least.ensures, length-take least.result assemble.new.vert.1.1.1.1.1.1.1.1.0)
+    omega (arith, least.ensures, length-take least.result assemble.new.out)
 
 pub returns : goal.returns
 returns c =

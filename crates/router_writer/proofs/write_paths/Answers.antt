@@ -28,14 +28,14 @@ loop-i-preserved c =
     let args = c.args in
     let a = args in
     let at = loop in
-    let w = write-place in
+    let w = c.write_place-end in
     let there : at.i < length a.nets = omega (arith, at.invariant.1, loop-test.true) in (
       search rules,
       at.invariant.1,
       rw c.held_count-k.ensures.0
           (through-next (path_d a.side.now a.vert.now a.half.now a.s1.now a.s2.now a.d1.now a.d2.now pair_limit) a.nets
-          a.out.now at.out w.new.vert.1.1.1.1.1.1.1.1.1.0 at.at at.k at.i least.result w.result there at.invariant.2
-          (omega (arith, least.ensures)) (λ h. omega (arith, least.ensures)) w.ensures.upper_bound w.auto.vert.1.1.1.1.1.1.1.1.1.0
+          a.out.now at.out w.new.out at.at at.k at.i least.result w.result there at.invariant.2
+          (omega (arith, least.ensures)) (λ h. omega (arith, least.ensures)) w.ensures.upper_bound w.auto.out
           (rw number_at.ensures at w.ensures.written)),
     )
 

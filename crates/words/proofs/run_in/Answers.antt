@@ -4,6 +4,6 @@ use Rattle.words.proofs.run_in.Goals as goal
 
 pub returns : goal.returns
 returns c = record {
-      value = cc;
-      length_bound = omega arith;
-    }
+  value = cc;
+  length_bound = omega arith;
+}

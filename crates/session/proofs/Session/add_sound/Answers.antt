@@ -9,7 +9,7 @@ unfolding add_sound
 returns-then-not-is_accepted c = rw (
   ← c.check-answer.ensures,
   ← c.is_accepted.ensures,
-  not-true c.is_accepted.result c.if-not-is_accepted.true,
+  c.if-not-is_accepted.true,
 ) refl
 
 pub returns : goal.returns
@@ -18,7 +18,7 @@ returns c =
     rw (
       ← c.check-answer.ensures,
       ← c.is_accepted.ensures,
-      not-false c.is_accepted.result c.if-not-is_accepted.false,
+      c.if-not-is_accepted.false,
       c.changed.ensures,
       c.stored-next.ensures,
       c.holding.ensures,

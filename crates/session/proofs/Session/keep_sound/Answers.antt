@@ -8,10 +8,10 @@ pub returns-then-not-is_name : goal.returns-then-not-is_name
 unfolding keep_sound
 returns-then-not-is_name c =
     let name = c.is_name in
-    rw (sym name.ensures ∙ not-true name.result c.if-not-is_name.true) refl
+    rw (sym name.ensures ∙ c.if-not-is_name.true) refl
 
 pub returns : goal.returns
 unfolding keep_sound
 returns c =
     let name = c.is_name in
-    rw (sym name.ensures ∙ not-false name.result c.if-not-is_name.false, c.with_names.ensures, c.stored-next.ensures) refl
+    rw (sym name.ensures ∙ c.if-not-is_name.false, c.with_names.ensures, c.stored-next.ensures) refl

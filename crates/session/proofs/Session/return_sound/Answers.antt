@@ -13,7 +13,7 @@ pub returns-then-not-is_name : goal.returns-then-not-is_name
 unfolding return_sound
 returns-then-not-is_name c =
     let name = c.is_name in
-    rw (sym name.ensures ∙ not-true name.result c.if-not-is_name.true) refl
+    rw (sym name.ensures ∙ c.if-not-is_name.true) refl
 
 pub returns-then-not-there : goal.returns-then-not-there
 unfolding return_sound
@@ -21,7 +21,7 @@ returns-then-not-there c =
     let there = c.layout_of-there in
     let name = c.is_name in
     let none : there.result.kept ≡ false = not-true there.result.kept c.if-not-there.true in
-    rw (sym name.ensures ∙ not-false name.result c.if-not-is_name.false, ← there.ensures, none) refl
+    rw (sym name.ensures ∙ c.if-not-is_name.false, ← there.ensures, none) refl
 
 pub returns : goal.returns
 unfolding return_sound
@@ -32,5 +32,5 @@ returns c =
     let s = c.args.self in
     let emptied : with_places s there.result.nets _ ≡ with_places s there.result.nets empty_pile
     = ap (λ (p : Pile). with_places s there.result.nets p) c.empty-pile.ensures in
-    rw (sym name.ensures ∙ not-false name.result c.if-not-is_name.false, ← there.ensures, some)
+    rw (sym name.ensures ∙ c.if-not-is_name.false, ← there.ensures, some)
     (ap (λ (t : Session). record { answer = Accepted; session = t }) (c.with_places.ensures ∙ emptied))

@@ -10,7 +10,7 @@ unfolding return_of
 returns-then-not-is_sound c =
     let sound = c.is_sound in
     let args = c.args in
-    return_promise args.self args.name _ (rw (sym sound.ensures.0.same ∙ not-true sound.result c.if-not-is_sound.true) refl)
+    return_promise args.self args.name _ (rw (sym sound.ensures.0.same ∙ c.if-not-is_sound.true) refl)
 
 pub returns : goal.returns
 unfolding return_of
@@ -18,4 +18,4 @@ returns c =
     let sound = c.is_sound in
     let args = c.args in
     return_promise args.self args.name _
-    (rw (sym sound.ensures.0.same ∙ not-false sound.result c.if-not-is_sound.false) c.return_sound.ensures)
+    (rw (sym sound.ensures.0.same ∙ c.if-not-is_sound.false) c.return_sound.ensures)

@@ -10,12 +10,12 @@ unfolding take_back_of
 returns-then-not-is_sound c =
     take_back_promise c.args.self _
     c.is_sound.ensures.1
-    (rw (sym c.is_sound.ensures.0.same ∙ not-true c.is_sound.result c.if-not-is_sound.true) refl)
+    (rw (sym c.is_sound.ensures.0.same ∙ c.if-not-is_sound.true) refl)
 
 pub returns : goal.returns
 unfolding take_back_of
 returns c =
     take_back_promise c.args.self _
     c.is_sound.ensures.1
-    (rw (sym c.is_sound.ensures.0.same ∙ not-false c.is_sound.result c.if-not-is_sound.false)
+    (rw (sym c.is_sound.ensures.0.same ∙ c.if-not-is_sound.false)
     c.take_back_sound.ensures)

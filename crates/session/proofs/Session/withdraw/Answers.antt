@@ -10,12 +10,12 @@ unfolding withdraw_of
 returns-then-not-is_sound c =
     withdraw_promise c.args.self c.args.number _
     c.is_sound.ensures.1
-    (rw (sym c.is_sound.ensures.0.same ∙ not-true c.is_sound.result c.if-not-is_sound.true) refl)
+    (rw (sym c.is_sound.ensures.0.same ∙ c.if-not-is_sound.true) refl)
 
 pub returns : goal.returns
 unfolding withdraw_of
 returns c =
     withdraw_promise c.args.self c.args.number _
     c.is_sound.ensures.1
-    (rw (sym c.is_sound.ensures.0.same ∙ not-false c.is_sound.result c.if-not-is_sound.false)
+    (rw (sym c.is_sound.ensures.0.same ∙ c.if-not-is_sound.false)
     c.withdraw_sound.ensures)
