@@ -6,7 +6,6 @@ use Rattle.std.proofs.Common.{inl, inr, arith, ltb-false}
 use Rattle.std.proofs.Math.Option.{none, some}
 use Rattle.count.specs.TruthLaws.{bool, clash, or_right}
 use Rattle.net.specs.declared.Net.{Net}
-use Rattle.session_rules.specs.Refusal as machine
 use Rattle.session_rules.specs.Refusal.{refusal}
 use Rattle.call_rules.specs.Shape.{between, bad_count, words_refused}
 use Rattle.judge_shape.specs.States.{shape_refused}

@@ -3,7 +3,6 @@
 use Rattle.std.specs.Prelude.{◌≡◌, refl, List, [], ◌∷◌, ◌++◌, map, ℕ, ◌+◌, ◌≤◌, get_or, set, take, drop, length}
 use Rattle.std.proofs.Common.{ap, sym, ◌∙◌, append_assoc, append-nil, arith, add-one, length-append, length-drop, length-set, take-append-drop, drop_of_length-le, take_all, length-take-le}
 use Rattle.std.proofs.lemmas.List.{length-map}
-use Rattle.board.specs.Path.{number}
 use Rattle.net.specs.declared.Net.{Net}
 use Rattle.words.specs.RoutingWord.{direction, run, runs_of, run_word, path_word, path_words}
 use Rattle.words.specs.RunLaws.{runs_few}

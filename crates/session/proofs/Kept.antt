@@ -22,7 +22,7 @@ use Rattle.session_add.specs.Lines.{check_of}
 use Rattle.session_answers.specs.Answers.{withdraw_answer, take_back_answer}
 use Rattle.session.specs.View.{session_of, Sized}
 use Rattle.session.specs.Value.{add_sound, withdraw_held, withdraw_sound, take_back_sound, add_of, withdraw_of, take_back_of}
-use Rattle.session.specs.Promise.{CallPromise, AddPromise, WithdrawPromise, TakeBackPromise}
+use Rattle.session.specs.Promise.{AddPromise, WithdrawPromise, TakeBackPromise}
 use Rattle.session.proofs.Steps.{add-answer, add_next, withdraw-answer, withdraw_next, take-back-answer, take_back_next}
 
 -- ── add ──

@@ -9,7 +9,6 @@ use Rattle.board_block.proofs.ViewLaws.{none-taken}
 use Rattle.board_block.specs.declared.Block as code
 use Rattle.board_convex.specs.Test.{is_convex, in_limits, rows_fit, peels, contains?}
 use Rattle.board_convex.proofs.Exact.{is-convex}
-use Rattle.session_rules.specs.Session as machine
 use Rattle.session_rules.specs.Sound.{Fresh, bare, blank}
 use Rattle.session_laws.proofs.Stays.{fresh_bare}
 use Rattle.net_places.proofs.NetsLaws.{no-nets}

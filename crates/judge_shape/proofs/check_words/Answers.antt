@@ -1,8 +1,6 @@
 -- `check_words` refuses as the definition does. The invariant: the words from the first on are refused as those from index i on are.
 use native.Mathlib.Omega.{arith}
-use mathlib.Core.Logic.{⊎_elim}
-use Prim.Native.Nat.{◌-◌, ◌≤◌}
-use Rattle.judge_shape.specs.Moves.{Stands, stands_first, stands-wrong, stands_same, stands-taken, stands_end}
+use Rattle.judge_shape.specs.Moves.{stands_first, stands-wrong, stands_same, stands-taken, stands_end}
 use Rattle.judge_shape.proofs.check_words.Goals as goal
 use Rattle.judge_shape.proofs.check_words.Goals.{in-Same, in-Taken}
 
@@ -20,7 +18,7 @@ loop-i-preserved c = (
     | in-Same w ↦ rw (w.next-is, w.due-is)
         (stands_same c.loop-i.invariant.1 (omega arith) c.move_to.ensures w.in-Same.is)
     | in-Taken w ↦ rw (w.next-is, w.due-is)
-        (stands-taken c.loop-i.invariant.1 (omega arith) c.move_to.ensures w.in-Taken.is w.next_after.ensures)
+        (stands-taken c.loop-i.invariant.1 (omega arith) c.move_to.ensures w.in-Taken.is w.next_after-next-in-Taken.ensures)
   ],
 )
 

@@ -1,7 +1,5 @@
-use native.Mathlib.Omega.{arith}
-use mathlib.Core.Logic.{⊎_elim}
 use Prim.Native.Nat.{◌-◌, ◌≤◌}
-use Rattle.judge_shape.specs.Moves.{Stands, stands_first, stands-wrong, stands_same, stands-taken, stands_end}
+use Rattle.judge_shape.specs.Moves.{Stands}
 use Rattle.judge_shape.proofs.check_words.Given as goal
 
 abbrev pub invariant-loop-i : goal.invariant-loop-i

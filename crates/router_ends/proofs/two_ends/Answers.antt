@@ -18,18 +18,17 @@ returns-then-j-n c =
     }
 
 pub split-requires : goal.split-requires
-split-requires c =
-    (
-      picked_row c.swaps-swapped.result c.pick-right.result c.first_at-j.result c.args.i pair_limit c.pick-right.ensures
-          (omega (arith, c.first_at-j.ensures.most, c.if-j-n.false)) (omega arith),
-      picked_row c.swaps-swapped.result c.pick-down.result c.args.i c.first_at-j.result pair_limit
-          c.pick-down.ensures
-          (omega arith) (omega (arith, c.first_at-j.ensures.most, c.if-j-n.false)),
-      omega (arith, c.word-from.ensures),
-      search rules,
-      omega (arith, c.requires.4 c.pick-right.result),
-      omega (arith, c.requires.4 c.pick-down.result),
-    )
+split-requires c = (
+  picked_row c.swaps-swapped.result c.pick-right.result c.first_at-j.result c.args.i pair_limit c.pick-right.ensures
+      (omega (arith, c.first_at-j.ensures.most, c.if-j-n.false)) (omega arith),
+  picked_row c.swaps-swapped.result c.pick-down.result c.args.i c.first_at-j.result pair_limit
+      c.pick-down.ensures
+      (omega arith) (omega (arith, c.first_at-j.ensures.most, c.if-j-n.false)),
+  omega (arith, c.word-from.ensures),
+  search rules,
+  omega (arith, c.requires.4 c.pick-right.result),
+  omega (arith, c.requires.4 c.pick-down.result),
+)
 
 pub returns : goal.returns
 returns c =

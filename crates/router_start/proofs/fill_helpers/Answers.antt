@@ -1,9 +1,6 @@
 -- After i turns the first i helper pairs stand in the rows from row k on.
 use native.Mathlib.Omega.{arith}
-use Prim.Native.Nat.{◌+◌, ◌-◌, ◌≤◌}
 use mathlib.Core.Path.{◌≡◌, refl}
-use lib.ListN.{length, take}
-use Rattle.router_start.specs.Table.{PutsOn}
 use Rattle.router_start.specs.TableLaws.{puts_none, puts-more}
 use borrow.Author.Rules.{rules}
 use Rattle.router_start.proofs.fill_helpers.Goals as goal

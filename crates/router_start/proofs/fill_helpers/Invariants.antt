@@ -1,9 +1,7 @@
-use native.Mathlib.Omega.{arith}
 use Prim.Native.Nat.{◌+◌, ◌-◌, ◌≤◌}
-use mathlib.Core.Path.{◌≡◌, refl}
+use mathlib.Core.Path.{◌≡◌}
 use lib.ListN.{length, take}
 use Rattle.router_start.specs.Table.{PutsOn}
-use Rattle.router_start.specs.TableLaws.{puts_none, puts-more}
 use Rattle.router_start.proofs.fill_helpers.Given as goal
 
 abbrev pub invariant-loop-i : goal.invariant-loop-i

@@ -1,10 +1,7 @@
 -- After l passes the arrays hold the first l lines.
 use native.Mathlib.Omega.{arith}
 use mathlib.Core.Path.{◌≡◌}
-use Prim.Native.Nat.{◌+◌, ◌-◌, ◌≤◌}
-use lib.ListN.{length}
-use Rattle.board.specs.View.{board_of}
-use Rattle.router_start.specs.Lines.{Lined}
+use Prim.Native.Nat.{◌+◌}
 use Rattle.router_start.specs.LineLaws.{board_is, lined_none, lined-more}
 use Rattle.router_start.proofs.fill_lines.Goals as goal
 

@@ -1,10 +1,9 @@
-use native.Mathlib.Omega.{arith}
 use mathlib.Core.Path.{◌≡◌}
 use Prim.Native.Nat.{◌+◌, ◌-◌, ◌≤◌}
 use lib.ListN.{length}
 use Rattle.board.specs.View.{board_of}
 use Rattle.router_start.specs.Lines.{Lined}
-use Rattle.router_start.specs.LineLaws.{board_is, lined_none, lined-more}
+use Rattle.router_start.specs.LineLaws.{board_is}
 use Rattle.router_start.proofs.fill_lines.Given as goal
 
 abbrev pub invariant-loop-l : goal.invariant-loop-l

@@ -1,5 +1,4 @@
 -- `fill_row` writes row k of the table.
-use native.Mathlib.Omega.{arith}
 use mathlib.Core.Path.{ap}
 use Prim.Native.Nat.{ℕ}
 use lib.ListN.{set}

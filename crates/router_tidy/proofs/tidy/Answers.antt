@@ -45,6 +45,6 @@ loop-i-preserved c =
 
 pub returns : goal.returns
 returns c = record {
-      upper_bound = omega arith;
-      tidied = let e : c.loop-i.i ≡ c.loop-i.m = omega arith in rw e at c.loop-i.invariant.2;
-    }
+  upper_bound = omega arith;
+  tidied = let e : c.loop-i.i ≡ c.loop-i.m = omega arith in rw e at c.loop-i.invariant.2;
+}

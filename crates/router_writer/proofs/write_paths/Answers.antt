@@ -1,11 +1,11 @@
 -- `write_paths` goes through the 64 places: `Through` holds at each turn of the loop.
 use native.Mathlib.Omega.{arith}
-use mathlib.Core.Path.{◌≡◌, ◌∙◌}
-use Prim.Native.Nat.{◌-◌, ◌<◌, ◌≤◌}
+use mathlib.Core.Path.{◌∙◌}
+use Prim.Native.Nat.{◌<◌, ◌≤◌}
 use lib.ListN.{length}
 use Rattle.router_notes.specs.Limits.{pair_limit}
 use Rattle.router_trace.specs.Traces.{path_d}
-use Rattle.router_writer.specs.Through.{Through, through-none, through-next, through-all}
+use Rattle.router_writer.specs.Through.{through-none, through-next, through-all}
 use borrow.Author.Rules.{rules}
 use Rattle.router_writer.proofs.write_paths.Goals as goal
 
@@ -28,7 +28,7 @@ loop-i-preserved c =
     let args = c.args in
     let a = args in
     let at = loop in
-    let w = c.write_place-end in
+    let w = c.write_place-at in
     let there : at.i < length a.nets = omega (arith, at.invariant.1, loop-test.true) in (
       search rules,
       at.invariant.1,

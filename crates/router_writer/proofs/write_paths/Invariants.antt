@@ -1,10 +1,9 @@
-use native.Mathlib.Omega.{arith}
-use mathlib.Core.Path.{◌≡◌, ◌∙◌}
-use Prim.Native.Nat.{◌-◌, ◌<◌, ◌≤◌}
+use mathlib.Core.Path.{◌≡◌}
+use Prim.Native.Nat.{◌-◌, ◌≤◌}
 use lib.ListN.{length}
 use Rattle.router_notes.specs.Limits.{pair_limit}
 use Rattle.router_trace.specs.Traces.{path_d}
-use Rattle.router_writer.specs.Through.{Through, through-none, through-next, through-all}
+use Rattle.router_writer.specs.Through.{Through}
 use Rattle.router_writer.proofs.write_paths.Given as goal
 
 abbrev pub invariant-loop-i : goal.invariant-loop-i

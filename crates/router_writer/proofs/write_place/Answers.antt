@@ -5,10 +5,10 @@ use Rattle.router_writer.proofs.write_place.Goals as goal
 
 pub returns-in-Nothing : goal.returns-in-Nothing
 returns-in-Nothing c = record {
-      upper_bound = omega arith;
-      written = held_nothing c.args.place.held c.args.number _
+  upper_bound = omega arith;
+  written = held_nothing c.args.place.held c.args.number _
       c.args.out.now (cc);
-    }
+}
 
 pub returns-in-Ends : goal.returns-in-Ends
 returns-in-Ends c =

@@ -1,6 +1,5 @@
 -- `add` keeps its promise.
 use mathlib.Core.Path.{refl, sym, ◌∙◌}
-use borrow.Author.Tests.{not-true, not-false}
 use Rattle.session.specs.Value.{add_of}
 use Rattle.session.proofs.Kept.{add_promise}
 use Rattle.session.proofs.Session.add.Goals as goal

@@ -1,6 +1,5 @@
 -- `add_sound` hands back what add does on a sound session.
 use mathlib.Core.Path.{refl}
-use borrow.Author.Tests.{not-true, not-false}
 use Rattle.session.specs.Value.{add_sound}
 use Rattle.session.proofs.Session.add_sound.Goals as goal
 

@@ -1,6 +1,5 @@
 -- `keep` keeps its promise.
 use mathlib.Core.Path.{refl, sym, ◌∙◌}
-use borrow.Author.Tests.{not-true, not-false}
 use Rattle.session.specs.Value.{keep_of}
 use Rattle.session.proofs.Names.{keep_promise}
 use Rattle.session.proofs.Session.keep.Goals as goal

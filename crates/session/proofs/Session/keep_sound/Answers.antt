@@ -1,6 +1,5 @@
 -- `keep_sound` hands back what keep does on a sound session.
 use mathlib.Core.Path.{refl, sym, ◌∙◌}
-use borrow.Author.Tests.{not-true, not-false}
 use Rattle.session.specs.Value.{keep_sound}
 use Rattle.session.proofs.Session.keep_sound.Goals as goal
 

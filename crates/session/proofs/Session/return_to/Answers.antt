@@ -1,6 +1,5 @@
 -- `return_to` keeps its promise.
 use mathlib.Core.Path.{refl, sym, ◌∙◌}
-use borrow.Author.Tests.{not-true, not-false}
 use Rattle.session.specs.Value.{return_of}
 use Rattle.session.proofs.Names.{return_promise}
 use Rattle.session.proofs.Session.return_to.Goals as goal

@@ -1,6 +1,5 @@
 -- `take-back` keeps its promise.
 use mathlib.Core.Path.{refl, sym, ◌∙◌}
-use borrow.Author.Tests.{not-true, not-false}
 use Rattle.session.specs.Value.{take_back_of}
 use Rattle.session.proofs.Kept.{take_back_promise}
 use Rattle.session.proofs.Session.take_back.Goals as goal

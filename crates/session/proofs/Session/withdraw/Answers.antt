@@ -1,6 +1,5 @@
 -- `withdraw` keeps its promise.
 use mathlib.Core.Path.{refl, sym, ◌∙◌}
-use borrow.Author.Tests.{not-true, not-false}
 use Rattle.session.specs.Value.{withdraw_of}
 use Rattle.session.proofs.Kept.{withdraw_promise}
 use Rattle.session.proofs.Session.withdraw.Goals as goal

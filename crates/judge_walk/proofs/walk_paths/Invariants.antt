@@ -1,0 +1,13 @@
+use native.Mathlib.Omega.{arith}
+use mathlib.Core.Path.{refl}
+use Prim.Native.Nat.{◌-◌, ◌≤◌}
+use Rattle.board.specs.View.{board_of}
+use Rattle.judge_walk.specs.WalkLaws.{Paths, paths_start, paths-on, paths-refused, paths-done}
+use Rattle.judge_walk.proofs.walk_paths.Given as goal
+
+abbrev pub invariant-loop-i : goal.invariant-loop-i
+invariant-loop-i l = (l.i ≤ 64)
+    × Paths (board_of l.b) l.nets l.words l.initial.used l.i l.at l.used
+
+abbrev pub decreases-loop-i : goal.decreases-loop-i
+decreases-loop-i l = 64 - l.i
