@@ -3,7 +3,6 @@
 use Rattle.std.specs.Prelude.{◌≡◌, refl, not, List, [], ◌∷◌, ◌++◌, ℕ, suc, ◌+◌, ◌<◌, length, drop, get_or}
 use Rattle.std.proofs.Common.{ap, sym, ◌∙◌, append_assoc, add-one, drop-cons}
 use Rattle.std.proofs.Math.Seq.{drop-length}
-use Rattle.net.specs.declared.Net.{Net}
 use Rattle.session_rules.specs.Refusal.{line, first_refusal}
 use Rattle.words.specs.BoardWord.{board_word}
 use Rattle.words.specs.declared.BoardWord.{BoardWord}

@@ -8,7 +8,6 @@ use Rattle.std.proofs.Math.Option.{none, some}
 use Rattle.std.proofs.Math.Seq.{drop-length}
 use Rattle.count.specs.TruthLaws.{clash, or_false}
 use Rattle.board.specs.Board.{Board}
-use Rattle.board.specs.declared.Row.{Row}
 use Rattle.board_block.specs.Taken.{over_taken}
 use Rattle.board_block.specs.View.{none_taken, with_all}
 use Rattle.board_block.specs.declared.Book.{Book}

@@ -22,7 +22,7 @@ use Rattle.board_convex.specs.Test.{is_convex}
 use Rattle.net.specs.declared.Place.{Place}
 use Rattle.session_rules.specs.Refusal.{Refusal, refusal, line, first_refusal}
 use Rattle.session_rules.specs.Session.{Session, with_nets}
-use Rattle.session_rules.specs.Sound.{bare, blank}
+use Rattle.session_rules.specs.Sound.{bare}
 use Rattle.net_places.specs.Places.{nets_of}
 use Rattle.session.specs.Value.{with_places, fresh_of}
 use Rattle.session.specs.View.{session_of}

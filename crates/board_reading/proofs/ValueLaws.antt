@@ -1,6 +1,6 @@
 -- 64 places are determined by the nets that they hold.
 -- Assumes nothing.
-use Rattle.std.specs.Prelude.{◌≡◌, refl, List, map, ℕ, suc, ◌+◌, ◌-◌, ◌<◌, length, get_or}
+use Rattle.std.specs.Prelude.{◌≡◌, refl, List, map, ℕ, suc, ◌+◌, ◌<◌, length, get_or}
 use Rattle.std.proofs.Common.{ap, sym, ◌∙◌, arith, ext_get_or}
 use Rattle.count.specs.Lists.{up_to, length-rising, getD-rising}
 use Rattle.net.specs.View.{nothing}

@@ -1,6 +1,5 @@
 -- Definitions only: the net words of a list, with their indices. Nothing is proved here: ListedLaws has the laws.
 use Rattle.std.specs.Prelude.{List, [], ◌∷◌, ℕ, suc}
-use Rattle.net.specs.declared.Net.{Net}
 use Rattle.words.specs.BoardWord.{board_word}
 use Rattle.words.specs.declared.BoardWord.{BoardWord}
 use Rattle.words.specs.declared.BoardWord.TheVariants as word

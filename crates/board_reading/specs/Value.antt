@@ -1,5 +1,5 @@
 -- Definitions only: the value of the code's struct that reading hands back for a session. Nothing is proved here: ValueLaws has the laws.
-use Rattle.std.specs.Prelude.{List, ◌++◌, map, suc, ◌+◌, ◌-◌, length, replicate}
+use Rattle.std.specs.Prelude.{List, ◌++◌, map, suc, ◌-◌, length, replicate}
 use Rattle.std.proofs.Math.Option.{Option, none, some}
 use Rattle.count.specs.Lists.{up_to}
 use Rattle.board.specs.Board.{no_row}

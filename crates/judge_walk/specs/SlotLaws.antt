@@ -1,6 +1,6 @@
 -- Two edges that lie within lines and columns 0 to 31 have different slots; so a mark at one slot changes the map at one edge.
 -- Assumes nothing; an edge of a board within the limits lies so.
-use Rattle.std.specs.Prelude.{◌≡◌, refl, Bool, true, false, cond, List, ◌⊎◌, ℕ, suc, ◌+◌, ◌-◌, ◌*◌, ◌/◌, ◌%◌, ◌<◌, eqb, length, get_or, set}
+use Rattle.std.specs.Prelude.{◌≡◌, refl, Bool, true, false, cond, List, ◌⊎◌, ℕ, suc, ◌+◌, ◌*◌, ◌/◌, ◌%◌, ◌<◌, eqb, length, get_or, set}
 use Rattle.std.proofs.Common.{ap, sym, ◌∙◌, inl, inr, arith, get_or-set_same, get_or-set_other, eq-eqb, ne_eqb}
 use Rattle.count.specs.TruthLaws.{bool, clash}
 use Rattle.count.specs.Bits.{eq_case}

@@ -1,6 +1,6 @@
 -- The writes of a step at a corner without an end make the step.
 -- Assumes what the parts promise.
-use Rattle.std.specs.Prelude.{◌≡◌, refl, Bool, true, false, cond, List, [], ◌∷◌, ◌⊎◌, ℕ, zero, suc, ◌+◌, ◌-◌, ◌*◌, ◌/◌, ◌%◌, ◌≤◌, ◌<◌, length, get_or, set, eqb, ltb}
+use Rattle.std.specs.Prelude.{◌≡◌, refl, Bool, true, false, cond, List, [], ◌∷◌, ℕ, zero, suc, ◌+◌, ◌-◌, ◌*◌, ◌/◌, ◌%◌, ◌≤◌, ◌<◌, length, get_or, set, eqb, ltb}
 use Rattle.std.proofs.Common.{ap, ap₂, ◌∙◌, sym, subst, inl, inr, arith, get_or-set_same, get_or-set_other, eqb-true, ltb-true, ltb-false}
 use Rattle.std.proofs.lemmas.Bool.{eqb-false}
 use Rattle.count.specs.TruthLaws.{bool, eq_or_ne, le_or_lt}
@@ -12,10 +12,9 @@ use Rattle.router_table.specs.Scans.{First, Least, cross_d, leave_d}
 use Rattle.router_table.specs.Writes.{Added, Divided}
 use Rattle.router_invariant.specs.Run.{Run, line_r, col_r, ul_r, nul_r, bul_r, bul_w}
 use Rattle.router_invariant.specs.Divide.{divide_run, dir1, dir2}
-use Rattle.router_invariant.proofs.Helper.{helper_run}
-use Rattle.router_invariant.proofs.Step.{Step, Stuck, FirstR, NoEnd, LeftFull, TopFull, end_r, nearest, at_nul, helped, no_nearest, no_nul}
+use Rattle.router_invariant.proofs.Step.{LeftFull, TopFull, end_r, nearest, at_nul, helped, no_nearest, no_nul}
 use Rattle.router_ends.specs.declared.Work.{Work}
-use Rattle.router_ends.specs.View.{run, Low, Went, halted, counted}
+use Rattle.router_ends.specs.View.{run, Low, halted, counted}
 use Rattle.router_bare.specs.Promise.{CutRow, NoEndsR}
 
 -- a number that is stored is low

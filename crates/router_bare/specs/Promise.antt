@@ -1,6 +1,6 @@
 -- Definitions only: what is promised of a corner without an end. Nothing is proved here.
 -- Arrays that a function does not take are quantified over: it leaves them as they are.
-use Rattle.std.specs.Prelude.{◌≡◌, Bool, false, cond, List, ℕ, ◌+◌, get_or, set}
+use Rattle.std.specs.Prelude.{◌≡◌, Bool, cond, List, ℕ, ◌+◌, get_or, set}
 use Rattle.router_invariant.specs.Run.{Run, line_r, col_r}
 use Rattle.router_invariant.specs.Divide.{dir1, dir2}
 use Rattle.router_invariant.proofs.Step.{NoEnd, end_r}

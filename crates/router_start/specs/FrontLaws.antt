@@ -1,7 +1,7 @@
 -- An array that is filled from its start: its size, its entries, and one entry more.
 -- Assumes that it has room.
 use Rattle.std.specs.Prelude.{◌≡◌, refl, List, [], ◌∷◌, ◌++◌, ℕ, suc, ◌+◌, ◌-◌, ◌≤◌, ◌<◌, length, get_or, set, drop}
-use Rattle.std.proofs.Common.{ap, ◌∙◌, append_assoc, arith, add-one, length-append, length-drop, drop-cons, get_or-append-add, get_or-drop}
+use Rattle.std.proofs.Common.{◌∙◌, append_assoc, arith, length-append, length-drop, drop-cons, get_or-append-add, get_or-drop}
 use Rattle.std.proofs.Math.ListN.{get_or-append}
 use Rattle.std.proofs.lemmas.List.{set_at}
 use Rattle.router_start.specs.Front.{in_front}

@@ -1,6 +1,6 @@
 -- The lines of a board, one after the other; all of them are the board's shape.
 -- Assumes a board of 1 to 31 rows, and arrays of 32 entries.
-use Rattle.std.specs.Prelude.{◌≡◌, refl, false, List, [], ◌∷◌, ◌++◌, map, ℕ, suc, pred, ◌+◌, ◌-◌, ◌≤◌, ◌<◌, min, max, length, get_or, set}
+use Rattle.std.specs.Prelude.{◌≡◌, refl, false, List, [], ◌∷◌, ◌++◌, map, ℕ, pred, ◌+◌, ◌-◌, ◌≤◌, ◌<◌, min, max, length, get_or, set}
 use Rattle.std.proofs.Common.{ap, ap₂, ◌∙◌, sym, arith, add-one}
 use Rattle.count.specs.Lists.{up_to, length-rising, getD-rising, rising_snoc}
 use Rattle.board.specs.Board.{Board, height, no_row}

@@ -1,9 +1,7 @@
 -- `walk_path` walks as the definition does. The invariant: from where the code stands, with the runs from place k on, the walk comes to the same.
 use native.Mathlib.Omega.{arith}
-use mathlib.Core.Path.{◌≡◌, sym, ◌∙◌}
-use Prim.Native.Nat.{◌+◌, ◌-◌, ◌≤◌}
-use Rattle.board.specs.View.{board_of}
-use Rattle.judge_walk.specs.WalkLaws.{Runs, runs_start, runs_on, path-passed, path-missed, path-refused}
+use mathlib.Core.Path.{sym, ◌∙◌}
+use Rattle.judge_walk.specs.WalkLaws.{runs_start, runs_on, path-passed, path-missed, path-refused}
 use Rattle.judge_walk.proofs.walk_path.Goals as goal
 
 pub loop-k-init : goal.loop-k-init
@@ -11,7 +9,6 @@ loop-k-init c = (omega arith, omega arith, runs_start)
 
 pub returns-in-Refused : goal.returns-in-Refused
 returns-in-Refused c =
-    let number = c.number-1 in
     let walk-run = c.walk_run in
     let run_in = c.run_in in
     let loop = c.loop-k in
@@ -20,7 +17,6 @@ returns-in-Refused c =
 
 pub loop-k-preserved : goal.loop-k-preserved
 loop-k-preserved c =
-    let u = c.u-1 in
     let walk-run = c.walk_run in
     let run_in = c.run_in in
     let loop = c.loop-k in

@@ -1,8 +1,7 @@
-use native.Mathlib.Omega.{arith}
-use mathlib.Core.Path.{◌≡◌, sym, ◌∙◌}
+use mathlib.Core.Path.{◌≡◌}
 use Prim.Native.Nat.{◌+◌, ◌-◌, ◌≤◌}
 use Rattle.board.specs.View.{board_of}
-use Rattle.judge_walk.specs.WalkLaws.{Runs, runs_start, runs_on, path-passed, path-missed, path-refused}
+use Rattle.judge_walk.specs.WalkLaws.{Runs}
 use Rattle.judge_walk.proofs.walk_path.Given as goal
 
 abbrev pub invariant-loop-k : goal.invariant-loop-k

@@ -1,9 +1,7 @@
 -- `walk_paths` walks as the definition does. The invariant: from where the code stands, with the nets from place i on, the walk comes to the same.
 use native.Mathlib.Omega.{arith}
 use mathlib.Core.Path.{refl}
-use Prim.Native.Nat.{◌-◌, ◌≤◌}
-use Rattle.board.specs.View.{board_of}
-use Rattle.judge_walk.specs.WalkLaws.{Paths, paths_start, paths-on, paths-refused, paths-done}
+use Rattle.judge_walk.specs.WalkLaws.{paths_start, paths-on, paths-refused, paths-done}
 use Rattle.judge_walk.proofs.walk_paths.Goals as goal
 
 pub loop-i-init : goal.loop-i-init

@@ -1,8 +1,6 @@
-use native.Mathlib.Omega.{arith}
-use mathlib.Core.Path.{refl}
 use Prim.Native.Nat.{◌-◌, ◌≤◌}
 use Rattle.board.specs.View.{board_of}
-use Rattle.judge_walk.specs.WalkLaws.{Paths, paths_start, paths-on, paths-refused, paths-done}
+use Rattle.judge_walk.specs.WalkLaws.{Paths}
 use Rattle.judge_walk.proofs.walk_paths.Given as goal
 
 abbrev pub invariant-loop-i : goal.invariant-loop-i

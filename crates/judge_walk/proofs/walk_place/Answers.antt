@@ -34,16 +34,11 @@ returns-in-Nothing-part_at c =
 pub returns-in-Passed : goal.returns-in-Passed
 returns-in-Passed c =
     let walk-path = c.walk_path in
-    let from = c.from-1 in
     let part_at = c.part_at in
-    let held = c.held-1 in
     place_on c.in-Ends.is (part_found part_at.ensures c.in-Runs.is) walk-path.ensures c.in-Passed.is
 
 pub returns-in-Refused : goal.returns-in-Refused
 returns-in-Refused c =
-    let r = c.r-1 in
     let walk-path = c.walk_path in
-    let from = c.from-1 in
     let part_at = c.part_at in
-    let held = c.held-1 in
     place-refused c.in-Ends.is (part_found part_at.ensures c.in-Runs.is) walk-path.ensures c.in-Refused.is

@@ -1,9 +1,7 @@
 -- `walk_run` walks as the definition does. The invariant: from where the code stands, with what is left of the run, the walk comes to the same.
-use borrow.Author.Tests.{not-true, not-false, ltb-true, ltb-false}
 use native.Mathlib.Omega.{arith}
 use mathlib.Core.Path.{sym, ◌∙◌}
-use Rattle.board.specs.View.{board_of}
-use Rattle.judge_walk.specs.WalkLaws.{Along, along-start, along-off, along-again, along-on, along-done}
+use Rattle.judge_walk.specs.WalkLaws.{along-start, along-off, along-again, along-on, along-done}
 use Rattle.judge_walk.proofs.walk_run.Goals as goal
 
 pub loop-left-init : goal.loop-left-init
@@ -17,7 +15,7 @@ returns-then-off c =
     let is-edge = c.is_edge-off in
     let loop-test = c.loop-left-test in
     let loop = c.loop-left in
-    along-off loop.invariant loop-test.true (sym is-edge.ensures.same ∙ not-true _ c.if-off.true)
+    along-off loop.invariant loop-test.true (sym is-edge.ensures.same ∙ c.if-off.true)
 
 pub returns-then-again : goal.returns-then-again
 returns-then-again c =
@@ -26,8 +24,8 @@ returns-then-again c =
     let slot_of = c.slot_of-slot in
     let loop-test = c.loop-left-test in
     let loop = c.loop-left in
-    along-again loop.invariant loop-test.true (sym is-edge.ensures.same ∙ not-false _ if1.false) slot_of.ensures.value
-    (ltb-true _ _ c.if-again.true)
+    along-again loop.invariant loop-test.true (sym is-edge.ensures.same ∙ if1.false) slot_of.ensures.value
+    (c.if-again.true)
 
 pub bounds-used-slot-in-loop-left : goal.bounds-used-slot-in-loop-left
 bounds-used-slot-in-loop-left c = omega arith
@@ -46,8 +44,8 @@ loop-left-preserved c =
     let slot_of = c.slot_of-slot in
     let loop-test = c.loop-left-test in
     let loop = c.loop-left in
-    along-on loop.invariant loop-test.true (sym is-edge.ensures.same ∙ not-false _ if1.false) slot_of.ensures.value
-    (ltb-false _ _ if2.false) c.next_of-v.ensures
+    along-on loop.invariant loop-test.true (sym is-edge.ensures.same ∙ if1.false) slot_of.ensures.value
+    (if2.false) c.next_of-v.ensures
 
 pub returns : goal.returns
 returns c = along-done c.loop-left.invariant c.loop-left-test.false

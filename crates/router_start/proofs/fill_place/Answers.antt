@@ -1,5 +1,4 @@
 -- `fill_place` takes in what a place holds.
-use native.Mathlib.Omega.{arith}
 use mathlib.Core.Path.{refl}
 use Rattle.router_start.proofs.fill_place.Goals as goal
 
@@ -8,5 +7,4 @@ returns-in-Nothing c = rw c.in-Nothing.is (refl, refl, refl, refl, refl, refl)
 
 pub returns-in-Ends : goal.returns-in-Ends
 returns-in-Ends c =
-    let held = c.held-1 in
     rw c.in-Ends.is (refl, c.fill_row.ensures)

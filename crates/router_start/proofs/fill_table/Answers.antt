@@ -1,11 +1,10 @@
 -- After i places the table holds the pairs of these.
 use native.Mathlib.Omega.{arith}
-use Prim.Native.Nat.{◌+◌, ◌-◌, ◌≤◌}
+use Prim.Native.Nat.{◌+◌}
 use lib.ListN.{take, get_or, length}
 use lib.Seq.{take_all}
 use mathlib.Core.Path.{◌≡◌, ap}
-use Rattle.net.specs.View.{nothing, pairs_of}
-use Rattle.router_start.specs.Table.{Clear, Fills}
+use Rattle.net.specs.View.{nothing}
 use Rattle.router_start.specs.TableLaws.{fills_none, fills-place, pairs_more, pairs_few}
 use borrow.Author.Rules.{rules}
 use Rattle.router_start.proofs.fill_table.Goals as goal

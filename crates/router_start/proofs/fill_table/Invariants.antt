@@ -1,11 +1,8 @@
-use native.Mathlib.Omega.{arith}
-use Prim.Native.Nat.{◌+◌, ◌-◌, ◌≤◌}
-use lib.ListN.{take, get_or, length}
-use lib.Seq.{take_all}
-use mathlib.Core.Path.{◌≡◌, ap}
-use Rattle.net.specs.View.{nothing, pairs_of}
+use Prim.Native.Nat.{◌-◌, ◌≤◌}
+use lib.ListN.{take, length}
+use mathlib.Core.Path.{◌≡◌}
+use Rattle.net.specs.View.{pairs_of}
 use Rattle.router_start.specs.Table.{Clear, Fills}
-use Rattle.router_start.specs.TableLaws.{fills_none, fills-place, pairs_more, pairs_few}
 use Rattle.router_start.proofs.fill_table.Given as goal
 
 abbrev pub invariant-loop-i : goal.invariant-loop-i

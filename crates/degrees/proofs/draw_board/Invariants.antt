@@ -1,0 +1,21 @@
+use native.Mathlib.Omega.{arith}
+use mathlib.Core.Path.{◌≡◌, refl, ◌∙◌}
+use mathlib.Core.List.{flat_map}
+use Prim.Native.Nat.{suc, ◌-◌, ◌*◌, ◌≤◌, min}
+use lib.ListN.{length}
+use Rattle.count.specs.Lists.{up_to}
+use Rattle.text.specs.Put.{Put}
+use Rattle.text.specs.Laws.{put_none, whole}
+use Rattle.board.specs.Board.{height}
+use Rattle.board.specs.View.{board_of}
+use Rattle.board.specs.ViewLaws.{height_of}
+use Rattle.degrees.specs.Drawing.{line_drawn}
+use Rattle.degrees.specs.Laws.{line-33, put_line_more}
+use Rattle.degrees.proofs.draw_board.Given as goal
+
+abbrev pub invariant-loop-l : goal.invariant-loop-l
+invariant-loop-l l =
+    (l.l ≤ l.lines) × (l.end ≡ 33 * l.l) × (length l.out ≡ length l.initial.out) × Put (flat_map (line_drawn (board_of l.b)) (up_to l.l)) 0 l.initial.out l.end l.out
+
+abbrev pub decreases-loop-l : goal.decreases-loop-l
+decreases-loop-l l = l.lines - l.l

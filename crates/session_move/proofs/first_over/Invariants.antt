@@ -1,0 +1,10 @@
+use Prim.Native.Nat.{◌-◌, ◌≤◌}
+use Rattle.board.specs.View.{board_of}
+use Rattle.session_move.specs.Search.{NoneBefore}
+use Rattle.session_move.proofs.first_over.Given as goal
+
+abbrev pub invariant-loop-i : goal.invariant-loop-i
+invariant-loop-i l = (l.i ≤ 1024) × NoneBefore (board_of l.board) l.counts l.taken l.i
+
+abbrev pub decreases-loop-i : goal.decreases-loop-i
+decreases-loop-i l = 1024 - l.i
