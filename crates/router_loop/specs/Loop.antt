@@ -1,20 +1,16 @@
 -- The laws of the loop: its start, the turn, one pass, and that it does not end without an answer.
 -- Assumes what the parts promise.
-use Rattle.std.specs.Prelude.{◌≡◌, refl, Bool, true, false, not, List, ◌⊎◌, ℕ, zero, suc, ◌+◌, ◌-◌, ◌≤◌, ◌<◌, length, get_or}
-use Rattle.std.proofs.Common.{ap, ◌∙◌, sym, subst, inl, inr, arith}
-use Rattle.count.specs.TruthLaws.{clash}
-use Rattle.corner.specs.Shape.{vertices, Top}
+use Rattle.std.specs.Prelude.{◌≡◌, refl, Bool, true, false, not, List, ℕ, ◌+◌, ◌-◌, ◌≤◌, ◌<◌, get_or}
+use Rattle.std.proofs.Common.{ap, ◌∙◌, inl, inr, arith}
+use Rattle.corner.specs.Shape.{vertices}
 use Rattle.router_notes.specs.Limits.{pair_limit, last_pair, vertex_limit}
 use Rattle.router_notes.specs.State.{State}
 use Rattle.router_table.specs.Scans.{seen_d}
 use Rattle.router_invariant.specs.Run.{Run, Holds, Sized, shape_r, col_r}
 use Rattle.router_invariant.proofs.Place.{seen_turn, low-col}
-use Rattle.router_invariant.specs.Ready.{Ready}
-use Rattle.router_invariant.proofs.ReadyLaws.{shaped}
-use Rattle.router_invariant.proofs.Turned.{turn_run, turn_holds, top-stays, top-turns}
-use Rattle.router_invariant.proofs.Step.{Step, Stuck}
+use Rattle.router_invariant.proofs.Turned.{turn_holds, top-stays, top-turns}
 use Rattle.router_invariant.proofs.StepLaws.{step-holds, never_stuck}
-use Rattle.router_tidy.specs.Tidy.{table_r, Tidied}
+use Rattle.router_tidy.specs.Tidy.{Tidied}
 use Rattle.router_tidy.specs.Fewer.{vertices_some, vertices_few, step_fewer}
 use Rattle.router_tidy.specs.Pass.{turn_vertices, ready_for}
 use Rattle.router_ends.specs.declared.Work.{Work}

@@ -1,6 +1,6 @@
 -- Definitions only: what the router promises. Nothing is proved here.
 -- From a start that is in order the router comes to a run that is in order and has no live pair; its notes route the start.
-use Rattle.std.specs.Prelude.{◌≡◌, Bool, true, List, ℕ, ◌+◌, ◌*◌, ◌≤◌, ◌<◌}
+use Rattle.std.specs.Prelude.{◌≡◌, Bool, true, List, ℕ, ◌+◌, ◌≤◌}
 use Rattle.corner.specs.Shape.{vertices, Top}
 use Rattle.router_notes.specs.Limits.{vertex_limit}
 use Rattle.router_notes.specs.State.{State}

@@ -2,10 +2,7 @@
 use native.Mathlib.Omega.{arith}
 use mathlib.Core.Path.{◌≡◌, refl, ◌∙◌}
 use mathlib.Core.List.{flat_map}
-use Prim.Native.Nat.{suc, ◌-◌, ◌*◌, ◌≤◌, min}
-use lib.ListN.{length}
-use Rattle.count.specs.Lists.{up_to}
-use Rattle.text.specs.Put.{Put}
+use Prim.Native.Nat.{suc, min}
 use Rattle.text.specs.Laws.{put_none, whole}
 use Rattle.board.specs.Board.{height}
 use Rattle.board.specs.View.{board_of}

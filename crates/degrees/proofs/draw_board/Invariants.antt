@@ -1,16 +1,11 @@
-use native.Mathlib.Omega.{arith}
-use mathlib.Core.Path.{◌≡◌, refl, ◌∙◌}
+use mathlib.Core.Path.{◌≡◌}
 use mathlib.Core.List.{flat_map}
-use Prim.Native.Nat.{suc, ◌-◌, ◌*◌, ◌≤◌, min}
+use Prim.Native.Nat.{◌-◌, ◌*◌, ◌≤◌}
 use lib.ListN.{length}
 use Rattle.count.specs.Lists.{up_to}
 use Rattle.text.specs.Put.{Put}
-use Rattle.text.specs.Laws.{put_none, whole}
-use Rattle.board.specs.Board.{height}
 use Rattle.board.specs.View.{board_of}
-use Rattle.board.specs.ViewLaws.{height_of}
 use Rattle.degrees.specs.Drawing.{line_drawn}
-use Rattle.degrees.specs.Laws.{line-33, put_line_more}
 use Rattle.degrees.proofs.draw_board.Given as goal
 
 abbrev pub invariant-loop-l : goal.invariant-loop-l

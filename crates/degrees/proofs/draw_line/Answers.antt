@@ -1,9 +1,8 @@
 -- After c turns the first c signs of the line stand; the line feed ends it.
 use native.Mathlib.Omega.{arith}
 use mathlib.Core.Path.{◌≡◌, refl, sym}
-use Prim.Native.Nat.{◌-◌, ◌≤◌}
-use lib.ListN.{length, length-set}
-use lib.Seq.{paste, paste-zero}
+use lib.ListN.{length-set}
+use lib.Seq.{paste-zero}
 use Rattle.board.specs.View.{board_of}
 use Rattle.text.specs.Laws.{copied, put_copied}
 use Rattle.degrees.specs.Drawing.{line_drawn}

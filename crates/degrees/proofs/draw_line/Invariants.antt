@@ -1,12 +1,9 @@
-use native.Mathlib.Omega.{arith}
-use mathlib.Core.Path.{◌≡◌, refl, sym}
+use mathlib.Core.Path.{◌≡◌}
 use Prim.Native.Nat.{◌-◌, ◌≤◌}
-use lib.ListN.{length, length-set}
-use lib.Seq.{paste, paste-zero}
+use lib.ListN.{length}
+use lib.Seq.{paste}
 use Rattle.board.specs.View.{board_of}
-use Rattle.text.specs.Laws.{copied, put_copied}
 use Rattle.degrees.specs.Drawing.{line_drawn}
-use Rattle.degrees.specs.Laws.{line-33, sign_at, line-feed}
 use Rattle.degrees.proofs.draw_line.Given as goal
 
 abbrev pub invariant-loop-c : goal.invariant-loop-c

@@ -1,12 +1,9 @@
 -- After i turns the first i bytes of the page stand.
 use native.Mathlib.Omega.{arith}
-use mathlib.Core.Path.{◌≡◌, refl}
-use Prim.Native.Nat.{◌-◌, ◌≤◌}
-use lib.ListN.{length, take, length-set}
+use mathlib.Core.Path.{refl}
+use lib.ListN.{length-set}
 use Rattle.board.specs.View.{board_of}
 use Rattle.board.specs.ViewLaws.{height_of}
-use Rattle.call_rules.specs.Page.{page}
-use Rattle.call_rules.specs.Writing.{written_into}
 use Rattle.judge_page.specs.Marked.{marked}
 use Rattle.judge_page.specs.Laws.{byte_more, bytes-all}
 use Rattle.judge_page.proofs.draw.Goals as goal

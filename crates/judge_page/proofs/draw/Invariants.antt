@@ -1,13 +1,10 @@
-use native.Mathlib.Omega.{arith}
-use mathlib.Core.Path.{◌≡◌, refl}
+use mathlib.Core.Path.{◌≡◌}
 use Prim.Native.Nat.{◌-◌, ◌≤◌}
-use lib.ListN.{length, take, length-set}
+use lib.ListN.{length, take}
 use Rattle.board.specs.View.{board_of}
-use Rattle.board.specs.ViewLaws.{height_of}
 use Rattle.call_rules.specs.Page.{page}
 use Rattle.call_rules.specs.Writing.{written_into}
 use Rattle.judge_page.specs.Marked.{marked}
-use Rattle.judge_page.specs.Laws.{byte_more, bytes-all}
 use Rattle.judge_page.proofs.draw.Given as goal
 
 abbrev pub invariant-loop-i : goal.invariant-loop-i

@@ -14,6 +14,6 @@ loop-i-preserved c =
 
 pub returns : goal.returns
 returns c = let e = knocks_none c.args.marks c.loop-i.i (omega arith) in record {
-      value = omega arith;
-      upper_bound = omega arith;
-    }
+  value = omega arith;
+  upper_bound = omega arith;
+}

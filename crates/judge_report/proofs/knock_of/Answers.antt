@@ -6,12 +6,12 @@ use Rattle.judge_report.proofs.knock_of.Goals as goal
 
 pub returns-then-m-ge2 : goal.returns-then-m-ge2
 returns-then-m-ge2 c = record {
-      value = rw (lt-ltb 1 c.args.m (omega arith)) refl;
-      upper_bound = omega arith;
-    }
+  value = rw (lt-ltb 1 c.args.m (omega arith)) refl;
+  upper_bound = omega arith;
+}
 
 pub returns-else-m-ge2 : goal.returns-else-m-ge2
 returns-else-m-ge2 c = record {
-      value = rw (le-ltb 1 c.args.m (omega arith)) refl;
-      upper_bound = omega arith;
-    }
+  value = rw (le-ltb 1 c.args.m (omega arith)) refl;
+  upper_bound = omega arith;
+}

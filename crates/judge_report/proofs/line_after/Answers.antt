@@ -5,12 +5,12 @@ use Rattle.judge_report.proofs.line_after.Goals as goal
 
 pub returns-in-Up : goal.returns-in-Up
 returns-in-Up c = record {
-      value = rw c.in-Up.is c.less.ensures;
-      upper_bound = omega arith;
-    }
+  value = rw c.in-Up.is c.less.ensures;
+  upper_bound = omega arith;
+}
 
 pub returns-in-Down : goal.returns-in-Down
 returns-in-Down c = record {
-      value = rw c.in-Down.is refl;
-      upper_bound = omega arith;
-    }
+  value = rw c.in-Down.is refl;
+  upper_bound = omega arith;
+}

@@ -21,7 +21,7 @@ loop-k-preserved c =
 
 pub returns : goal.returns
 returns c = record {
-      measured = rw (c.as_word.ensures.0, c.as_word-2.ensures.0) at
+  measured = rw (c.as_word.ensures.0, c.as_word-2.ensures.0) at
       (tracing_done c.loop-k.invariant.2 (omega arith));
-      edges_bound = omega arith;
-    }
+  edges_bound = omega arith;
+}

@@ -40,9 +40,9 @@ returns-then-d-w c = record {
       c.least-i.result
       c.least-i.ensures c.if-i-n.false _ (ap (λ z. z % 32) c.long-c.ensures.0) c.cut_row.ensures;
   near = near_counted c.args.w _ (c.args.w.n + 1) (c.args.w.next + 2) c.cut_row.ensures.work_is (omega arith) (omega arith)
-        (omega (arith, c.requires.6, c.requires.7)) c.requires.7;
+      (omega (arith, c.requires.6, c.requires.7)) c.requires.7;
   low = low_cut_row c.args.ids.now _ c.least-i.result c.args.w.n c.args.w.next c.requires.5 c.requires.1
-        c.cut_row.ensures.ids_is;
+      c.cut_row.ensures.ids_is;
 }
 
 pub overflow_add-e : goal.overflow_add-e
@@ -86,10 +86,10 @@ returns-then-e-x c = record {
       c.leaving-e.ensures c.if-e-x.true c.first_at-i.result c.first_at-i.ensures c.if-i-n-2.false
       c.cut_row-then-e-x.ensures;
   near = near_counted c.args.w _ (c.args.w.n + 1) (c.args.w.next + 2) c.cut_row-then-e-x.ensures.work_is (omega arith) (omega arith)
-        (omega (arith, c.requires.6, c.requires.7)) c.requires.7;
+      (omega (arith, c.requires.6, c.requires.7)) c.requires.7;
   low = low_cut_row c.args.ids.now _ c.first_at-i.result c.args.w.n c.args.w.next c.requires.5
-        c.requires.1
-        c.cut_row-then-e-x.ensures.ids_is;
+      c.requires.1
+      c.cut_row-then-e-x.ensures.ids_is;
 }
 
 pub returns : goal.returns
@@ -103,8 +103,7 @@ returns c = record {
       c.leaving-e.result
       c.leaving-e.ensures c.if-e-x.false c.add.ensures refl refl refl refl refl c.counted.ensures;
   near = near_counted c.args.w _ (c.args.w.n + 1) (c.args.w.next + 1) c.counted.ensures (omega arith) (omega arith)
-        (omega (arith, c.requires.6, c.requires.7)) c.requires.7;
+      (omega (arith, c.requires.6, c.requires.7)) c.requires.7;
   low = rw c.add.ensures.ids_is (low_set c.args.ids.now c.args.w.n c.args.w.next c.requires.5
-        (omega (arith, c.requires.1)));
+      (omega (arith, c.requires.1)));
 }
-

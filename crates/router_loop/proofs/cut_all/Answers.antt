@@ -1,11 +1,7 @@
 -- After t passes the start leads to the run at hand, and t vertices are gone; one pass more is the law pass.
 use native.Mathlib.Omega.{arith}
-use mathlib.Core.Path.{refl}
-use Prim.Native.Nat.{◌+◌, ◌*◌, ◌-◌, ◌≤◌}
 use Rattle.count.specs.TruthLaws.{clash}
-use Rattle.router_notes.specs.Limits.{vertex_limit}
-use Rattle.router_ends.specs.View.{run, Low}
-use Rattle.router_loop.specs.Promise.{After}
+use Rattle.router_ends.specs.View.{run}
 use Rattle.router_loop.specs.Loop.{after_none, all_done, pass, ended}
 use Rattle.router_loop.proofs.cut_all.Goals as goal
 
@@ -45,14 +41,13 @@ turned-v-requires c = (
 )
 
 pub step-w-requires : goal.step-w-requires
-step-w-requires c =
-    (
-      omega (arith, c.turned-v.ensures.kept.2, c.tidy-n.ensures.upper_bound, c.loop-t.invariant),
-      omega (arith, c.turned-v.ensures.kept.3, c.loop-t.invariant),
-      c.tidy-n.ensures.tidied.low c.loop-t.invariant.5,
-      c.turned-v.ensures.kept.0,
-      c.turned-v.ensures.kept.1,
-    )
+step-w-requires c = (
+  omega (arith, c.turned-v.ensures.kept.2, c.tidy-n.ensures.upper_bound, c.loop-t.invariant),
+  omega (arith, c.turned-v.ensures.kept.3, c.loop-t.invariant),
+  c.tidy-n.ensures.tidied.low c.loop-t.invariant.5,
+  c.turned-v.ensures.kept.0,
+  c.turned-v.ensures.kept.1,
+)
 
 pub returns-then-w : goal.returns-then-w
 returns-then-w c =
@@ -72,11 +67,11 @@ returns-then-w c =
 
 pub overflow_add-t : goal.overflow_add-t
 overflow_add-t c =
-    omega (arith, c.loop-t-test.taken)
+    omega (arith, c.loop-t-test.true)
 
 pub loop-t-smaller : goal.loop-t-smaller
 loop-t-smaller c =
-    omega (arith, c.loop-t-test.taken)
+    omega (arith, c.loop-t-test.true)
 
 pub loop-t-preserved : goal.loop-t-preserved
 loop-t-preserved c =

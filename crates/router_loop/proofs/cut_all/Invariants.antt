@@ -1,11 +1,7 @@
-use native.Mathlib.Omega.{arith}
-use mathlib.Core.Path.{refl}
 use Prim.Native.Nat.{◌+◌, ◌*◌, ◌-◌, ◌≤◌}
-use Rattle.count.specs.TruthLaws.{clash}
 use Rattle.router_notes.specs.Limits.{vertex_limit}
 use Rattle.router_ends.specs.View.{run, Low}
 use Rattle.router_loop.specs.Promise.{After}
-use Rattle.router_loop.specs.Loop.{after_none, all_done, pass, ended}
 use Rattle.router_loop.proofs.cut_all.Given as goal
 
 abbrev pub invariant-loop-t : goal.invariant-loop-t

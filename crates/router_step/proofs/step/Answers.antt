@@ -23,16 +23,15 @@ word-requires c =
     (omega (arith, c.seen-line.ensures, seen_low c.args.w.up c.args.w.top c.requires.3), c.start_of-x.ensures.1)
 
 pub two_ends-requires : goal.two_ends-requires
-two_ends-requires c =
-    (
-      c.if-i-w.true,
-      c.requires.0,
-      omega (arith, c.seen-line.ensures, seen_low c.args.w.up c.args.w.top c.requires.3),
-      c.start_of-x.ensures.1,
-      c.requires.2,
-      c.requires.3,
-      c.requires.4,
-    )
+two_ends-requires c = (
+  c.if-i-w.true,
+  c.requires.0,
+  omega (arith, c.seen-line.ensures, seen_low c.args.w.up c.args.w.top c.requires.3),
+  c.start_of-x.ensures.1,
+  c.requires.2,
+  c.requires.3,
+  c.requires.4,
+)
 
 pub returns-then-i-w : goal.returns-then-i-w
 returns-then-i-w c =
@@ -51,17 +50,16 @@ returns-then-i-w c =
     }
 
 pub no_end-requires : goal.no_end-requires
-no_end-requires c =
-    (
-      c.requires.0,
-      c.requires.1,
-      omega (arith, c.seen-line.ensures, seen_low c.args.w.up c.args.w.top c.requires.3),
-      c.start_of-x.ensures.1,
-      c.end_of-end.ensures.1,
-      c.requires.2,
-      c.if-w.true,
-      c.requires.4,
-    )
+no_end-requires c = (
+  c.requires.0,
+  c.requires.1,
+  omega (arith, c.seen-line.ensures, seen_low c.args.w.up c.args.w.top c.requires.3),
+  c.start_of-x.ensures.1,
+  c.end_of-end.ensures.1,
+  c.requires.2,
+  c.if-w.true,
+  c.requires.4,
+)
 
 pub returns-then-x-end : goal.returns-then-x-end
 returns-then-x-end c =
@@ -79,16 +77,15 @@ returns-then-x-end c =
     }
 
 pub go_down-requires : goal.go_down-requires
-go_down-requires c =
-    (
-      c.first_at-i.ensures.most,
-      c.requires.0,
-      omega (arith, c.seen-line.ensures, seen_low c.args.w.up c.args.w.top c.requires.3),
-      c.start_of-x.ensures.1,
-      c.requires.2,
-      c.if-w.true,
-      c.requires.4,
-    )
+go_down-requires c = (
+  c.first_at-i.ensures.most,
+  c.requires.0,
+  omega (arith, c.seen-line.ensures, seen_low c.args.w.up c.args.w.top c.requires.3),
+  c.start_of-x.ensures.1,
+  c.requires.2,
+  c.if-w.true,
+  c.requires.4,
+)
 
 pub returns-then-w : goal.returns-then-w
 returns-then-w c =
@@ -107,16 +104,15 @@ returns-then-w c =
     }
 
 pub go_right-requires : goal.go_right-requires
-go_right-requires c =
-    (
-      c.first_at-i.ensures.most,
-      c.requires.0,
-      omega (arith, c.seen-line.ensures, seen_low c.args.w.up c.args.w.top c.requires.3),
-      c.start_of-x.ensures.1,
-      c.requires.2,
-      c.requires.3,
-      c.requires.4,
-    )
+go_right-requires c = (
+  c.first_at-i.ensures.most,
+  c.requires.0,
+  omega (arith, c.seen-line.ensures, seen_low c.args.w.up c.args.w.top c.requires.3),
+  c.start_of-x.ensures.1,
+  c.requires.2,
+  c.requires.3,
+  c.requires.4,
+)
 
 pub returns : goal.returns
 returns c =

@@ -18,7 +18,7 @@ pub loop-after-preserved : goal.loop-after-preserved
 loop-after-preserved c =
     let e : goes_on c.loop-after.after.answer (length c.args.nets.now) ≡ true = sym c.goes_on.ensures ∙ c.loop-after-test.true in (
       rw (c.with_net-after.ensures, c.count.ensures)
-      (turn-next c.args.self c.args.nets.now c.loop-after.after c.loop-after.invariant.0 e _).0,
+          (turn-next c.args.self c.args.nets.now c.loop-after.after c.loop-after.invariant.0 e _).0,
       c.loop-after.invariant.1,
     )
 
