@@ -6,7 +6,7 @@ use std::process::{Command, ExitStatus, Stdio};
 /// Ends the run; a program's name is that of its crate.
 fn no_program(program: &str, error: std::io::Error) -> ! {
     let name = program.rsplit('/').next().unwrap_or(program);
-    eprintln!("compare: {program} does not run ({error}); rt check {name} makes it");
+    eprintln!("compare: {program} does not run ({error}); tests/build {name} makes it");
     std::process::exit(2)
 }
 

@@ -30,10 +30,10 @@
  *   - first, second and third each point to a uint64_t that may be written;
  *   - what a call writes to (the buffer or page, and the numbers) overlaps nothing else that the call is lent;
  *   - no other thread writes to what is lent while the call runs;
- *   - there is stack enough. This is not proved. In the library for x86-64, frames times the code's bounds on recursion come to under 600 KiB for
- *     cidrask_route, and to under 40 KiB for cidrask_judge, cidrask_alike and cidrask_draw, which do not recurse; nor does cidrask_wire. Seen in use
- *     were at most 63 KiB by cidrask_route, over 12,000 random large boards, half of them with odd vertices, 39 KiB by cidrask_judge, and 22 KiB by
- *     cidrask_wire, over the boards of examples/.
+ *   - there is stack enough. This is not proved, and was measured with an older Rattle kit: in the library for x86-64, frames times the code's bounds
+ *     on recursion came to under 600 KiB for cidrask_route, and to under 40 KiB for cidrask_judge, cidrask_alike and cidrask_draw, which do not
+ *     recurse; nor does cidrask_wire. Seen in use were at most 63 KiB by cidrask_route, over 12,000 random large boards, half of them with odd
+ *     vertices, 39 KiB by cidrask_judge, and 22 KiB by cidrask_wire, over the boards of examples/.
  *
  * Answers. The result is 0 where the call is accepted, otherwise the number of the first refusal that holds, in the order told at the call.
  * An index counts words from 0. *first is the place; only 32 and 33 have a second number, in *second. (cidrask_alike tells 41 to 46 otherwise: see

@@ -85,7 +85,7 @@ use Rattle.demands.proofs.Judging.{
   compares_bytes,
   c_compared,
 }
-use Rattle.demands.proofs.Wire.{wire_is, c_wired}
+use Rattle.demands.proofs.WireLaws.{wire_is, c_wired}
 use Rattle.demands.proofs.Drawing.{refused_leaves, draws, draws_bytes, c_drawn}
 
 -- ── 1 ──

@@ -2,4 +2,4 @@ pub mod Drawing
 pub mod Judging
 pub mod Laws
 pub mod Routing
-pub mod Wire
+pub mod WireLaws

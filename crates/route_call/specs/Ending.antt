@@ -1,7 +1,7 @@
 -- What the router leaves of a table that begins with a session's nets is what the call `route` hands back: the helpers' paths are forgotten.
 -- Assumes a sound session, a table as `Filled` says, and what the parts promise: the board's lines, the router's run, and the words that are
 -- written from its notes.
-use Rattle.std.specs.Prelude.{◌≡◌, refl, Bool, true, false, ◌&&◌, List, ◌++◌, ℕ, suc, ◌+◌, ◌≤◌, ◌<◌, leb, length, get_or, replicate}
+use Rattle.std.specs.Prelude.{◌≡◌, Bool, true, false, ◌&&◌, List, ℕ, ◌+◌, ◌≤◌, ◌<◌, leb, length, get_or, replicate}
 use Rattle.std.proofs.Common.{ap, ◌∙◌, sym, subst, inl, inr, arith, length-append}
 use Rattle.std.proofs.lemmas.List.{length-map}
 use Rattle.std.proofs.Math.ListN.{get_or-append}
@@ -25,8 +25,8 @@ use Rattle.router_notes.specs.Limits.{pair_limit}
 use Rattle.router_notes.specs.Notes.{Item, Routed}
 use Rattle.router_notes.specs.Lift.{lift_fewer}
 use Rattle.router_notes.specs.State.{room as edgesLeft}
-use Rattle.router_notes.specs.Alike.{Alike, present-alike, shape_of}
-use Rattle.router_notes.specs.Arrays.{left_of, notesOf, born}
+use Rattle.router_notes.specs.Alike.{Alike, present-alike}
+use Rattle.router_notes.specs.Arrays.{left_of, notesOf}
 use Rattle.router_trace.specs.Traces.{path_d}
 use Rattle.router_invariant.specs.Run.{Run, state_r, shape_r, row_r}
 use Rattle.router_ends.specs.declared.Work.{Work}

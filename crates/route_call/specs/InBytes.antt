@@ -1,6 +1,6 @@
 -- Routing into bytes: the words of the routing, put at the start of the buffer of bytes.
 -- Assumes what routing into words promises.
-use Rattle.std.specs.Prelude.{◌≡◌, refl, ℕ, ◌+◌, ◌*◌, ◌/◌, ◌≤◌, min, drop}
+use Rattle.std.specs.Prelude.{◌≡◌, refl, ℕ, ◌/◌, ◌≤◌, min, drop}
 use Rattle.std.proofs.Math.Path.{ap}
 use Rattle.std.proofs.Common.{sym, subst, ◌∙◌, arith, length-append, take_at}
 use mathlib.Core.List.{List, ◌++◌, append_assoc}
@@ -12,16 +12,7 @@ use Rattle.words_bytes.specs.Put.{put_into}
 use Rattle.words_bytes.specs.PutLaws.{bytes_length}
 use Rattle.call_rules.specs.Result.{Result, no, yes}
 use Rattle.call_rules.specs.Shape.{routing_limit}
-use Rattle.call_rules.specs.Route.{
-  route_refused,
-  WhyRefused,
-  HandsBack,
-  HandsBackBytes,
-  Routes,
-  RoutesBytes,
-  refused,
-  given,
-}
+use Rattle.call_rules.specs.Route.{route_refused, WhyRefused, Routes, RoutesBytes, refused, given}
 use Rattle.call_rules.proofs.RouteLaws.{same_why}
 use Rattle.route_call.specs.Answers.{route_answer, written}
 use Rattle.route_call.specs.Room.{cut_short}

@@ -1,15 +1,15 @@
 -- The arrays that hold a board's lines and a table of pairs are a start of the router; the table of the nets and helper pairs is such a table.
 -- Assumes pairs that are good on the board's lines, and zeroed notes; of nets and helper pairs, what `Helped` says.
 use Rattle.std.specs.Prelude.{◌≡◌, refl, false, List, [], ◌∷◌, ◌++◌, ℕ, zero, suc, ◌+◌, ◌≤◌, ◌<◌, length, get_or, take, replicate}
-use Rattle.std.proofs.Common.{ap, ap₂, ◌∙◌, sym, subst, inl, inr, arith, length-take-le}
+use Rattle.std.proofs.Common.{ap, ap₂, ◌∙◌, sym, subst, arith, length-take-le}
 use Rattle.std.proofs.lemmas.List.{length-replicate}
 use Rattle.count.specs.Sum.{sum, sum_zero, sum_suc, sum_eq}
-use Rattle.board.specs.Board.{Board, height, at}
+use Rattle.board.specs.Board.{Board, height}
 use Rattle.board.specs.declared.Vertex.{Vertex}
 use Rattle.net.specs.declared.Pair.{Pair}
 use Rattle.session_rules.specs.Session.{Session, pairs}
-use Rattle.corner.specs.Pairs.{pair, tally, All, SamePairs}
-use Rattle.corner.specs.Shape.{Here, Shaped, Good, last, size}
+use Rattle.corner.specs.Pairs.{tally, All, SamePairs}
+use Rattle.corner.specs.Shape.{Here, Good, last}
 use Rattle.corner.proofs.Presence.{last_suc}
 use Rattle.corner.proofs.Lines.{lines_of}
 use Rattle.corner.proofs.Order.{good_same}
@@ -18,7 +18,7 @@ use Rattle.corner_pins.proofs.Few.{few-pairs}
 use Rattle.router_notes.specs.Limits.{pair_limit, vertex_limit}
 use Rattle.router_notes.specs.Notes.{Item, item}
 use Rattle.router_notes.specs.Inv.{turn_i}
-use Rattle.router_notes.specs.Table.{pairs_of, tally-of}
+use Rattle.router_notes.specs.Table.{tally-of}
 use Rattle.router_notes.specs.Alike.{good-alike}
 use Rattle.router_notes.specs.Arrays.{vtx}
 use Rattle.router_invariant.specs.Run.{Run, Sized, row_r, shape_r, pairs_r}

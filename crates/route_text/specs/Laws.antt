@@ -1,12 +1,12 @@
 -- The text of what routing answers is the text for the session.
 -- Assumes what routing promises.
-use Rattle.std.specs.Prelude.{◌≡◌, refl, List, ◌++◌, ℕ, length, take, drop}
+use Rattle.std.specs.Prelude.{◌≡◌, refl, List, ℕ, length, take, drop}
 use Rattle.std.proofs.Common.{ap, sym, subst, ◌∙◌, take_at}
 use Rattle.std.proofs.Math.Path.{subst⁻¹}
 use Rattle.text.specs.Hex.{hex_lines}
 use Rattle.words.specs.RoutingWord.{routing_words}
 use Rattle.session_rules.specs.Session.{Session}
-use Rattle.call_rules.specs.Result.{Result, no, yes}
+use Rattle.call_rules.specs.Result.{Result}
 use Rattle.call_rules.specs.Route as calls
 use Rattle.call_rules.specs.Route.{route_refused, WhyRefused, Routes}
 use Rattle.route_text.specs.Text.{answer_text, RouteText, refused, given}

@@ -1,6 +1,5 @@
 -- `route` answers as the definition lays down.
 use mathlib.Core.Path.{sym, ◌∙◌}
-use borrow.Author.Tests.{not-true, not-false}
 use Rattle.net_places.proofs.NetsLaws.{pairs-of}
 use Rattle.session.specs.View.{session_of}
 use Rattle.route_call.specs.AnswerLaws.{odd-at, none_odd, even_few, route-unsound, route-short}
@@ -21,7 +20,7 @@ returns-then-out-word_limit c =
     let if1 = c.if-not-sound in
     let sound = c.sound in
     let args = c.args in
-    route-short (session_of args.s) _ (sym sound.ensures.same ∙ not-false sound.result if1.false)
+    route-short (session_of args.s) _ (sym sound.ensures.same ∙ if1.false)
     (rw word-limit.ensures at c.if-out-word_limit.true)
 
 pub route_odd-requires : goal.route_odd-requires
@@ -33,7 +32,7 @@ route_odd-requires c =
     let the-sound = c.sound in
     let s = c.args.s in record {
       first_odd_known = record {
-        sound = sym the-sound.ensures.same ∙ not-false the-sound.result if1.false;
+        sound = sym the-sound.ensures.same ∙ if1.false;
         first = odd-at (session_of s) _ (pairs-of s.nets) _ (sym c.in-At.is ∙ first-odd.ensures);
       };
       s_in_bounds = rw word-limit.ensures at if2.false;
@@ -48,7 +47,7 @@ route_few-requires c =
     let if1 = c.if-not-sound in
     let the-sound = c.sound in
     let s = c.args.s in record {
-      odds_known = even_few (session_of s) (sym the-sound.ensures.same ∙ not-false the-sound.result if1.false)
+      odds_known = even_few (session_of s) (sym the-sound.ensures.same ∙ if1.false)
           (none_odd (session_of s) _ (pairs-of s.nets) (sym c.in-Nothing.is ∙ first-odd.ensures)) _ no-odds.ensures;
       s_in_bounds = rw word-limit.ensures at if2.false;
     }

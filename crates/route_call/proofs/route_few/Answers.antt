@@ -11,8 +11,8 @@ route_open-requires c =
     let args = c.args in let pre = c.requires in
     let s = args.s in
     record {
-      odds_known = (pre.0, none_overfull (session_of s) _ (pairs-of s.nets) (sym c.in-Nothing.is ∙ first-overfull.ensures));
-      s_in_bounds = pre.1;
+      odds_known = (pre.odds_known, none_overfull (session_of s) _ (pairs-of s.nets) (sym c.in-Nothing.is ∙ first-overfull.ensures));
+      s_in_bounds = pre.s_in_bounds;
     }
 
 pub returns-in-At : goal.returns-in-At
@@ -20,5 +20,5 @@ returns-in-At c =
     let first-overfull = c.first_overfull-found in
     let args = c.args in let pre = c.requires in
     let s = args.s in
-    route-overfull (session_of s) _ args.odds pre.0 pre.1 _ (overfull-at (session_of s) _ (pairs-of s.nets) _
+    route-overfull (session_of s) _ args.odds pre.odds_known pre.s_in_bounds _ (overfull-at (session_of s) _ (pairs-of s.nets) _
     (sym c.in-At.is ∙ first-overfull.ensures))
