@@ -11,7 +11,7 @@ use Rattle.board.specs.declared.Direction.{Direction}
 use Rattle.board_convex.specs.Form.{Contains, Nested, NeverRegrow}
 use Rattle.board_convex.proofs.Turns.{many, turns_two_runs}
 use Rattle.board_convex.proofs.Places.{InRow, vertex_in_row, HasColumn}
-use Rattle.board_convex.specs.Between.{toward-contains}
+use Rattle.board_convex.proofs.Between.{toward-contains}
 use Rattle.board_convex.proofs.Runs.{path_join, Run, run_along, run_upright}
 
 -- two straight paths, one after the other

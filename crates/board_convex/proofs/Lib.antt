@@ -12,3 +12,4 @@ pub mod Places
 pub mod Runs
 pub mod Turns
 pub mod Value
+pub mod Between

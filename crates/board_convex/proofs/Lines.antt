@@ -26,7 +26,7 @@ use Rattle.board_convex.proofs.Places.{
   cell_across,
 }
 use Rattle.board_convex.proofs.Needed.{convex-nested, convex-regrow}
-use Rattle.board_convex.specs.Between.{between-contains}
+use Rattle.board_convex.proofs.Between.{between-contains}
 use Rattle.board_convex.specs.LineEnds.{Touches, line_left, line_right}
 
 -- ── a line and the rows that touch it, on any board ──

@@ -9,7 +9,7 @@ use Rattle.board.specs.Board.{Board, Within, height, left, right}
 use Rattle.board.specs.declared.Row.{Row}
 use Rattle.board_convex.specs.Form.{Contains, Nested, NeverRegrow}
 use Rattle.board_convex.specs.Test.{row, contains?, peels, innermost}
-use Rattle.board_convex.specs.Between.{between-contains}
+use Rattle.board_convex.proofs.Between.{between-contains}
 
 -- DEFINITION: row i contains the columns of `inner`
 abbrev Holds : Board → ℕ → Row → Type 0

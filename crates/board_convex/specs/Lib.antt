@@ -2,5 +2,4 @@ pub mod Form
 pub mod Test
 pub mod LineEnds
 pub mod Cells
-pub mod Between
 pub mod PeelLoop

@@ -1,24 +1,21 @@
--- The pins of a convex board: twice its width and height together, and 4 more; so at most 128.
+-- The pins of a convex board: twice its width and height together, and 4 more.
 -- Assumes that the board is within the limits and convex.
 -- Every line is as long as the wider of the rows above and below it. Counted from the top, the pins so far and the width of the row below
 -- together grow by 2 with each line, and by 2 more for each column by which that row is wider than all above it (`from-top`).
-use Rattle.std.specs.Prelude.{◌≡◌, ltb}
+use Rattle.std.specs.Prelude.{◌≡◌}
 use Rattle.std.proofs.Math.Logic.{inl, inr}
 use Prim.Native.Nat.{ℕ, zero, suc, ◌+◌, ◌-◌, ◌*◌, ◌≤◌, ◌<◌, max}
 use native.Mathlib.Omega.{arith}
 use Rattle.std.proofs.Common.{lt-ltb, le-ltb}
-use Rattle.count.specs.Truth.{one}
-use Rattle.count.specs.TruthLaws.{one_le, le_or_lt}
+use Rattle.count.specs.TruthLaws.{le_or_lt}
 use Rattle.count.specs.Sum.{sum, sum_suc, sum_zero}
 use Rattle.count.specs.Sums.{sum_tail}
 use Rattle.board.specs.Board.{Board, Within, height}
 use Rattle.board.specs.Path.{Convex}
-use Rattle.board.specs.Degree.{pins}
 use Rattle.board_convex.specs.Form.{width}
 use Rattle.board_convex.proofs.Needed.{convex-nested, convex-regrow}
 use Rattle.board_convex.specs.LineEnds.{line_left, line_right}
-use Rattle.board_pins.specs.Pins.{frame_sum, all_pins, pinned_vertices, widest, board_width}
-use Rattle.board_pins.proofs.Frame.{frame_le}
+use Rattle.board_pins.specs.Pins.{frame_sum, all_pins, widest, board_width}
 use Rattle.board_pins.proofs.LinePins.{line_pins, down-width, down-none, up-width, up_none, line-pins, no_pins}
 use Rattle.board_pins.proofs.Widest.{widest_le}
 
@@ -76,16 +73,3 @@ module _ (b : Board) (W : Within b) (C : Convex b) where
       let e : (31 - height b) + suc (height b) ≡ 32 = omega arith in
       let all : sum 32 (line_pins b) ≡ sum (suc (height b)) (line_pins b) = rw e at t in
       omega (arith, all_lines (height b - 1) (omega arith))
-
-  pub pins-few : all_pins b ≤ 128
-  unfolding board_width
-  pins-few = omega (arith, pin-count, W.few, widest_le b (height b) 31 (λ i h. omega (arith, W.fits i h)))
-
-  -- so at most 128 vertices have a pin
-  pub pinned-few : pinned_vertices b ≤ 128
-  unfolding pinned_vertices all_pins
-  pinned-few = omega (arith, pins-few, frame_le (λ v. one (ltb 0 (pins b v))) (pins b) (λ v. one_of (pins b v)))
-    where
-      one_of : (n : ℕ) → one (ltb 0 n) ≤ n
-      one_of zero = omega arith
-      one_of (suc n) = omega (arith, one_le (ltb 0 (suc n)))

@@ -3,3 +3,4 @@ pub mod Frame
 pub mod Law
 pub mod LinePins
 pub mod Widest
+pub mod FewPins

@@ -11,7 +11,7 @@ use Rattle.board.specs.declared.Row.{Row}
 use Rattle.board_block.specs.Taken.{in_order?}
 use Rattle.board_block.specs.declared.TakenPins.{TakenPins}
 use Rattle.session_rules.specs.Refusal.{line, first_refusal}
-use Rattle.session_laws.proofs.Rising.{From}
+use Rattle.session_laws.specs.Rising.{From}
 use Rattle.words.specs.BoardWord.{row_word, taken_word, net_word, end_word, board_word}
 use Rattle.words.specs.Inverse.{TakenFits, says_row, says_taken, says_net, says_end, says_nothing, says_board}
 use Rattle.words.specs.declared.BoardEnd.{BoardEnd}

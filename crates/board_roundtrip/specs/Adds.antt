@@ -10,7 +10,7 @@ use Rattle.session_rules.specs.Refusal.{Refusal}
 use Rattle.session_rules.specs.Session.{insert}
 use Rattle.session_rules.specs.Add.{add_refused, is_none, accepts}
 use Rattle.session_rules.specs.Sound.{addable?}
-use Rattle.session_laws.proofs.Rising.{From}
+use Rattle.session_laws.specs.Rising.{From}
 use Rattle.session_laws.proofs.InOrder.{Below, below_more, one_more, below_next, accepted_none}
 use Rattle.call_rules.specs.Result.{yes}
 use Rattle.call_rules.specs.Reading.{Listed, placed_at, add_listed}

@@ -15,7 +15,7 @@ use Rattle.board_block.specs.Taken.{in_order?, all_there?, taken_fine?}
 use Rattle.board_block.proofs.TakenLaws.{There, taken_vertices}
 use Rattle.board_block.specs.declared.TakenPins.{TakenPins}
 use Rattle.net.specs.declared.Net.{Net}
-use Rattle.session_laws.proofs.Fine.{AllGood}
+use Rattle.session_laws.specs.Fine.{AllGood}
 use Rattle.words.specs.Inverse.{VertexFits}
 use Rattle.board_roundtrip.specs.Parts.{RowsFit, PinsFit, NetsFit}
 

@@ -8,7 +8,7 @@ use Rattle.board_block.specs.Taken.{in_order?}
 use Rattle.board_block.specs.declared.Book.{Book}
 use Rattle.board_block.specs.declared.TakenPins.{TakenPins}
 use Rattle.net.specs.declared.Net.{Net}
-use Rattle.session_laws.proofs.Rising.{From}
+use Rattle.session_laws.specs.Rising.{From}
 use Rattle.words.specs.BoardWord.{row_word, taken_word, net_word, end_word}
 use Rattle.words.specs.Inverse.{TakenFits, NetFits, row_back, taken-back, net_back, end_back}
 use Rattle.call_rules.specs.Result.{yes}

@@ -13,7 +13,8 @@ use Rattle.session_rules.specs.Refusal.{line, first_refusal}
 use Rattle.session_rules.specs.Session.{nothing_kept, Session, with_nets}
 use Rattle.session_rules.specs.Sound.{bare, Sound, addable?, lifts?}
 use Rattle.session_laws.proofs.Stays.{fresh_bare}
-use Rattle.session_laws.proofs.Rising.{From, from_rising}
+use Rattle.session_laws.specs.Rising.{From}
+use Rattle.session_laws.proofs.Rising.{from_rising}
 use Rattle.words.specs.BoardWord.{row_word, taken_word, end_word}
 use Rattle.call_rules.specs.Result.{yes, and_then}
 use Rattle.call_rules.specs.Reading.{

@@ -14,7 +14,7 @@ use Rattle.board_convex.proofs.Exact.{is-convex}
 use Rattle.net.specs.declared.Net.{Net}
 use Rattle.session_rules.specs.Session.{Session}
 use Rattle.session_rules.specs.Sound.{Sound, addable?}
-use Rattle.session_laws.proofs.Rising.{From}
+use Rattle.session_laws.specs.Rising.{From}
 use Rattle.session_laws.proofs.Stays.{sound_fine}
 use Rattle.words.specs.BoardWord.{row_word, taken_word, net_word, end_word}
 use Rattle.call_rules.specs.Result.{yes}

@@ -15,7 +15,7 @@ use Rattle.board_convex.proofs.Corners.{degree_range}
 use Rattle.board_pins.specs.Pins.{frame_sum, all_pins}
 use Rattle.board_pins.proofs.Frame.{frame_le, frame_add, frame_get}
 use Rattle.board_pins.proofs.AtVertex.{pins_degree}
-use Rattle.board_pins.proofs.Law.{pins-few}
+use Rattle.board_pins.proofs.FewPins.{pins-few}
 use Rattle.net.specs.declared.Pair.{Pair}
 use Rattle.net.specs.Terminals.{same, ends, terminals}
 use Rattle.net.specs.Same.{same_self, same_exact}

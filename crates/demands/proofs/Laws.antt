@@ -24,7 +24,7 @@ use Rattle.session_laws.proofs.Moves.{moves, refused-exactly}
 use Rattle.session_laws.proofs.Few.{few_nets}
 use Rattle.session_laws.proofs.BoardStays.{board_stays}
 use Rattle.session_laws.proofs.Untaken.{sound_untaken}
-use Rattle.session_laws.proofs.Fine.{AllGood}
+use Rattle.session_laws.specs.Fine.{AllGood}
 use Rattle.session_laws.proofs.Stays.{sound_fine, stays_sound}
 use Rattle.session.specs.View.{session_of}
 use Rattle.session.specs.Value.{with_each, none_added, add_all_of}

@@ -10,7 +10,8 @@ use Rattle.count.specs.TruthLaws.{bool, bool_eq, eq_or_ne}
 use Rattle.board.specs.Board.{Board, Within, Edge}
 use Rattle.net.specs.declared.Net.{Net}
 use Rattle.routing_rules.specs.Routing.{edges_from, trails, uses, Routing}
-use Rattle.session_laws.proofs.Rising.{From, from_less}
+use Rattle.session_laws.specs.Rising.{From}
+use Rattle.session_laws.proofs.Rising.{from_less}
 use Rattle.call_rules.specs.Shape.{PathAt}
 use Rattle.call_rules.specs.Report.{directions}
 use Rattle.call_rules.specs.Alike.{Alike, alike?}

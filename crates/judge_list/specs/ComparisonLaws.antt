@@ -12,7 +12,8 @@ use Rattle.net.specs.declared.Held.TheVariants.{Nothing, Ends}
 use Rattle.net.specs.declared.Place.{Place}
 use Rattle.routing_rules.specs.Routing.{Routing}
 use Rattle.session_rules.specs.Session.{pairs}
-use Rattle.session_laws.proofs.Rising.{From, from_less}
+use Rattle.session_laws.specs.Rising.{From}
+use Rattle.session_laws.proofs.Rising.{from_less}
 use Rattle.net_places.specs.Places.{held_net, nets_from, nets_of}
 use Rattle.call_rules.specs.Result.{Result, no, yes, and_then}
 use Rattle.call_rules.proofs.Results.{yes_same, passed, then_yes}

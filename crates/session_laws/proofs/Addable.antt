@@ -12,8 +12,9 @@ use Rattle.session_rules.specs.Add.{accepts}
 use Rattle.session_rules.specs.Sound.{addable?}
 use Rattle.session_laws.proofs.Accept.{Free, free_of, free_accepted}
 use Rattle.session_laws.proofs.Insert.{holds_insert, terminals_insert}
-use Rattle.session_laws.proofs.Rising.{From}
-use Rattle.session_laws.proofs.Fine.{AllGood, Room, Fine, good_of, room_insert, first_there, second_there}
+use Rattle.session_laws.specs.Rising.{From}
+use Rattle.session_laws.specs.Fine.{AllGood, Room, Fine}
+use Rattle.session_laws.proofs.FineLaws.{good_of, room_insert, first_there, second_there}
 
 -- DEFINITION: with the nets that are on already, no vertex has more terminals than pins
 abbrev RoomWith : Block → List Net → List Net → Type 0

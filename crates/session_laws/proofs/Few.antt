@@ -20,7 +20,7 @@ use Rattle.board_block.specs.declared.TakenPins.{TakenPins}
 use Rattle.board_convex.proofs.Places.{vertex_in_row}
 use Rattle.board_pins.specs.Pins.{frame_sum, all_pins}
 use Rattle.board_pins.proofs.Frame.{frame_le, frame_add, frame_get}
-use Rattle.board_pins.proofs.Law.{pins-few}
+use Rattle.board_pins.proofs.FewPins.{pins-few}
 use Rattle.net.specs.Terminals.{same}
 use Rattle.net.specs.Same.{same_self}
 use Rattle.net.specs.declared.Net.{Net}
@@ -29,8 +29,8 @@ use Rattle.session_rules.specs.Session.{Session, insert}
 use Rattle.session_rules.specs.Add.{add_refused}
 use Rattle.session_rules.specs.Machine.{add_all, Step, stop_or, add_all_step, added, step}
 use Rattle.session_rules.specs.Sound.{Sound}
-use Rattle.session_laws.proofs.Rising.{From}
-use Rattle.session_laws.proofs.Fine.{AllGood}
+use Rattle.session_laws.specs.Rising.{From}
+use Rattle.session_laws.specs.Fine.{AllGood}
 use Rattle.session_laws.proofs.Stays.{sound_fine, add_stays}
 
 -- numbers that rise from k on and end by 64

@@ -3,7 +3,7 @@ pub mod Addable
 pub mod BoardStays
 pub mod Exact
 pub mod Few
-pub mod Fine
+pub mod FineLaws
 pub mod InOrder
 pub mod Insert
 pub mod Moves

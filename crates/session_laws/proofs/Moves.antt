@@ -25,9 +25,10 @@ use Rattle.session_rules.specs.OneByOne.{singly}
 use Rattle.session_rules.specs.Sound.{addable?, Sound, bare, call}
 use Rattle.session_rules.specs.Moves.{NoneOver, Moves, NoneRefused, Afresh, OneOverTaken, RefusedAfresh}
 use Rattle.session_laws.proofs.Exact.{call_step, unsound_call}
-use Rattle.session_laws.proofs.Rising.{From, rising_from}
+use Rattle.session_laws.specs.Rising.{From}
+use Rattle.session_laws.proofs.Rising.{rising_from}
 use Rattle.session_laws.proofs.InOrder.{Below, below_more, one_more, below_next, accepted_none}
-use Rattle.session_laws.proofs.Fine.{Fine}
+use Rattle.session_laws.specs.Fine.{Fine}
 use Rattle.session_laws.proofs.Addable.{fine_of, fine_addable}
 use Rattle.session_laws.proofs.NewRule.{over_none, over_first, taken-new, fine-new, new_none_over}
 use Rattle.session_laws.proofs.Stays.{sound_fine, stays_sound}

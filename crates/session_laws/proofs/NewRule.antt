@@ -29,7 +29,8 @@ use Rattle.net.specs.Same.{same_self}
 use Rattle.net.specs.declared.Net.{Net}
 use Rattle.session_rules.specs.NewRule.{under_new, new_pins, pins_used, over_new?}
 use Rattle.session_rules.specs.Moves.{FirstOver, NoneOver}
-use Rattle.session_laws.proofs.Fine.{Fine, good_on}
+use Rattle.session_laws.specs.Fine.{Fine}
+use Rattle.session_laws.proofs.FineLaws.{good_on}
 
 -- ── the search ──
 module _ (b : Block) (ns : List Net) where

@@ -1,5 +1,6 @@
 -- Nets in rising number: putting one in and taking one out keep it, and a net that was taken out goes back to its place.
 -- Assumes nothing.
+use Rattle.session_laws.specs.Rising.{From}
 use Rattle.std.specs.Prelude.{◌≡◌, refl, Bool, true, false, cond, ◌||◌, List, [], ◌∷◌, ℕ, suc, ◌≤◌, ◌<◌, eqb, ltb}
 use Rattle.std.proofs.Common.{sym, inl, inr, arith, ltb-true, ltb-false, eqb-true, lt-ltb, le-ltb, ne_eqb}
 use Rattle.std.proofs.Math.Option.{some}
@@ -9,11 +10,6 @@ use Rattle.net.specs.declared.Net.{Net}
 use Rattle.session_rules.specs.Session.{holds, insert, remove, net_of}
 use Rattle.session_rules.specs.Sound.{rising?}
 use Rattle.session_laws.proofs.Insert.{net_of_number, net_of_holds, remove_absent}
-
--- DEFINITION: the numbers rise, from k on
-abbrev pub From : ℕ → List Net → Type 0
-From k [] = Unit {0}
-From k (n ∷ ns) = (k ≤ n.number) × From (suc n.number) ns
 
 -- ── the test of it ──
 from_after : (m : Net) (ns : List Net) → rising? (m ∷ ns) ≡ true → From (suc m.number) ns

@@ -59,7 +59,8 @@ use Rattle.session_laws.proofs.Names.{keep_stores, keep_other}
 use Rattle.session_laws.proofs.Accept.{free_of, free_accepted}
 use Rattle.session_laws.proofs.Insert.{net_of_number, recorded_insert, remove_insert}
 use Rattle.session_laws.proofs.Rising.{rising_from, from_rising, insert_remove}
-use Rattle.session_laws.proofs.Fine.{Fine, fine_insert, fine_remove, free_removed}
+use Rattle.session_laws.specs.Fine.{Fine}
+use Rattle.session_laws.proofs.FineLaws.{fine_insert, fine_remove, free_removed}
 use Rattle.session_laws.proofs.Addable.{fine_of, fine_addable}
 use Rattle.session_laws.proofs.NewRule.{taken-new, fine-new, over_none}
 

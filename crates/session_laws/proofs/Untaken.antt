@@ -19,7 +19,7 @@ use Rattle.session_rules.specs.Machine.{reversed}
 use Rattle.session_rules.specs.Sound.{rising?, addable?, liftable?, lifts?, Sound}
 use Rattle.session_laws.proofs.Accept.{free_of, free_accepted}
 use Rattle.session_laws.proofs.Rising.{rising_from}
-use Rattle.session_laws.proofs.Fine.{good_on}
+use Rattle.session_laws.proofs.FineLaws.{good_on}
 use Rattle.session_laws.proofs.Addable.{fine_of, fine_addable}
 
 -- two blocks on one board, of which the second has as many pins or more at every vertex

@@ -25,7 +25,8 @@ use Rattle.net.specs.declared.Place.{Place}
 use Rattle.net_terminals.specs.Counts.{Counts}
 use Rattle.session_rules.specs.Sound.{addable?}
 use Rattle.session_laws.proofs.Rising.{rising_from}
-use Rattle.session_laws.proofs.Fine.{Good, AllGood, first_there, second_there}
+use Rattle.session_laws.specs.Fine.{Good, AllGood}
+use Rattle.session_laws.proofs.FineLaws.{first_there, second_there}
 use Rattle.session_laws.proofs.Addable.{fine_of, fine_addable}
 use Rattle.net_places.specs.Places.{net, held_net, nets_from, nets_of}
 use Rattle.net_places.proofs.NetsLaws.{pairs-of, rising_of}

@@ -5,38 +5,16 @@ use Rattle.std.specs.Prelude.{◌≡◌, refl, Bool, true, false, cond, List, []
 use Rattle.std.proofs.Common.{ap, sym, ◌∙◌, arith, eqb-true}
 use Rattle.std.proofs.Math.Option.{Option, some}
 use Rattle.count.specs.TruthLaws.{clash, and_true}
-use Rattle.board.specs.Degree.{vertex?}
 use Rattle.board.specs.declared.Vertex.{Vertex}
 use Rattle.board_block.specs.Block.{Block, pins_of}
 use Rattle.net.specs.Terminals.{same, ends, terminals}
 use Rattle.net.specs.declared.Net.{Net}
 use Rattle.session_rules.specs.Session.{pairs, insert, remove, net_of}
+use Rattle.session_laws.specs.Fine.{Good, AllGood, Room, Fine}
 use Rattle.session_laws.proofs.Accept.{Free}
 use Rattle.net.specs.Same.{same_self}
 use Rattle.session_laws.proofs.Insert.{terminals_insert, terminals_remove, holds_removed, net_of_number}
-use Rattle.session_laws.proofs.Rising.{From, from_insert, from_remove, insert_remove}
-
--- DEFINITION: a net by itself is one that may stand on the board
-pub record Good (b : Block) (n : Net) : Type 0 where
-  pub low : 1 ≤ n.number
-  pub high : n.number ≤ 64
-  pub first : vertex? b.board n.ends.first ≡ true
-  pub second : vertex? b.board n.ends.second ≡ true
-  pub apart : same n.ends.first n.ends.second ≡ false
-
--- DEFINITION: each of the nets is
-abbrev pub AllGood : Block → List Net → Type 0
-AllGood b [] = Unit {0}
-AllGood b (n ∷ ns) = Good b n × AllGood b ns
-
--- DEFINITION: no vertex has more terminals than pins
-abbrev pub Room : Block → List Net → Type 0
-Room b ns = (v : Vertex) → terminals (pairs ns) v ≤ pins_of b v
-
-pub record Fine (b : Block) (ns : List Net) : Type 0 where
-  pub rising : From 0 ns
-  pub good : AllGood b ns
-  pub room : Room b ns
+use Rattle.session_laws.proofs.Rising.{from_insert, from_remove, insert_remove}
 
 pub good_of : (b : Block) (ns : List Net) (n : Net) → Free b ns n → Good b n
 good_of b ns n f = record { low = f.low; high = f.high; first = f.first; second = f.second; apart = f.apart }
