@@ -1,2 +1,2 @@
-// How many pins a convex board has: definitions and laws, in specs/, Law first. There is no code.
+// How many pins a convex board has: definitions in specs/, laws in proofs/, Law first. There is no code.
 #![tactic(auto)]

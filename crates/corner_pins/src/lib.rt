@@ -1,2 +1,2 @@
-// How many nets and helper pairs a convex board can have: at most 64 together. All of it is in specs/; there is no code.
+// How many nets and helper pairs a convex board can have: at most 64 together. All of it is in proofs/; there is no code.
 #![tactic(auto)]

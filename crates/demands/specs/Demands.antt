@@ -348,7 +348,7 @@ pub record Demand1 : Type 0 where
 -- ── 2 ──
 pub record Demand2 : Type 0 where
   -- "A board is taken as convex exactly when any two of its vertices are joined inside it by a path with at most one bend."
-  -- (reading refuses with 16, and a session is unsound, by the same test isConvex)
+  -- (reading refuses with 16, and a session is unsound, by the same test is_convex)
   pub convex : (b : code-board.Board) (r : Bool) → Decides r (is_convex (board_of b)) (Within (board_of b) × Convex (board_of b)) → Within (board_of b)
       → (r ≡ true) ↔ Convex (board_of b)
   pub taken : (b : Board) → Within b → (is_convex b ≡ true) ↔ Convex b

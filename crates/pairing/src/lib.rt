@@ -1,2 +1,3 @@
-// Which helper pairs the search finds, and that it finds some exactly where the nets can be joined: in specs/. There is no code.
+// Which helper pairs the search finds, and that it finds some exactly where the nets can be joined: Search in specs/, laws in
+// proofs/. There is no code.
 #![tactic(auto)]

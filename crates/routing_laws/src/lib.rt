@@ -1,2 +1,2 @@
-// How many edges a routing uses, and how many words it has: laws, in specs/. There is no code.
+// How many edges a routing uses, and how many words it has: laws, in proofs/. There is no code.
 #![tactic(auto)]

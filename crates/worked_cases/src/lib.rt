@@ -1,2 +1,2 @@
-// The table "Boards to be proved" and examples of every definition: in specs/. There is no code.
+// The table "Boards to be proved" and examples of every definition: boards in specs/, cases in proofs/. There is no code.
 #![tactic(auto)]

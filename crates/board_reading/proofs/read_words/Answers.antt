@@ -2,25 +2,22 @@
 use Rattle.board_reading.proofs.PromiseLaws.{refused_read, scan_refused, bent-refused, pin-refused, net-refused, session-read}
 use Rattle.call_rules.specs.Reading.{read_words}
 use mathlib.Core.Path.{sym, ◌∙◌}
+use borrow.Author.Rules.{rules}
+use native.Mathlib.Omega.{arith}
 use Rattle.board_reading.proofs.read_words.Goals as goal
 
 pub returns-then-number-ne0 : goal.returns-then-number-ne0
 returns-then-number-ne0 c =
     let ws = c.args.words.now in
     let s = c.scan_words-scanned in
-    refused_read (read_words ws) s.result.number s.result.index _ c.refused.ensures
+    refused_read (read_words ws) s.result.number s.result.index _ (search rules)
     (scan_refused ws s.result s.ensures c.if-number-ne0.true)
 
 pub returns-then-bent : goal.returns-then-bent
 returns-then-bent c =
-    let if2 = c.if-bent in
-    let if1 = c.if-number-ne0 in
-    let is-convex = c.is_convex-bent in
-    let scan-words = c.scan_words-scanned in
-    let args = c.args in
-    let ws = args.words.now in let s = scan-words in let x = is-convex in
-    refused_read (read_words ws) 16 0 _ c.refused-then-bent.ensures
-    (bent-refused ws s.result s.ensures if1.false (sym x.ensures.same ∙ if2.true))
+    let ws = c.args.words.now in let s = c.scan_words-scanned in let x = c.is_convex-bent in
+    refused_read (read_words ws) 16 0 _ (search rules)
+    (bent-refused ws s.result s.ensures (omega arith) (sym x.ensures.same ∙ c.if-bent.true))
 
 pub returns-then-put : goal.returns-then-put
 returns-then-put c =

@@ -14,11 +14,9 @@ returns-then-unsound c =
 
 pub returns-then-short : goal.returns-then-short
 returns-then-short c =
-    let if2 = c.if-short in
-    let if1 = c.if-unsound in
     let sound = c.sound-unsound in
     let args = c.args in
-    first-37 (session_of args.s) args.room (sym sound.ensures.same ∙ if1.false) (lt-ltb _ _ if2.true)
+    first-37 (session_of args.s) args.room (cc sound.ensures.same) (lt-ltb _ _ c.if-short.true)
 
 pub returns : goal.returns
 returns c =

@@ -19,12 +19,11 @@ returns-then-off c =
 
 pub returns-then-again : goal.returns-then-again
 returns-then-again c =
-    let if1 = c.if-off in
     let is-edge = c.is_edge-off in
     let slot_of = c.slot_of-slot in
     let loop-test = c.loop-left-test in
     let loop = c.loop-left in
-    along-again loop.invariant loop-test.true (sym is-edge.ensures.same ∙ if1.false) slot_of.ensures.value
+    along-again loop.invariant loop-test.true (cc is-edge.ensures.same) slot_of.ensures.value
     (c.if-again.true)
 
 pub bounds-used-slot-in-loop-left : goal.bounds-used-slot-in-loop-left
