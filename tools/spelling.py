@@ -1,7 +1,7 @@
 #!/usr/bin/env python3
 """Brings the repository's own definitions and lemmas to today's spelling: everything but types, facts and modules is in snake case.
 
-usage: python3 tools/spelling.py      at the top, once, right after /opt/rattle/port/port.py
+usage: python3 tools/spelling.py      at the top, once, right after the kit's port.py
 
 It reads the names that specs/ and proofs/ declare (top-level names, constructors, fields), respells those in lower camel case or with dashes,
 and puts the new name wherever the old one stands as a whole word: in specs/, proofs/, the clauses of src/ and the must-fail edits, and in comments
