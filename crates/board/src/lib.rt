@@ -4,14 +4,12 @@
 ghost use Rattle.std.specs.Prelude.{◌≡◌, ◌-◌, ◌≤◌, get_or};
 ghost use Rattle.count.specs.Truth.{one, Decides};
 ghost use Rattle.board.specs.Board.{no_row, right, IsVertex, IsEdge};
-ghost use Rattle.board.specs.Path.{along};
+ghost use Rattle.board.specs.Path.{along, number};
 ghost use Rattle.board.specs.Degree.{cell?, below_right, below_left, above_right, above_left, vertex?, edge?};
 ghost use Rattle.board.specs.View.{board_of};
 
-use numbers::{before, wide};
-
 // A row of unit cells, from column left to column right.
-#[derive(Clone, Copy)]
+#[derive(Clone, Copy, PartialEq, Eq)]
 pub struct Row {
     pub left: u8,
     pub right: u8,
@@ -24,14 +22,14 @@ pub struct Board {
     pub rows: [Row; 31],
 }
 
-// The place where a line and a column meet.
-#[derive(Clone, Copy)]
+// The place where a line and a column meet. One comes before another in reading order: line by line and column by column.
+#[derive(Clone, Copy, PartialEq, Eq, PartialOrd, Ord)]
 pub struct Vertex {
     pub line: u8,
     pub column: u8,
 }
 
-#[derive(Clone, Copy)]
+#[derive(Clone, Copy, PartialEq, Eq)]
 pub enum Direction {
     Up,
     Right,
@@ -39,23 +37,22 @@ pub enum Direction {
     Left,
 }
 
-// 1 for true, 0 for false.
-pub fn bit(t: bool) -> u8
-    ensures value { result ≡ one t }
-    ensures upper_bound { result ≤ 1 }
-{
-    if t { 1 } else { 0 }
+// 0 up, 1 right, 2 down, 3 left.
+impl From<Direction> for u8 {
+    ghost from_gives = { λ d n. (n ≡ number d) × (n ≤ 3) };
+
+    fn from(d: Direction) -> u8 {
+        d as u8
+    }
 }
 
 // The row at place i, or one of no cell past the last place.
 fn row_at(rows: [Row; 31], i: u8) -> Row
     ensures { result ≡ get_or rows i no_row }
 {
-    let at = wide(i);
-    if at < 31 {
-        rows[at]
-    } else {
-        Row { left: 0, right: 0 }
+    match rows.get(usize::from(i)) {
+        Some(row) => *row,
+        None => Row { left: 0, right: 0 },
     }
 }
 
@@ -64,9 +61,7 @@ pub fn right_of(b: Board, i: u8) -> u8
     ensures { result ≡ right (board_of b) i }
 {
     if i < b.count {
-        let rows = b.rows;
-        let row = row_at(rows, i);
-        row.right
+        row_at(b.rows, i).right
     } else {
         0
     }
@@ -76,8 +71,7 @@ pub fn right_of(b: Board, i: u8) -> u8
 fn is_cell(b: Board, i: u8, j: u8) -> bool
     ensures { result ≡ cell? (board_of b) i j }
 {
-    let rows = b.rows;
-    let row = row_at(rows, i);
+    let row = row_at(b.rows, i);
     (i < b.count) & ((row.left <= j) & (j < row.right))
 }
 
@@ -91,19 +85,20 @@ pub fn below_right(b: Board, v: Vertex) -> bool
 pub fn below_left(b: Board, v: Vertex) -> bool
     ensures { result ≡ below_left (board_of b) v }
 {
-    (0 < v.column) & is_cell(b, v.line, before(v.column))
+    (0 < v.column) & is_cell(b, v.line, v.column.saturating_sub(1))
 }
 
 pub fn above_right(b: Board, v: Vertex) -> bool
     ensures { result ≡ above_right (board_of b) v }
 {
-    (0 < v.line) & is_cell(b, before(v.line), v.column)
+    (0 < v.line) & is_cell(b, v.line.saturating_sub(1), v.column)
 }
 
 pub fn above_left(b: Board, v: Vertex) -> bool
     ensures { result ≡ above_left (board_of b) v }
 {
-    ((0 < v.line) & (0 < v.column)) & is_cell(b, before(v.line), before(v.column))
+    ((0 < v.line) & (0 < v.column))
+        & is_cell(b, v.line.saturating_sub(1), v.column.saturating_sub(1))
 }
 
 // Is v a vertex of the board?

@@ -5,22 +5,21 @@ ghost use Rattle.std.specs.Prelude.{◌≡◌, ◌-◌, ◌≤◌, ◌<◌};
 ghost use Rattle.board.specs.View.{board_of};
 ghost use Rattle.board_block.specs.Book.{book_number, book_of, pins_by};
 ghost use Rattle.board_block.specs.Block.{pins_of};
-ghost use Rattle.board_block.specs.Taken.{comes_before, over_taken, taken_fine?};
+ghost use Rattle.board_block.specs.Taken.{over_taken, taken_fine?};
 ghost use Rattle.board_block.specs.View.{vertex_at, block_of, entry_of, there_at, with_taken, with_book, plain_of};
 ghost use Rattle.board_block.specs.Promise.{TakesPins};
 
 use board::{Board, Vertex};
-use numbers::wide;
 
 // The foundry's rule books, 0 the old and 1 the new: under the new one a vertex of degree 2 has one pin.
-#[derive(Clone, Copy)]
+#[derive(Clone, Copy, PartialEq, Eq)]
 pub enum Book {
     Old,
     New,
 }
 
 // So many pins of the vertex are taken.
-#[derive(Clone, Copy)]
+#[derive(Clone, Copy, PartialEq, Eq)]
 pub struct TakenPins {
     pub vertex: Vertex,
     pub count: u8,
@@ -46,30 +45,31 @@ pub fn plain(board: Board) -> Block
 }
 
 // 0 the old rule, 1 the new.
-pub fn book_number(book: Book) -> u8
-    ensures value { result ≡ book_number book }
-    ensures upper_bound { result ≤ 1 }
-{
-    match book {
-        Book::Old => 0,
-        Book::New => 1,
+impl From<Book> for u8 {
+    ghost from_gives = { λ book number. (number ≡ book_number book) × (number ≤ 1) };
+
+    fn from(book: Book) -> u8 {
+        match book {
+            Book::Old => 0,
+            Book::New => 1,
+        }
     }
 }
 
 // The book of a number: 0 is the old rule's, any other is read as the new one's, which is 1.
-pub fn book_of(number: u8) -> Book
-    ensures { result ≡ book_of number }
-{
-    if number == 0 { Book::Old } else { Book::New }
+impl From<u8> for Book {
+    ghost from_gives = { λ number book. book ≡ book_of number };
+
+    fn from(number: u8) -> Book {
+        if number == 0 { Book::Old } else { Book::New }
+    }
 }
 
 // The block under this book; its board and taken pins stay.
 pub fn with_book(b: Block, book: Book) -> Block
     ensures { result ≡ with_book b book }
 {
-    let board = b.board;
-    let taken = b.taken;
-    Block { board, book, taken }
+    Block { book, ..b }
 }
 
 // The count of pins at v before any are taken.
@@ -89,7 +89,7 @@ fn taken_at(pins: &[u8; 1024], v: Vertex) -> u8
 {
     if v.line < 32 {
         if v.column < 32 {
-            let at = wide(v.line) * 32 + wide(v.column);
+            let at = usize::from(v.line) * 32 + usize::from(v.column);
             return pins[at];
         }
     }
@@ -100,9 +100,7 @@ fn taken_at(pins: &[u8; 1024], v: Vertex) -> u8
 pub fn pins_left(book: Book, b: Board, taken: &[u8; 1024], v: Vertex) -> u8
     ensures { result ≡ pins_by book (board_of b) v - entry_of taken.now v }
 {
-    let all = pins_by(book, b, v);
-    let gone = taken_at(taken, v);
-    if gone < all { all - gone } else { 0 }
+    pins_by(book, b, v).saturating_sub(taken_at(taken, v))
 }
 
 // The count of pins at v that nets may use.
@@ -110,13 +108,6 @@ pub fn pins_of(b: Block, v: Vertex) -> u8
     ensures { result ≡ pins_of (block_of b) v }
 {
     pins_left(b.book, b.board, &b.taken, v)
-}
-
-// Does u come before v in reading order?
-pub fn comes_before(u: Vertex, v: Vertex) -> bool
-    ensures { result ≡ comes_before u v }
-{
-    (u.line < v.line) | ((u.line == v.line) & (u.column < v.column))
 }
 
 // Is the vertex missing, or has it fewer pins than are taken?
@@ -134,7 +125,7 @@ pub fn put_taken(t: TakenPins, pins: &mut [u8; 1024])
     let v = t.vertex;
     if v.line < 32 {
         if v.column < 32 {
-            let at = wide(v.line) * 32 + wide(v.column);
+            let at = usize::from(v.line) * 32 + usize::from(v.column);
             pins[at] = t.count;
         }
     }
@@ -144,11 +135,9 @@ pub fn put_taken(t: TakenPins, pins: &mut [u8; 1024])
 pub fn with_taken(b: Block, t: TakenPins) -> Block
     ensures { TakesPins b t result }
 {
-    let board = b.board;
-    let book = b.book;
-    let mut taken = b.taken;
-    put_taken(t, &mut taken);
-    Block { board, book, taken }
+    let mut next = b;
+    put_taken(t, &mut next.taken);
+    next
 }
 
 // The vertex of a place.
@@ -178,12 +167,9 @@ fn is_there(book: Book, b: Board, place: usize, count: u8) -> bool
 pub fn is_fine(b: Block) -> bool
     ensures { result ≡ taken_fine? (block_of b) }
 {
-    let board = b.board;
-    let book = b.book;
-    let pins = b.taken;
     let mut ok = true;
-    for i in 0..1024 {
-        ok = ok & is_there(book, board, i, pins[i]);
+    for (place, count) in b.taken.iter().enumerate() {
+        ok = ok & is_there(b.book, b.board, place, *count);
     }
     ok
 }

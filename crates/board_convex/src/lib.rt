@@ -9,7 +9,6 @@ ghost use Rattle.board.specs.View.{board_of};
 ghost use Rattle.board_convex.specs.Test.{rows_fit, contains?, peels, innermost, in_limits, is_convex};
 
 use board::{Board, Row};
-use numbers::wide;
 
 // Has each of the first n rows a cell, and does it end by column 31?
 fn rows_fit(rows: [Row; 31], n: usize) -> bool
@@ -17,8 +16,7 @@ fn rows_fit(rows: [Row; 31], n: usize) -> bool
     ensures { result ≡ rows_fit rows n }
 {
     let mut ok = true;
-    for i in 0..n {
-        let row = rows[i];
+    for row in &rows[..n] {
         ok = ok & ((row.left < row.right) & (row.right <= 31));
     }
     ok
@@ -66,7 +64,7 @@ pub fn within(b: Board) -> bool
     let n = b.count;
     let rows = b.rows;
     if (1 <= n) & (n <= 31) {
-        rows_fit(rows, wide(n))
+        rows_fit(rows, usize::from(n))
     } else {
         false
     }
@@ -79,7 +77,7 @@ pub fn is_convex(b: Board) -> bool
     if within(b) {
         let n = b.count;
         let rows = b.rows;
-        peel(rows, wide(n - 1))
+        peel(rows, usize::from(n - 1))
     } else {
         false
     }

@@ -52,7 +52,7 @@ pub fn kind_of(b: Board, v: Vertex) -> VertexKind
     let ar = board::above_right(b, v);
     let bl = board::below_left(b, v);
     let br = board::below_right(b, v);
-    let cells = (board::bit(al) + board::bit(ar)) + (board::bit(bl) + board::bit(br));
+    let cells = (u8::from(al) + u8::from(ar)) + (u8::from(bl) + u8::from(br));
     kind_by(cells, (al & br) | (ar & bl))
 }
 

@@ -9,7 +9,6 @@ ghost use Rattle.board_convex.specs.Form.{width};
 ghost use Rattle.board_edges.specs.EdgeCount.{edge_count};
 
 use board::Board;
-use numbers::{larger, wide};
 
 // How wide row i is.
 fn width_of(b: Board, i: u8) -> u8
@@ -17,7 +16,7 @@ fn width_of(b: Board, i: u8) -> u8
     ensures { result ≡ width (board_of b) i }
 {
     let rows = b.rows;
-    let row = rows[wide(i)];
+    let row = rows[usize::from(i)];
     row.right - row.left
 }
 
@@ -31,8 +30,8 @@ pub fn edge_count(b: Board) -> usize
     let mut widest: u8 = 0;
     for i in 0..rows {
         let width = width_of(b, i);
-        edges += 2 * wide(width) + 1;
-        widest = larger(widest, width);
+        edges += 2 * usize::from(width) + 1;
+        widest = widest.max(width);
     }
-    edges + wide(widest)
+    edges + usize::from(widest)
 }

@@ -1,27 +1,28 @@
 -- The pass that adds the nets of a list of words: it is that of the definition of reading.
 -- Assumes nothing.
-use Rattle.std.specs.Prelude.{◌≡◌, Bool, false, not, ℕ, zero, suc, ◌+◌, ◌<◌, ◌≤◌, length, drop, get_or, replicate}
+use Rattle.std.specs.Prelude.{◌≡◌, ℕ, zero, suc, ◌+◌, ◌<◌, length, drop, get_or, replicate}
 use Rattle.std.proofs.Math.Path.{refl, ap}
 use Rattle.std.proofs.Common.{sym, ◌∙◌, arith, length-set}
 use Rattle.std.proofs.Math.Bool.{true}
-use mathlib.Core.List.{List, [], ◌∷◌}
+use mathlib.Core.List.{List, []}
 use Rattle.std.proofs.Math.Option.{Option, none, some}
-use Rattle.board.specs.Degree.{vertex?}
 use Rattle.board_block.specs.Block.{Block}
-use Rattle.net.specs.Terminals.{same}
-use Rattle.net.specs.View.{nothing}
+use Rattle.net.specs.View.{Held, nothing}
 use Rattle.net.specs.declared.Net.{Net}
-use Rattle.net.specs.declared.Place.{Place}
-use Rattle.session_rules.specs.Refusal.{Refusal, refusal, line, first_refusal}
-use Rattle.session_rules.specs.Session.{holds, insert}
-use Rattle.session_rules.specs.Add.{good_number, full, add_lines, add_refused, is_none, accepts}
+use Rattle.session_rules.specs.Refusal.{Refusal, refusal}
+use Rattle.session_rules.specs.Session.{insert}
+use Rattle.session_rules.specs.Add.{add_refused, is_none, accepts}
 use Rattle.session_laws.proofs.Accept.{free_of}
 use Rattle.net_places.specs.Numbered.{replaced}
 use Rattle.net_places.specs.Places.{holding, nets_from, nets_of}
 use Rattle.net_places.proofs.NetsLaws.{insert_of}
-use Rattle.session_answers.specs.Answers.{told}
-use Rattle.session_add.specs.Check.{answered}
-use Rattle.session_answers.specs.declared.Told.{Told}
+use Rattle.session_answers.specs.Answers.{add_answer, add_refusal}
+use Rattle.session_answers.specs.declared.AddRefusal.{AddRefusal}
+use Rattle.session_rules.specs.Machine.{refused}
+use Rattle.std.specs.Prelude.{Result, Err, is_ok}
+use Rattle.session_add.specs.Check.{answered, check_answer, check_accepts}
+use Rattle.session_add.specs.Lines.{check_of}
+use Rattle.count.specs.TruthLaws.{clash}
 use Rattle.words.specs.BoardWord.{board_word}
 use Rattle.words.specs.declared.BoardWord.{BoardWord}
 use Rattle.words.specs.declared.BoardWord.TheVariants as word
@@ -29,120 +30,78 @@ use Rattle.call_rules.specs.Result.{no, yes}
 use Rattle.call_rules.specs.Reading.{Listed, add_listed}
 use Rattle.board_reading.specs.Listed.{list_then, listed}
 use Rattle.board_reading.proofs.ListedLaws.{listed_more, listed_none}
-use Rattle.board_reading.specs.Adding.{added_net, added_word, Adding}
+use Rattle.board_reading.specs.Adding.{Adding}
 
 -- ── the code's answer to add is the definition's refusal ──
--- a refusal of add has a number above 0
-line_number : (a b c d e f g : Bool) (r : Refusal)
-    → first_refusal (line a 21 0 ∷ line b 22 0 ∷ line c 23 0 ∷ line d 23 1 ∷ line e 24 0 ∷ line f 25 0 ∷ line g 25 1 ∷ []) ≡ some r
-    → 1 ≤ r.number
-line_number true b c d e f g r h = let q : r ≡ refusal 21 0 = cc in omega (arith, ap (λ (x : Refusal). x.number) q)
-line_number false true c d e f g r h = let q : r ≡ refusal 22 0 = cc in omega (arith, ap (λ (x : Refusal). x.number) q)
-line_number false false true d e f g r h = let q : r ≡ refusal 23 0 = cc in omega (arith, ap (λ (x : Refusal). x.number) q)
-line_number false false false true e f g r h = let q : r ≡ refusal 23 1 = cc in omega (arith, ap (λ (x : Refusal). x.number) q)
-line_number false false false false true f g r h = let q : r ≡ refusal 24 0 = cc in omega (arith, ap (λ (x : Refusal). x.number) q)
-line_number false false false false false true g r h = let q : r ≡ refusal 25 0 = cc in omega (arith, ap (λ (x : Refusal). x.number) q)
-line_number false false false false false false true r h = let q : r ≡ refusal 25 1 = cc in omega (arith, ap (λ (x : Refusal). x.number) q)
-line_number false false false false false false false r h = absurd (let q : ◌≡◌ {A = ℕ} 0 1 = cc in omega arith)
-
-refused_number : (b : Block) (ns : List Net) (n : Net) (r : Refusal) → add_refused b ns n ≡ some r → 1 ≤ r.number
-unfolding add_refused add_lines
-refused_number b ns n r h =
-    line_number (not (good_number n.number)) (holds n.number ns) (not (vertex? b.board n.ends.first))
-    (not (vertex? b.board n.ends.second))
-    (same n.ends.first n.ends.second) (full b ns n.ends.first) (full b ns n.ends.second) r h
-
-module _ (t : Told) where
-  told_accepted : (o : Option Refusal) → ((r : Refusal) → o ≡ some r → 1 ≤ r.number) → t ≡ told (answered o) → t.number ≡ 0 → o ≡ none
-  told_accepted none above e z = refl
-  told_accepted (some r) above e z = absurd (omega (arith, above r refl, ap (λ (x : Told). x.number) e))
-
-  told_refused : (o : Option Refusal) → t ≡ told (answered o) → (t.number ≡ 0 → ⊥) → (r : Refusal) × (o ≡ some r) × (r.number ≡ t.number)
-  told_refused none e z = absurd (z (ap (λ (x : Told). x.number) e))
-  told_refused (some r) e z = (r, refl, sym (ap (λ (x : Told). x.number) e))
-
-  pub told-added : (b : Block) (ps : List Place) (n : Net) → t ≡ told (answered (add_refused b (nets_of ps) n)) → t.number ≡ 0
-      → added_word b ps (word.Net n) ≡ record { number = 0; nets = replaced ps n.number (holding n.ends) }
-  unfolding added_word
-  told-added b ps n e z = rw (told_accepted (add_refused b (nets_of ps) n) (refused_number b (nets_of ps) n) e z) refl
-
-  pub told-kept : (b : Block) (ps : List Place) (n : Net) → t ≡ told (answered (add_refused b (nets_of ps) n)) → (t.number ≡ 0 → ⊥)
-      → added_word b ps (word.Net n) ≡ record { number = t.number; nets = ps }
-  unfolding added_word
-  told-kept b ps n e z = let k = told_refused (add_refused b (nets_of ps) n) e z in rw (k.1, k.2) refl
-
--- ── one word further ──
-module _ (b : Block) (ps : List Place) (size : length ps ≡ 64) (i : ℕ) (ls : List Listed) where
-  net-added : (n : Net) → add_refused b (nets_of ps) n ≡ none → nets_of (replaced ps n.number (holding n.ends)) ≡ insert n (nets_of ps)
+module _ (b : Block) (ns : List Net) (n : Net) (a : Result Unit AddRefusal) (e : a ≡ check_of b ns n) where
+  pub answer-none : is_ok a ≡ true → add_refused b ns n ≡ none
   unfolding accepts
-  net-added n e =
-      let f = free_of b (nets_of ps) n (let a : is_none (add_refused b (nets_of ps) n) ≡ true = rw e refl in a) in
-      insert_of ps n f.low (omega (arith, f.high)) f.new
+  answer-none h = go (add_refused b ns n) (sym (check_accepts b ns n) ∙ (sym (ap is_ok e) ∙ h))
+    where
+      go : (o : Option Refusal) → is_none o ≡ true → o ≡ none
+      go none f = refl
+      go (some r) f = absurd (clash f refl)
 
-  list-added : (n : Net) (o : Option Refusal) → add_refused b (nets_of ps) n ≡ o → (added_net o n ps).number ≡ 0
-      → add_listed b (nets_of ps) (record { index = i; net = n } ∷ ls) ≡ add_listed b (nets_of (added_net o n ps).nets) ls
-  unfolding add_listed
-  list-added n none e z = rw (e, net-added n e) refl
-  list-added n (some r) e z = absurd (omega (arith, refused_number b (nets_of ps) n r e))
+  pub answer-some : (r : AddRefusal) → a ≡ Err r → add_refused b ns n ≡ some (add_refusal r)
+  answer-some r h = go (add_refused b ns n) (sym (ap add_answer h) ∙ (ap add_answer e ∙ check_answer b ns n))
+    where
+      go : (o : Option Refusal) → refused (add_refusal r) ≡ answered o → o ≡ some (add_refusal r)
+      go none f = absurd (let z : ◌≡◌ {A = ℕ} 0 1 = cc in omega arith)
+      go (some q) f = cc
 
-  list-refused : (n : Net) (o : Option Refusal) (k : ℕ) → add_refused b (nets_of ps) n ≡ o → (added_net o n ps).number ≡ suc k
-      → add_listed b (nets_of ps) (record { index = i; net = n } ∷ ls) ≡ no (refusal (suc k) i)
-  unfolding add_listed
-  list-refused n none k e z = absurd (omega arith)
-  list-refused n (some r) k e z = rw (e, z) refl
+-- DEFINITION: the word says no net
+abbrev pub NoNet : BoardWord → Type 0
+NoNet w = (n : Net) → w ≡ word.Net n → ⊥
 
-  pub word-added : (w : BoardWord) → (added_word b ps w).number ≡ 0
-      → add_listed b (nets_of ps) (list_then i w ls) ≡ add_listed b (nets_of (added_word b ps w).nets) ls
-  unfolding added_word
-  word-added (word.Net n) z = list-added n (add_refused b (nets_of ps) n) refl z
-  word-added (word.Row r) z = refl
-  word-added (word.Taken p) z = refl
-  word-added (word.End c) z = refl
-  word-added word.Unknown z = refl
+none_listed : (i : ℕ) (w : BoardWord) (ls : List Listed) → NoNet w → list_then i w ls ≡ ls
+none_listed i (word.Row r) ls f = refl
+none_listed i (word.Taken p) ls f = refl
+none_listed i (word.Net n) ls f = absurd (f n refl)
+none_listed i (word.End c) ls f = refl
+none_listed i word.Unknown ls f = refl
 
-  pub word-refused : (w : BoardWord) (k : ℕ) → (added_word b ps w).number ≡ suc k → add_listed b (nets_of ps) (list_then i w ls) ≡ no (refusal (suc k) i)
-  unfolding added_word
-  word-refused (word.Net n) k z = list-refused n (add_refused b (nets_of ps) n) k refl z
-  word-refused (word.Row r) k z = absurd (omega arith)
-  word-refused (word.Taken p) k z = absurd (omega arith)
-  word-refused (word.End c) k z = absurd (omega arith)
-  word-refused word.Unknown k z = absurd (omega arith)
+-- the places with a net more
+net_size : (ps : List Held) (k : ℕ) (p : Held) → length (replaced ps k p) ≡ length ps
+net_size ps zero p = refl
+net_size ps (suc k) p = length-set ps k p
 
--- still 64 places
-net_size : (o : Option Refusal) (n : Net) (ps : List Place) → length (added_net o n ps).nets ≡ length ps
-net_size none n ps = go n.number
-  where
-    go : (k : ℕ) → length (replaced ps k (holding n.ends)) ≡ length ps
-    go zero = refl
-    go (suc k) = length-set ps k (holding n.ends)
-net_size (some r) n ps = refl
-
-pub word_size : (b : Block) (ps : List Place) (w : BoardWord) → length (added_word b ps w).nets ≡ length ps
-unfolding added_word
-word_size b ps (word.Net n) = net_size (add_refused b (nets_of ps) n) n ps
-word_size b ps (word.Row r) = refl
-word_size b ps (word.Taken p) = refl
-word_size b ps (word.End c) = refl
-word_size b ps word.Unknown = refl
+net-added : (b : Block) (ps : List Held) → length ps ≡ 64 → (n : Net) → add_refused b (nets_of ps) n ≡ none
+    → nets_of (replaced ps n.number (holding n.ends)) ≡ insert n (nets_of ps)
+unfolding accepts
+net-added b ps size n e =
+    let f = free_of b (nets_of ps) n (let a : is_none (add_refused b (nets_of ps) n) ≡ true = rw e refl in a) in
+    insert_of ps n f.low (omega (arith, f.high)) f.new
 
 pub adding_start : (b : Block) (ws : List ℕ) → Adding b ws 0 (replicate 64 nothing)
 unfolding nets_of nets_from
 adding_start b ws = record { rest = refl; size = refl }
 
-module _ (b : Block) (ws : List ℕ) (i : ℕ) (ps : List Place) (A : Adding b ws i ps) where
-  pub adding-more : i < length ws → (added_word b ps (board_word (get_or ws i 0))).number ≡ 0
-      → Adding b ws (i + 1) (added_word b ps (board_word (get_or ws i 0))).nets
-  adding-more h z = record {
-    rest = A.rest ∙ (ap (add_listed b (nets_of ps)) (listed_more ws i h)
-        ∙ word-added b ps A.size i (listed (i + 1) (drop (i + 1) ws)) (board_word (get_or ws i 0)) z);
-    size = word_size b ps (board_word (get_or ws i 0)) ∙ A.size;
-  }
+module _ (b : Block) (ws : List ℕ) (i : ℕ) (ps : List Held) (A : Adding b ws i ps) where
+  module _ (h : i < length ws) where
+    nets-here : add_listed b [] (listed 0 ws)
+        ≡ add_listed b (nets_of ps) (list_then i (board_word (get_or ws i 0)) (listed (i + 1) (drop (i + 1) ws)))
+    nets-here = A.rest ∙ ap (add_listed b (nets_of ps)) (listed_more ws i h)
 
-  pub adding-refused : i < length ws → (k : ℕ) → (added_word b ps (board_word (get_or ws i 0))).number ≡ suc k
-      → add_listed b [] (listed 0 ws) ≡ no (refusal (suc k) i)
-  adding-refused h k z =
-      A.rest ∙ (ap (add_listed b (nets_of ps)) (listed_more ws i h)
-      ∙ word-refused b ps A.size i (listed (i + 1) (drop (i + 1) ws)) (board_word (get_or ws i 0)) k z)
+    -- a net that is accepted
+    pub adding-net : (n : Net) → board_word (get_or ws i 0) ≡ word.Net n → add_refused b (nets_of ps) n ≡ none
+        → Adding b ws (i + 1) (replaced ps n.number (holding n.ends))
+    unfolding add_listed
+    adding-net n e f = record {
+      rest = nets-here ∙ rw (e, f, net-added b ps A.size n f) refl;
+      size = net_size ps n.number (holding n.ends) ∙ A.size;
+    }
+
+    -- another word is passed over
+    pub adding-other : NoNet (board_word (get_or ws i 0)) → Adding b ws (i + 1) ps
+    adding-other f = record {
+      rest = nets-here ∙ ap (add_listed b (nets_of ps)) (none_listed i (board_word (get_or ws i 0)) (listed (i + 1) (drop (i + 1) ws)) f);
+      size = A.size;
+    }
+
+    pub adding-refused : (n : Net) → board_word (get_or ws i 0) ≡ word.Net n → (r : Refusal) → add_refused b (nets_of ps) n ≡ some r
+        → add_listed b [] (listed 0 ws) ≡ no (refusal r.number i)
+    unfolding add_listed
+    adding-refused n e r f = nets-here ∙ rw (e, f) refl
 
   pub adding-end : i ≡ length ws → add_listed b [] (listed 0 ws) ≡ yes (nets_of ps)
   unfolding add_listed

@@ -9,7 +9,7 @@ use Rattle.std.proofs.Math.Seq.{drop-length}
 use Rattle.count.specs.TruthLaws.{clash, or_false}
 use Rattle.board.specs.Board.{Board}
 use Rattle.board_block.specs.Taken.{over_taken}
-use Rattle.board_block.specs.View.{none_taken, with_all}
+use Rattle.board_block.specs.View.{none_taken, with_taken, with_all}
 use Rattle.board_block.specs.declared.Book.{Book}
 use Rattle.board_block.specs.declared.Book.TheVariants.{Old}
 use Rattle.board_block.specs.declared.TakenPins.{TakenPins}
@@ -21,7 +21,7 @@ use Rattle.words.specs.declared.BoardWord.TheVariants as word
 use Rattle.call_rules.specs.Result.{yes}
 use Rattle.call_rules.specs.Reading.{Listed, Parsed, nothing_parsed, some?, not_after, pin_lines, take, take_words}
 use Rattle.board_roundtrip.specs.Accepted.{passes, nothing_after, no_end}
-use Rattle.board_reading.specs.Pins.{pins_then, pins_in, line_then, lines_in, over_word, with_word}
+use Rattle.board_reading.specs.Pins.{pins_then, pins_in, line_then, lines_in}
 
 -- ── one word further ──
 -- DEFINITION: before word i the array has the pins of the words before it, and 38 is due of none of these
@@ -32,46 +32,51 @@ pub record Pinning (book : Book) (b : Board) (ws : List ℕ) (i : ℕ) (a : List
 pub pinning_start : (book : Book) (b : Board) (ws : List ℕ) → Pinning book b ws 0 none_taken
 pinning_start book b ws = record { lines = refl; array = refl }
 
-line_passed : (book : Book) (b : Board) (i : ℕ) (w : BoardWord) (ls : List Line) → over_word book b w ≡ false
-    → first_refusal (line_then book b i w ls) ≡ first_refusal ls
-line_passed book b i (word.Row r) ls e = refl
-line_passed book b i (word.Taken p) ls e = rw e refl
-line_passed book b i (word.Net n) ls e = refl
-line_passed book b i (word.End c) ls e = refl
-line_passed book b i word.Unknown ls e = refl
+-- DEFINITION: the word takes no pins
+abbrev pub NoPins : BoardWord → Type 0
+NoPins w = (p : TakenPins) → w ≡ word.Taken p → ⊥
 
-line_refused : (book : Book) (b : Board) (i : ℕ) (w : BoardWord) (ls : List Line) → over_word book b w ≡ true
-    → first_refusal (line_then book b i w ls) ≡ some (refusal 38 i)
-line_refused book b i (word.Row r) ls e = absurd (clash e refl)
-line_refused book b i (word.Taken p) ls e = rw e refl
-line_refused book b i (word.Net n) ls e = absurd (clash e refl)
-line_refused book b i (word.End c) ls e = absurd (clash e refl)
-line_refused book b i word.Unknown ls e = absurd (clash e refl)
+no_line : (book : Book) (b : Board) (i : ℕ) (w : BoardWord) (ls : List Line) → NoPins w → line_then book b i w ls ≡ ls
+no_line book b i (word.Row r) ls f = refl
+no_line book b i (word.Taken p) ls f = absurd (f p refl)
+no_line book b i (word.Net n) ls f = refl
+no_line book b i (word.End c) ls f = refl
+no_line book b i word.Unknown ls f = refl
 
-with_then : (a : List ℕ) (w : BoardWord) (ps : List TakenPins) → with_all a (pins_then w ps) ≡ with_all (with_word a w) ps
-unfolding with_all
-with_then a (word.Row r) ps = refl
-with_then a (word.Taken p) ps = refl
-with_then a (word.Net n) ps = refl
-with_then a (word.End c) ps = refl
-with_then a word.Unknown ps = refl
+no_pin : (w : BoardWord) (ps : List TakenPins) → NoPins w → pins_then w ps ≡ ps
+no_pin (word.Row r) ps f = refl
+no_pin (word.Taken p) ps f = absurd (f p refl)
+no_pin (word.Net n) ps f = refl
+no_pin (word.End c) ps f = refl
+no_pin word.Unknown ps f = refl
 
 module _ (book : Book) (b : Board) (ws : List ℕ) (i : ℕ) (a : List ℕ) (P : Pinning book b ws i a) where
-  here : i < length ws
-      → first_refusal (lines_in book b 0 ws) ≡ first_refusal (line_then book b i (board_word (get_or ws i 0)) (lines_in book b (suc i) (drop (suc i) ws)))
-  unfolding lines_in
-  here h = P.lines ∙ rw (drop-cons ws i 0 h) refl
+  module _ (h : i < length ws) where
+    lines-here : first_refusal (lines_in book b 0 ws)
+        ≡ first_refusal (line_then book b i (board_word (get_or ws i 0)) (lines_in book b (suc i) (drop (suc i) ws)))
+    unfolding lines_in
+    lines-here = P.lines ∙ rw (drop-cons ws i 0 h) refl
 
-  pub pinning-more : i < length ws → over_word book b (board_word (get_or ws i 0)) ≡ false
-      → Pinning book b ws (i + 1) (with_word a (board_word (get_or ws i 0)))
-  unfolding pins_in
-  pinning-more h e = rw (add-one i) (record {
-    lines = here h ∙ line_passed book b i (board_word (get_or ws i 0)) (lines_in book b (suc i) (drop (suc i) ws)) e;
-    array = P.array ∙ (rw (drop-cons ws i 0 h) (with_then a (board_word (get_or ws i 0)) (pins_in (drop (suc i) ws))));
-  })
+    pins-here : with_all none_taken (pins_in ws) ≡ with_all a (pins_then (board_word (get_or ws i 0)) (pins_in (drop (suc i) ws)))
+    unfolding pins_in
+    pins-here = P.array ∙ rw (drop-cons ws i 0 h) refl
 
-  pub pinning-refused : i < length ws → over_word book b (board_word (get_or ws i 0)) ≡ true → first_refusal (lines_in book b 0 ws) ≡ some (refusal 38 i)
-  pinning-refused h e = here h ∙ line_refused book b i (board_word (get_or ws i 0)) (lines_in book b (suc i) (drop (suc i) ws)) e
+    -- pins that are there are taken
+    pub pinning-taken : (p : TakenPins) → board_word (get_or ws i 0) ≡ word.Taken p → over_taken book b p ≡ false
+        → Pinning book b ws (i + 1) (with_taken a p)
+    unfolding with_all
+    pinning-taken p e o = rw (add-one i) (record { lines = lines-here ∙ rw (e, o) refl; array = pins-here ∙ rw e refl })
+
+    -- another word is passed over
+    pub pinning-other : NoPins (board_word (get_or ws i 0)) → Pinning book b ws (i + 1) a
+    pinning-other f = rw (add-one i) (record {
+      lines = lines-here ∙ ap first_refusal (no_line book b i (board_word (get_or ws i 0)) (lines_in book b (suc i) (drop (suc i) ws)) f);
+      array = pins-here ∙ ap (with_all a) (no_pin (board_word (get_or ws i 0)) (pins_in (drop (suc i) ws)) f);
+    })
+
+    pub pinning-refused : (p : TakenPins) → board_word (get_or ws i 0) ≡ word.Taken p → over_taken book b p ≡ true
+        → first_refusal (lines_in book b 0 ws) ≡ some (refusal 38 i)
+    pinning-refused p e o = lines-here ∙ rw (e, o) refl
 
   pub pinning-end : i ≡ length ws → (first_refusal (lines_in book b 0 ws) ≡ none) × (a ≡ with_all none_taken (pins_in ws))
   unfolding lines_in pins_in with_all

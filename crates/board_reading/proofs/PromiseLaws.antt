@@ -1,13 +1,13 @@
 -- How the parts of reading make up its definition, so that it keeps its promise.
 -- Assumes nothing.
-use Rattle.std.specs.Prelude.{◌≡◌, Bool, false, List, [], ◌∷◌, ◌++◌, ℕ, ◌-◌, ◌<◌, eqb, leb, length, replicate, take}
+use Rattle.std.specs.Prelude.{◌≡◌, Bool, false, List, [], ◌∷◌, ◌++◌, ℕ, ◌-◌, ◌<◌, eqb, leb, length, replicate, take, Ok, Err}
 use Rattle.std.proofs.Math.Path.{refl}
-use Rattle.std.proofs.Common.{ap, sym, ◌∙◌, inl, inr, arith}
+use Rattle.std.proofs.Common.{ap, sym, ◌∙◌, arith}
 use Rattle.std.proofs.Math.Bool.{true}
 use Rattle.std.proofs.Math.Option.{none, some}
 use Rattle.std.proofs.Math.Dec.{ltb}
 use borrow.Author.Tests.{lt-ltb, leb-true}
-use Rattle.count.specs.TruthLaws.{clash, and_true, or_right}
+use Rattle.count.specs.TruthLaws.{and_true, or_right}
 use Rattle.board.specs.Board.{no_row}
 use Rattle.board.specs.View.{board_of}
 use Rattle.board.specs.declared.Row.{Row}
@@ -19,7 +19,6 @@ use Rattle.board_block.specs.declared.Book.{Book}
 use Rattle.board_block.specs.declared.TakenPins.{TakenPins}
 use Rattle.board_block.specs.declared.Block as code-block
 use Rattle.board_convex.specs.Test.{is_convex}
-use Rattle.net.specs.declared.Place.{Place}
 use Rattle.session_rules.specs.Refusal.{Refusal, refusal, line, first_refusal}
 use Rattle.session_rules.specs.Session.{Session, with_nets}
 use Rattle.session_rules.specs.Sound.{bare}
@@ -48,7 +47,9 @@ use Rattle.words.specs.Bytes.{words_in, uneven}
 use Rattle.words_bytes.specs.WordsLaws.{Whole}
 use Rattle.board_scan.specs.Promise.{take_all, ScanPromise}
 use Rattle.board_scan.specs.Laws.{Follows, refused-scan, taken-scan}
-use Rattle.board_scan.specs.declared.Scanned.{Scanned}
+use Rattle.board_scan.specs.Refused.{scan_refusal}
+use Rattle.board_scan.specs.declared.Scan.{Scan}
+use Rattle.board_scan.specs.declared.ScanRefusal.{ScanRefusal}
 use Rattle.board_roundtrip.specs.Parts.{PinsFit}
 use Rattle.board_roundtrip.specs.Accepted.{taken_said}
 use Rattle.board_reading.specs.Value.{board_value, block_value, value_for}
@@ -58,14 +59,10 @@ use Rattle.board_reading.proofs.ListedLaws.{taken_nets}
 use Rattle.board_reading.specs.Pins.{pins_in, lines_in, PinsPromise}
 use Rattle.board_reading.proofs.PinsLaws.{taken-pins, taken-lines}
 use Rattle.board_reading.specs.Adding.{AllPromise}
-use Rattle.board_reading.specs.declared.TakenAll.{TakenAll}
-use Rattle.board_reading.specs.declared.AddedAll.{AddedAll}
-use Rattle.board_reading.specs.declared.ReadAnswer.TheVariants as answer
-use Rattle.board_reading.specs.declared.AfterRead.{AfterRead}
-use Rattle.board_reading.specs.Promise.{read_answer, ReadPromise, RefusedPromise}
-
-pub refused_read : (x : Result Session) (n p : ℕ) (r : AfterRead) → RefusedPromise n p r → x ≡ no (refusal n p) → ReadPromise x r
-refused_read x n p r h e = rw e (record { answers = ap read_answer h.answers; value = h.value; session = h.blank })
+use Rattle.board_reading.specs.Refused.{read_refusal}
+use Rattle.board_reading.specs.declared.ReadRefusal.{ReadRefusal}
+use Rattle.board_reading.specs.Promise.{SessionPromise}
+use Rattle.net.specs.View.{Held}
 
 -- ── reading in its parts ──
 pub read_parts : (ws : List ℕ) → read_words ws ≡ and_then (take_all ws) read_parsed
@@ -109,7 +106,7 @@ module _ (ws : List ℕ) (t : Parsed) (T : take_all ws ≡ yes t) where
     unfolding read_nets
     nets-refused p r f = read_parts ws ∙ rw (T, taken-read, p, nets-listed, f) refl
 
-    pub all_read : first_refusal (lines_in t.book (board_in t) 0 ws) ≡ none → (ps : List Place)
+    pub all_read : first_refusal (lines_in t.book (board_in t) 0 ws) ≡ none → (ps : List Held)
         → add_listed (block_in t) [] (listed 0 ws) ≡ yes (nets_of ps) → read_words ws ≡ yes (with_nets (bare (block_in t)) (nets_of ps) [])
     unfolding read_nets
     all_read p ps f = read_parts ws ∙ rw (T, taken-read, p, nets-listed, f) refl
@@ -137,99 +134,80 @@ module _ (ws : List ℕ) (t : Parsed) (T : take_all ws ≡ yes t) where
 board-value : (b : code-board.Board) (rs : List Row) → b.count ≡ length rs → b.rows ≡ rs ++ replicate (31 - length rs) no_row → b ≡ board_value rs
 board-value b rs e f = λ i. record { count = e i; rows = f i }
 
-pub read_done : (x : Result Session) (t : Parsed) (b : code-board.Board) (k : Book) (a : List ℕ) (ps : List Place)
+pub read_done : (x : Result Session) (t : Parsed) (b : code-board.Board) (k : Book) (a : List ℕ) (ps : List Held)
     (s : code.Session)
     → board_of b ≡ board_in t → b.count ≡ length t.rows → b.rows ≡ t.rows ++ replicate (31 - length t.rows) no_row
     → k ≡ t.book → taken_of a ≡ t.pins → a ≡ with_all none_taken t.pins
     → length ps ≡ 64 → FreshPromise (record { board = b; book = k; taken = a }) s → x ≡ yes (with_nets (bare (block_in t)) (nets_of ps) [])
-    → ReadPromise x (record { answer = answer.Accepted; session = with_places s ps s.pile })
+    → SessionPromise x (Ok (with_places s ps s.pile))
 unfolding value_for fresh_of
 read_done x t b k a ps s e c r d p m l f h =
     let v : b ≡ board_value t.rows = board-value b t.rows c r in
     let same : s ≡ fresh_of (block_value (block_in t)) = f.value ∙ (λ i. fresh_of (record { board = v i; book = d i; taken = m i })) in
     let start : session_of s ≡ bare (block_in t) = f.bare ∙ (λ i. bare (record { board = e i; book = d i; taken = p i })) in
-    rw h (record {
-      answers = refl;
-      value = λ i. with_places (same i) (sym (places-for ps l) i) (same i).pile;
-      session = λ i. with_nets (start i) (nets_of ps) (start i).pile;
-    })
+    rw h (
+      λ i. yes (with_nets (sym start i) (nets_of ps) (sym start i).pile),
+      λ i. with_places (same i) (sym (places-for ps l) i) (same i).pile,
+    )
 
--- ── what the two passes over the words promise, put together ──
-pub scan_refused : (ws : List ℕ) (r : Scanned) → ScanPromise ws r → (r.number ≡ 0 → ⊥) → read_words ws ≡ no (refusal r.number r.index)
-scan_refused ws r P z = words-refused ws (refusal r.number r.index) (refused-scan ws r P z)
+-- ── what the scan and the two passes over the words promise, put together ──
+pub scan-refused : (ws : List ℕ) (e : ScanRefusal) → ScanPromise ws (Err e) → read_words ws ≡ no (scan_refusal e)
+scan-refused ws e P = words-refused ws (scan_refusal e) (refused-scan ws e P)
 
-module _ (ws : List ℕ) (r : Scanned) (S : ScanPromise ws r) (z : r.number ≡ 0) where
-  pub bent-refused : is_convex (board_of r.scan.board) ≡ false → read_words ws ≡ no (refusal 16 0)
-  bent-refused e = let t = taken-scan ws r S z in convex-refused ws t.0 t.1 (rw t.2.board-is at e)
+module _ (ws : List ℕ) (s : Scan) (S : ScanPromise ws (Ok s)) where
+  pub bent-refused : is_convex (board_of s.board) ≡ false → read_words ws ≡ no (refusal 16 0)
+  bent-refused e = let t = taken-scan ws s S in convex-refused ws t.0 t.1 (rw t.2.board-is at e)
 
-  -- what the passes for taken pins and for nets promise
-  module _ (e : is_convex (board_of r.scan.board) ≡ true) (p : TakenAll) (P : PinsPromise r.scan.book (board_of r.scan.board) ws p) where
-    pub pin-refused : p.over ≡ true → read_words ws ≡ no (refusal 38 p.index)
-    pin-refused o = go P
-      where
-        go : PinsPromise r.scan.book (board_of r.scan.board) ws p → read_words ws ≡ no (refusal 38 p.index)
-        go (inl (f, g)) =
-            let t = taken-scan ws r S z in
-            pins-refused ws t.0 t.1 (rw t.2.board-is at e) (refusal 38 p.index) (rw (t.2.book_is, t.2.board-is) at g)
-        go (inr (f, g, a)) = absurd (clash o f)
+  module _ (e : is_convex (board_of s.board) ≡ true) where
+    pub pin-refused : (r : ReadRefusal) → PinsPromise s.book (board_of s.board) ws (Err r) → read_words ws ≡ no (read_refusal r)
+    pin-refused r P =
+        let t = taken-scan ws s S in
+        pins-refused ws t.0 t.1 (rw t.2.board-is at e) (read_refusal r) (rw (t.2.book_is, t.2.board-is) at P)
 
     -- none is taken too many: the block that was read
-    module _ (o : p.over ≡ false) where
+    module _ (a : List ℕ) (P : PinsPromise s.book (board_of s.board) ws (Ok a)) where
       abbrev block : code-block.Block
-      block = record { board = r.scan.board; book = r.scan.book; taken = p.pins }
+      block = record { board = s.board; book = s.book; taken = a }
 
       -- DEFINITION: the words say t, its board is convex, no pin of it gets 38, and the block stands for its block
       record Stands (t : Parsed) : Type 0 where
         says : take_all ws ≡ yes t
         convex : is_convex (board_in t) ≡ true
         fits : first_refusal (lines_in t.book (board_in t) 0 ws) ≡ none
-        follows : Follows t r.scan
-        array : p.pins ≡ with_all none_taken t.pins
-        pins : taken_of p.pins ≡ t.pins
+        follows : Follows t s
+        array : a ≡ with_all none_taken t.pins
+        pins : taken_of a ≡ t.pins
 
       stands : (t : Parsed) × Stands t
-      stands = go P
-        where
-          go : PinsPromise r.scan.book (board_of r.scan.board) ws p → (t : Parsed) × Stands t
-          go (inl (f, g)) = absurd (clash f o)
-          go (inr (f, g, a)) =
-              let t = taken-scan ws r S z in
-              let w = taken-words ws t.0 t.1 in (
-                t.0,
-                record {
-                  says = t.1;
-                  convex = rw t.2.board-is at e;
-                  fits = rw (t.2.book_is, t.2.board-is) at g;
-                  follows = t.2;
-                  array = a ∙ ap (with_all none_taken) (sym (taken-pins ws t.0 w));
-                  pins = ap taken_of a ∙ array-stands ws t.0 t.1;
-                },
-              )
+      stands =
+          let t = taken-scan ws s S in
+          let w = taken-words ws t.0 t.1 in (
+            t.0,
+            record {
+              says = t.1;
+              convex = rw t.2.board-is at e;
+              fits = rw (t.2.book_is, t.2.board-is) at P.0;
+              follows = t.2;
+              array = P.1 ∙ ap (with_all none_taken) (sym (taken-pins ws t.0 w));
+              pins = ap taken_of P.1 ∙ array-stands ws t.0 t.1;
+            },
+          )
 
       block-is : (t : Parsed) → Stands t → block_of block ≡ block_in t
       block-is t s = λ i. record { board = s.follows.board-is i; book = s.follows.book_is i; taken = s.pins i }
 
-      pub net-refused : (a : AddedAll) → AllPromise (block_of block) ws a → (a.number ≡ 0 → ⊥) → read_words ws ≡ no (refusal a.number a.index)
-      net-refused a A y = go A
-        where
-          go : AllPromise (block_of block) ws a → read_words ws ≡ no (refusal a.number a.index)
-          go (inl (k, f, g)) =
-              let t = stands.0 in let s = stands.1 in
-              nets-refused ws t s.says s.convex s.fits (refusal a.number a.index) (rw f (rw (block-is t s) at g))
-          go (inr g) = absurd (y g.0)
+      pub net-refused : (r : ReadRefusal) → AllPromise (block_of block) ws (Err r) → read_words ws ≡ no (read_refusal r)
+      net-refused r A =
+          let t = stands.0 in let q = stands.1 in
+          nets-refused ws t q.says q.convex q.fits (read_refusal r) (rw (block-is t q) at A)
 
-      pub session-read : (a : AddedAll) → AllPromise (block_of block) ws a → a.number ≡ 0 → (s : code.Session) → FreshPromise block s
-          → ReadPromise (read_words ws) (record { answer = answer.Accepted; session = with_places s a.nets s.pile })
-      session-read a A y s f = go A
-        where
-          go : AllPromise (block_of block) ws a
-              → ReadPromise (read_words ws) (record { answer = answer.Accepted; session = with_places s a.nets s.pile })
-          go (inl (k, g, h)) = absurd (omega arith)
-          go (inr (g, h, l)) =
-              let t = stands.0 in let q = stands.1 in let w = q.follows in
-              read_done (read_words ws) t r.scan.board r.scan.book p.pins a.nets s w.board-is w.count_is w.array_is w.book_is
-              q.pins q.array l f
-              (all_read ws t q.says q.convex q.fits a.nets (rw (block-is t q) at h))
+      pub session-read : (ps : List Held) → AllPromise (block_of block) ws (Ok ps) → (f : code.Session) → FreshPromise block f
+          → SessionPromise (read_words ws) (Ok (with_places f ps f.pile))
+      session-read ps A f F =
+          let t = stands.0 in let q = stands.1 in let w = q.follows in
+          read_done (read_words ws) t s.board s.book a ps f w.board-is w.count_is w.array_is w.book_is
+          q.pins q.array A.1 F
+          (all_read ws t q.says q.convex q.fits ps (rw (block-is t q) at A.0))
 
 -- ── from bytes ──
 module _ (bs : List ℕ) where

@@ -1,12 +1,9 @@
 -- 64 places are determined by the nets that they hold.
 -- Assumes nothing.
-use Rattle.std.specs.Prelude.{◌≡◌, refl, List, map, ℕ, suc, ◌+◌, ◌<◌, length, get_or}
+use Rattle.std.specs.Prelude.{◌≡◌, refl, List, map, ℕ, suc, ◌+◌, ◌<◌, length, get_or, None, Some}
 use Rattle.std.proofs.Common.{ap, sym, ◌∙◌, arith, ext_get_or}
 use Rattle.count.specs.Lists.{up_to, length-rising, getD-rising}
-use Rattle.net.specs.View.{nothing}
-use Rattle.net.specs.declared.Held.{Held}
-use Rattle.net.specs.declared.Held.TheVariants.{Nothing, Ends}
-use Rattle.net.specs.declared.Place.{Place}
+use Rattle.net.specs.View.{Held, nothing}
 use Rattle.session_rules.specs.Session.{net_of}
 use Rattle.net_places.specs.Places.{nets_of}
 use Rattle.net_places.specs.Nets.{held_as}
@@ -14,14 +11,14 @@ use Rattle.net_places.proofs.NetsLaws.{net-of}
 use Rattle.board_reading.specs.Value.{place_for, places_for}
 
 -- ── 64 places are determined by their nets ──
-place_held : (n : ℕ) (p : Place) → place_for (held_as n p.held) ≡ p
-place_held n p = go p.held
+place_held : (n : ℕ) (p : Held) → place_for (held_as n p) ≡ p
+place_held n p = go p
   where
-    go : (h : Held) → place_for (held_as n h) ≡ record { held = h }
-    go Nothing = refl
-    go (Ends e) = refl
+    go : (h : Held) → place_for (held_as n h) ≡ h
+    go None = refl
+    go (Some e) = refl
 
-pub places-for : (ps : List Place) → length ps ≡ 64 → places_for (nets_of ps) ≡ ps
+pub places-for : (ps : List Held) → length ps ≡ 64 → places_for (nets_of ps) ≡ ps
 unfolding places_for
 places-for ps e = ext_get_or nothing (map (λ i. place_for (net_of (suc i) (nets_of ps))) (up_to 64)) ps
     (length-rising (λ i. place_for (net_of (suc i) (nets_of ps))) 0 64 ∙ sym e) each

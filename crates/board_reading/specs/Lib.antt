@@ -1,4 +1,5 @@
 pub mod Value
+pub mod Refused
 pub mod Listed
 pub mod Pins
 pub mod Adding

@@ -1,17 +1,19 @@
 -- Definitions only: the taken pins of a list of words, in a pass over it that puts them into an array, at the level of the code's values. Nothing is
 -- proved here: PinsLaws has the laws.
+use Rattle.std.specs.Prelude as prelude
 use Rattle.std.specs.Prelude.{◌≡◌, Bool, true, false, cond, List, [], ◌∷◌, ◌⊎◌, ℕ, suc}
 use Rattle.std.proofs.Math.Option.{none, some}
 use Rattle.board.specs.Board.{Board}
 use Rattle.board_block.specs.Taken.{over_taken}
-use Rattle.board_block.specs.View.{none_taken, with_taken, with_all}
+use Rattle.board_block.specs.View.{none_taken, with_all}
 use Rattle.board_block.specs.declared.Book.{Book}
 use Rattle.board_block.specs.declared.TakenPins.{TakenPins}
-use Rattle.session_rules.specs.Refusal.{refusal, Line, line, first_refusal}
+use Rattle.session_rules.specs.Refusal.{Line, line, first_refusal}
 use Rattle.words.specs.BoardWord.{board_word}
 use Rattle.words.specs.declared.BoardWord.{BoardWord}
 use Rattle.words.specs.declared.BoardWord.TheVariants as word
-use Rattle.board_reading.specs.declared.TakenAll.{TakenAll}
+use Rattle.board_reading.specs.Refused.{read_refusal}
+use Rattle.board_reading.specs.declared.ReadRefusal.{ReadRefusal}
 
 -- the taken pins of a word, before the others
 abbrev pub pins_then : BoardWord → List TakenPins → List TakenPins
@@ -39,30 +41,7 @@ unfoldable pub lines_in : Book → Board → ℕ → List ℕ → List Line
 lines_in k b i [] = []
 lines_in k b i (w ∷ ws) = line_then k b i (board_word w) (lines_in k b (suc i) ws)
 
--- ── one word ──
--- 38 is due
-abbrev pub over_word : Book → Board → BoardWord → Bool
-over_word k b (word.Row r) = false
-over_word k b (word.Taken p) = over_taken k b p
-over_word k b (word.Net n) = false
-over_word k b (word.End c) = false
-over_word k b word.Unknown = false
-
--- the array with the taken pins of a word
-abbrev pub with_word : List ℕ → BoardWord → List ℕ
-with_word a (word.Row r) = a
-with_word a (word.Taken p) = with_taken a p
-with_word a (word.Net n) = a
-with_word a (word.End c) = a
-with_word a word.Unknown = a
-
--- what a word does to the array: nothing where 38 is due
-pub record PutsWord (k : Book) (b : Board) (w : BoardWord) (before : List ℕ) (over : Bool) (after : List ℕ) : Type 0 where
-  pub refused : over ≡ over_word k b w
-  pub array : after ≡ cond over before (with_word before w)
-
 -- what the pass promises: 38 at the first word of which it is due, or the array with the taken pins of all words
-abbrev pub PinsPromise : Book → Board → List ℕ → TakenAll → Type 0
-PinsPromise k b ws r =
-    ((r.over ≡ true) × (first_refusal (lines_in k b 0 ws) ≡ some (refusal 38 r.index)))
-    ⊎ ((r.over ≡ false) × (first_refusal (lines_in k b 0 ws) ≡ none) × (r.pins ≡ with_all none_taken (pins_in ws)))
+abbrev pub PinsPromise : Book → Board → List ℕ → prelude.Result (List ℕ) ReadRefusal → Type 0
+PinsPromise k b ws (prelude.Err e) = first_refusal (lines_in k b 0 ws) ≡ some (read_refusal e)
+PinsPromise k b ws (prelude.Ok a) = (first_refusal (lines_in k b 0 ws) ≡ none) × (a ≡ with_all none_taken (pins_in ws))

@@ -8,9 +8,8 @@ use Rattle.board.specs.declared.Board as code-board
 use Rattle.board_block.specs.Block.{Block}
 use Rattle.board_block.specs.View.{none_taken, with_all, plain_of}
 use Rattle.board_block.specs.declared.Block as code-block
-use Rattle.net.specs.View.{nothing}
+use Rattle.net.specs.View.{Held, nothing}
 use Rattle.net.specs.declared.Net.{Net}
-use Rattle.net.specs.declared.Place.{Place}
 use Rattle.session_rules.specs.Session.{Session, net_of}
 use Rattle.net_places.specs.Places.{holding}
 use Rattle.session.specs.Value.{with_places, fresh_of, blank_board}
@@ -22,11 +21,11 @@ abbrev pub board_value : List Row → code-board.Board
 board_value rs = record { count = length rs; rows = rs ++ replicate (31 - length rs) no_row }
 
 -- each of the 64 places holds the net of its number, if there is one
-abbrev pub place_for : Option Net → Place
+abbrev pub place_for : Option Net → Held
 place_for none = nothing
 place_for (some n) = holding n.ends
 
-unfoldable pub places_for : List Net → List Place
+unfoldable pub places_for : List Net → List Held
 places_for ns = map (λ i. place_for (net_of (suc i) ns)) (up_to 64)
 
 abbrev pub block_value : Block → code-block.Block

@@ -1,61 +1,19 @@
--- What is known of a scan that was promised: by its number the words are refused, or it holds the board that they say.
+-- What is known of a scan that was promised: with its refusal the words are refused, or it holds the board that they say.
 -- Assumes nothing.
-use Rattle.std.specs.Prelude.{◌≡◌, refl, Bool, true, false, not, List, [], ◌∷◌, ◌++◌, map, ℕ, zero, suc, ◌+◌, ◌-◌, ◌<◌, eqb, length, get_or, replicate}
-use Rattle.std.proofs.Common.{ap, sym, ◌∙◌, arith, ext_get_or, ne_eqb}
-use Rattle.std.proofs.Math.Option.{Option, none, some}
+use Rattle.std.specs.Prelude as prelude
+use Rattle.std.specs.Prelude.{◌≡◌, refl, List, ◌++◌, map, ℕ, ◌+◌, ◌-◌, ◌<◌, length, get_or, replicate}
+use Rattle.std.proofs.Common.{ap, ◌∙◌, arith, ext_get_or}
 use Rattle.std.proofs.Math.ListN.{get_or-append}
 use Rattle.count.specs.Lists.{up_to, length-rising, getD-rising}
 use Rattle.board.specs.Board.{no_row}
 use Rattle.board.specs.View.{board_of}
 use Rattle.board.specs.declared.Row.{Row}
-use Rattle.session_rules.specs.Refusal.{Refusal, refusal, line, first_refusal}
-use Rattle.words.specs.BoardWord.{board_word}
-use Rattle.call_rules.specs.Result.{Result, no, yes, unless}
-use Rattle.call_rules.specs.Reading.{Parsed, nothing_parsed, word_lines, take, take_words, bad_length, board_in}
-use Rattle.board_scan.specs.Scan.{word_refused}
-use Rattle.board_scan.specs.Promise.{take_all, scan_for, scanned, ScanPromise}
-use Rattle.board_scan.specs.OneWord.{numbered, refused_same}
+use Rattle.call_rules.specs.Result.{Result, no, yes, and_then}
+use Rattle.call_rules.specs.Reading.{Parsed, board_in}
+use Rattle.board_scan.specs.Refused.{scan_refusal}
+use Rattle.board_scan.specs.Promise.{take_all, scan_for, ScanPromise}
 use Rattle.board_scan.specs.declared.Scan.{Scan}
-use Rattle.board_scan.specs.declared.Scanned.{Scanned}
-
--- ── the number of a refusal is above 0, and its place is one number ──
-abbrev Plain : Refusal → Type 0
-Plain r = (k : ℕ) × (i : ℕ) × (r ≡ refusal (suc k) i)
-
-unless_plain : (o : Option Refusal) (x : Result Parsed) → ((r : Refusal) → o ≡ some r → Plain r) → ((r : Refusal) → x ≡ no r → Plain r)
-    → (r : Refusal) → unless o x ≡ no r → Plain r
-unless_plain none x f g r e = g r e
-unless_plain (some q) x f g r e = f r (let h : q ≡ r = cc in ap some h)
-
-line_plain : (b : Bool) (k i : ℕ) (r : Refusal) → first_refusal (line b (suc k) i ∷ []) ≡ some r → Plain r
-line_plain true k i r e = (k, i, cc)
-line_plain false k i r e = absurd (let z : ◌≡◌ {A = ℕ} 0 1 = cc in omega arith)
-
-numbered_plain : (i k : ℕ) (r : Refusal) → numbered i k ≡ some r → Plain r
-numbered_plain i zero r e = absurd (let z : ◌≡◌ {A = ℕ} 0 1 = cc in omega arith)
-numbered_plain i (suc k) r e =
-    let f : some (refusal (suc k) i) ≡ some r = rw (ne_eqb (suc k) 0 (λ z. omega arith)) at e in
-    (k, i, cc)
-
-none_refused : (t : Parsed) (r : Refusal) → yes t ≡ no r → Plain r
-none_refused t r e = absurd (let z : ◌≡◌ {A = ℕ} 0 1 = cc in omega arith)
-
-words_plain : (ws : List ℕ) (i : ℕ) (t : Parsed) (r : Refusal) → take_words i t ws ≡ no r → Plain r
-unfolding take_words
-words_plain [] i t r e = unless_plain (first_refusal (line (not t.ended) 13 i ∷ [])) (yes t) (line_plain (not t.ended) 12 i) (none_refused t) r e
-words_plain (w ∷ ws) i t r e =
-    unless_plain (first_refusal (word_lines i t (board_word w))) (take_words (suc i) (take i t (board_word w)) ws)
-    (λ q f. numbered_plain i (word_refused (scan_for t) (eqb i 0) (board_word w)) q (sym (refused_same t i (board_word w)) ∙ f))
-    (words_plain ws (suc i) (take i t (board_word w))) r e
-
-all_plain : (ws : List ℕ) (r : Refusal) → take_all ws ≡ no r → Plain r
-all_plain ws =
-    unless_plain (first_refusal (line (bad_length ws) 11 0 ∷ [])) (take_words 0 nothing_parsed ws) (line_plain (bad_length ws) 10 0)
-    (words_plain ws 0 nothing_parsed)
-
-pub nonzero : (n : ℕ) → (n ≡ 0 → ⊥) → (k : ℕ) × (n ≡ suc k)
-nonzero zero h = absurd (h refl)
-nonzero (suc k) h = (k, refl)
+use Rattle.board_scan.specs.declared.ScanRefusal.{ScanRefusal}
 
 -- ── the board that a scan holds ──
 module _ (rs zs : List Row) where
@@ -86,24 +44,19 @@ follows t = record {
   book_is = refl;
 }
 
--- ── by the number ──
-module _ (ws : List ℕ) (r : Scanned) (P : ScanPromise ws r) where
-  pub refused-scan : (r.number ≡ 0 → ⊥) → take_all ws ≡ no (refusal r.number r.index)
-  refused-scan z = go (take_all ws) refl
+-- ── by the result ──
+module _ (ws : List ℕ) where
+  pub refused-scan : (e : ScanRefusal) → ScanPromise ws (prelude.Err e) → take_all ws ≡ no (scan_refusal e)
+  refused-scan e P = go (take_all ws) P
     where
-      go : (x : Result Parsed) → take_all ws ≡ x → take_all ws ≡ no (refusal r.number r.index)
-      go (yes t) e = absurd (z (ap (λ (y : Scanned). y.number) (P ∙ ap scanned e)))
-      go (no q) e = plain q e (all_plain ws q e)
-        where
-          plain : (q : Refusal) → take_all ws ≡ no q → Plain q → take_all ws ≡ no (refusal r.number r.index)
-          plain q e (k, i, f) = rw (P, e, f) refl
+      go : (x : Result Parsed) → no (scan_refusal e) ≡ and_then x (λ t. yes (scan_for t)) → x ≡ no (scan_refusal e)
+      go (yes t) f = absurd (let z : ◌≡◌ {A = ℕ} 0 1 = cc in omega arith)
+      go (no r) f = cc
 
-  pub taken-scan : r.number ≡ 0 → (t : Parsed) × (take_all ws ≡ yes t) × Follows t r.scan
-  taken-scan z = go (take_all ws) refl
+  pub taken-scan : (s : Scan) → ScanPromise ws (prelude.Ok s) → (t : Parsed) × (take_all ws ≡ yes t) × Follows t s
+  taken-scan s P = go (take_all ws) refl P
     where
-      go : (x : Result Parsed) → take_all ws ≡ x → (t : Parsed) × (take_all ws ≡ yes t) × Follows t r.scan
-      go (yes t) e = (t, e, rw (P, e) (follows t))
-      go (no q) e = absurd (above (all_plain ws q e))
-        where
-          above : Plain q → ⊥
-          above (k, i, f) = omega (arith, z, ap (λ (y : Scanned). y.number) (P ∙ ap scanned (e ∙ ap no f)))
+      go : (x : Result Parsed) → take_all ws ≡ x → yes s ≡ and_then x (λ t. yes (scan_for t))
+          → (t : Parsed) × (take_all ws ≡ yes t) × Follows t s
+      go (yes t) e f = let same : s ≡ scan_for t = cc in (t, e, rw same (follows t))
+      go (no r) e f = absurd (let z : ◌≡◌ {A = ℕ} 0 1 = cc in omega arith)

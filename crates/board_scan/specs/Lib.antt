@@ -1,3 +1,4 @@
+pub mod Refused
 pub mod Scan
 pub mod Promise
 pub mod OneWord

@@ -1,7 +1,7 @@
 -- Definitions only: what the code computes of one word of a board, at the level of its values. Nothing is proved here.
-use Rattle.std.specs.Prelude.{Bool, true, false, not, cond, ◌&&◌, ◌||◌, ℕ, ◌+◌, leb, ltb, eqb, set, replicate}
-use Rattle.board.specs.Board.{at}
+use Rattle.std.specs.Prelude.{Bool, true, false, not, cond, ◌&&◌, ◌||◌, ℕ, ◌+◌, leb, ltb, eqb, set, replicate, Option, None, Some, Result, Ok, Err}
 use Rattle.board.specs.declared.Row.{Row}
+use Rattle.board.specs.declared.Vertex.{Vertex}
 use Rattle.board_block.specs.Taken.{comes_before}
 use Rattle.board_block.specs.declared.Book.TheVariants.{Old}
 use Rattle.board_block.specs.declared.TakenPins.{TakenPins}
@@ -10,85 +10,70 @@ use Rattle.words.specs.declared.BoardEnd.{BoardEnd}
 use Rattle.words.specs.declared.BoardWord.{BoardWord}
 use Rattle.words.specs.declared.BoardWord.TheVariants as word
 use Rattle.board_scan.specs.declared.Scan.{Scan}
+use Rattle.board_scan.specs.declared.WordFault.{WordFault}
+use Rattle.board_scan.specs.declared.WordFault.TheVariants.{Unknown, Misplaced, BadRow, WrongCount}
 
--- the number of the first refusal that holds, in the order of the table: 12 an unknown word, 13 a misplaced one, 14 a bad row, 15 a bad count
-abbrev pub first_of : (unknown misplaced row count : Bool) → ℕ
-first_of unknown misplaced row count = cond unknown 12 (cond misplaced 13 (cond row 14 (cond count 15 0)))
+-- there is one
+abbrev pub there? : {A : Type 0} → Option A → Bool
+there? None = false
+there? (Some x) = true
 
-unfoldable pub row_refused : Scan → Row → ℕ
-row_refused s r =
-    first_of false ((s.pins || ltb 0 s.nets) || s.ended) (not (ltb r.left r.right) || leb 31 s.board.count) false
+-- the vertex of taken pins is not after the last one
+abbrev pub pin_again : Option Vertex → Vertex → Bool
+pin_again None v = false
+pin_again (Some u) v = not (comes_before u v)
 
-unfoldable pub taken_refused : Scan → Bool → TakenPins → ℕ
-taken_refused s first p =
-    first_of false (first || ((ltb 0 s.nets || (s.pins && not (comes_before s.vertex p.vertex))) || s.ended)) false false
+-- the net's number is not above the last one
+abbrev pub net_again : Option ℕ → ℕ → Bool
+net_again None k = false
+net_again (Some l) k = leb k l
 
-unfoldable pub net_refused : Scan → Bool → Net → ℕ
-net_refused s first n = first_of false (first || ((ltb 0 s.nets && leb n.number s.last) || s.ended)) false false
+-- the scan, through 13, 14 and 15 in the order of the table
+abbrev pub checked : (misplaced row count : Bool) → Scan → Result Scan WordFault
+checked misplaced row count s = cond misplaced (Err Misplaced) (cond row (Err BadRow) (cond count (Err WrongCount) (Ok s)))
 
-unfoldable pub end_refused : Scan → Bool → BoardEnd → ℕ
-end_refused s first e =
-    first_of false (first || s.ended) false (not (eqb e.rows s.board.count && eqb e.nets s.nets))
-
-unfoldable pub word_refused : Scan → Bool → BoardWord → ℕ
-word_refused s first (word.Row r) = row_refused s r
-word_refused s first (word.Taken p) = taken_refused s first p
-word_refused s first (word.Net n) = net_refused s first n
-word_refused s first (word.End e) = end_refused s first e
-word_refused s first word.Unknown = first_of true (first || s.ended) false false
-
--- with what a word says; beyond 31 rows and 255 nets nothing is taken
-unfoldable pub with_row : Scan → Row → Scan
+-- the scan with what a word says, or the word's fault
+unfoldable pub with_row : Scan → Row → Result Scan WordFault
 with_row s r =
-    cond (ltb s.board.count 31)
+    checked ((there? s.pin || there? s.last) || s.ended) (not (ltb r.left r.right) || leb 31 s.board.count) false
     (record {
       board = record { count = s.board.count + 1; rows = set s.board.rows s.board.count r };
-      pins = s.pins;
-      vertex = s.vertex;
+      pin = s.pin;
       nets = s.nets;
       last = s.last;
       book = s.book;
       ended = s.ended;
     })
-    s
 
-abbrev pub with_taken : Scan → TakenPins → Scan
-with_taken s p =
-    record { board = s.board; pins = true; vertex = p.vertex; nets = s.nets; last = s.last; book = s.book; ended = s.ended }
+unfoldable pub with_taken : Scan → Bool → TakenPins → Result Scan WordFault
+with_taken s first p =
+    checked (first || ((there? s.last || pin_again s.pin p.vertex) || s.ended)) false false
+    (record { board = s.board; pin = Some p.vertex; nets = s.nets; last = s.last; book = s.book; ended = s.ended })
 
-unfoldable pub with_net : Scan → Net → Scan
-with_net s n =
-    cond (ltb s.nets 255)
-    (record {
-      board = s.board;
-      pins = s.pins;
-      vertex = s.vertex;
-      nets = s.nets + 1;
-      last = n.number;
-      book = s.book;
-      ended = s.ended;
-    })
-    s
+unfoldable pub with_net : Scan → Bool → Net → Result Scan WordFault
+with_net s first n =
+    checked (first || (net_again s.last n.number || s.ended)) false false
+    (record { board = s.board; pin = s.pin; nets = s.nets + 1; last = Some n.number; book = s.book; ended = s.ended })
 
-abbrev pub with_end : Scan → BoardEnd → Scan
-with_end s e =
-    record { board = s.board; pins = s.pins; vertex = s.vertex; nets = s.nets; last = s.last; book = e.book; ended = true }
+unfoldable pub with_end : Scan → Bool → BoardEnd → Result Scan WordFault
+with_end s first e =
+    checked (first || s.ended) false (not (eqb e.rows s.board.count && eqb e.nets s.nets))
+    (record { board = s.board; pin = s.pin; nets = s.nets; last = s.last; book = e.book; ended = true })
 
-unfoldable pub with_word : Scan → BoardWord → Scan
-with_word s (word.Row r) = with_row s r
-with_word s (word.Taken p) = with_taken s p
-with_word s (word.Net n) = with_net s n
-with_word s (word.End e) = with_end s e
-with_word s word.Unknown = s
+unfoldable pub with_word : Scan → Bool → BoardWord → Result Scan WordFault
+with_word s first (word.Row r) = with_row s r
+with_word s first (word.Taken p) = with_taken s first p
+with_word s first (word.Net n) = with_net s first n
+with_word s first (word.End e) = with_end s first e
+with_word s first word.Unknown = Err Unknown
 
 -- before the first word
 abbrev pub start : Scan
 start = record {
   board = record { count = 0; rows = replicate 31 (record { left = 0; right = 0 }) };
-  pins = false;
-  vertex = at 0 0;
+  pin = None;
   nets = 0;
-  last = 0;
+  last = None;
   book = Old;
   ended = false;
 }

@@ -1,216 +1,80 @@
 // The words of a board, taken one by one: each through refusals 12 to 15.
 #![tactic(auto)]
 
-ghost use Rattle.std.specs.Prelude.{◌≡◌};
-ghost use Rattle.session_rules.specs.Refusal.{refusal};
-ghost use Rattle.call_rules.specs.Result.{no};
-ghost use Rattle.board_scan.specs.Promise.{scanned, ScanPromise};
-ghost use Rattle.board_scan.specs.Scan.{
-  first_of,
-  row_refused,
-  taken_refused,
-  net_refused,
-  end_refused,
-  word_refused,
-  with_row,
-  with_taken,
-  with_net,
-  with_end,
-  with_word,
-  start,
-};
+ghost use Rattle.std.specs.Prelude.{◌≡◌, ◌<◌};
+ghost use Rattle.board_scan.specs.Promise.{ScanPromise};
+ghost use Rattle.board_scan.specs.Refused.{fault_number, scan_number, scan_place};
+ghost use Rattle.board_scan.specs.Scan.{with_row, with_taken, with_net, with_end, with_word, start};
 
 use board::{Board, Row, Vertex};
 use board_block::{Book, TakenPins};
 use net::Net;
-use numbers::wide;
 use words::{BOARD_WORDS, BoardEnd, BoardWord};
 
-// What the words so far have said: the board's rows, whether pins are taken and the last vertex of them, how many nets, the last net's number,
-// whether the end word has been, and the book that it names, the old one before it.
+// Why a word is refused, in the order of the table: its kind or a bit of it has no name; it stands where it may not; a row has no cell, or is the
+// 32nd; the end word counts other rows or nets than there were.
+#[derive(Clone, Copy, PartialEq, Eq)]
+pub enum WordFault {
+    Unknown,
+    Misplaced,
+    BadRow,
+    WrongCount,
+}
+
+impl WordFault {
+    // Its number in the table.
+    pub fn number(self) -> u8
+        ensures { result ≡ fault_number self }
+    {
+        match self {
+            WordFault::Unknown => 12,
+            WordFault::Misplaced => 13,
+            WordFault::BadRow => 14,
+            WordFault::WrongCount => 15,
+        }
+    }
+}
+
+// Why a list of words is refused: there are none, or more than BOARD_WORDS; or a word has a fault, with the index of the word. A missing end word is
+// misplaced, at the index behind the last word.
+#[derive(Clone, Copy, PartialEq, Eq)]
+pub enum ScanRefusal {
+    BadLength,
+    Word(WordFault, usize),
+}
+
+impl ScanRefusal {
+    // Its number in the table.
+    pub fn number(self) -> u8
+        ensures { result ≡ scan_number self }
+    {
+        match self {
+            ScanRefusal::BadLength => 11,
+            ScanRefusal::Word(fault, _) => fault.number(),
+        }
+    }
+
+    // The index of the word, 0 where there is none.
+    pub fn place(self) -> usize
+        ensures { result ≡ scan_place self }
+    {
+        match self {
+            ScanRefusal::BadLength => 0,
+            ScanRefusal::Word(_, index) => index,
+        }
+    }
+}
+
+// What the words so far have said: the board's rows, the last vertex of which pins are taken, how many nets, the last net's number, whether the end
+// word has been, and the book that it names, the old one before it.
 #[derive(Clone, Copy)]
 pub struct Scan {
     pub board: Board,
-    pub pins: bool,
-    pub vertex: Vertex,
+    pub pin: Option<Vertex>,
     pub nets: u8,
-    pub last: u8,
+    pub last: Option<u8>,
     pub book: Book,
     pub ended: bool,
-}
-
-// A refusal's number and the index of its word, 0 and 0 for none, and what the words have said.
-#[derive(Clone, Copy)]
-pub struct Scanned {
-    pub number: u8,
-    pub index: usize,
-    pub scan: Scan,
-}
-
-// The number of the first refusal that holds, in the order of the table, 0 for none.
-fn first_of(unknown: bool, misplaced: bool, row: bool, count: bool) -> u8
-    ensures { result ≡ first_of unknown misplaced row count }
-{
-    if unknown {
-        return 12;
-    }
-    if misplaced {
-        return 13;
-    }
-    if row {
-        return 14;
-    }
-    if count {
-        return 15;
-    }
-    0
-}
-
-fn row_refused(s: Scan, r: Row) -> u8
-    ensures { result ≡ row_refused s r }
-{
-    let board = s.board;
-    let bad = !(r.left < r.right) | (31 <= board.count);
-    first_of(false, (s.pins | (0 < s.nets)) | s.ended, bad, false)
-}
-
-fn taken_refused(s: Scan, first: bool, p: TakenPins) -> u8
-    ensures { result ≡ taken_refused s first p }
-{
-    let last = s.vertex;
-    let vertex = p.vertex;
-    let again = s.pins & !board_block::comes_before(last, vertex);
-    first_of(
-        false,
-        first | (((0 < s.nets) | again) | s.ended),
-        false,
-        false,
-    )
-}
-
-fn net_refused(s: Scan, first: bool, n: Net) -> u8
-    ensures { result ≡ net_refused s first n }
-{
-    let again = (0 < s.nets) & (n.number <= s.last);
-    first_of(false, first | (again | s.ended), false, false)
-}
-
-fn end_refused(s: Scan, first: bool, e: BoardEnd) -> u8
-    ensures { result ≡ end_refused s first e }
-{
-    let board = s.board;
-    let counted = (e.rows == board.count) & (e.nets == s.nets);
-    first_of(false, first | s.ended, false, !counted)
-}
-
-// The number of the refusal of a word, 0 for none.
-fn word_refused(s: Scan, first: bool, w: BoardWord) -> u8
-    ensures { result ≡ word_refused s first w }
-{
-    match w {
-        BoardWord::Row(r) => row_refused(s, r),
-        BoardWord::Taken(p) => taken_refused(s, first, p),
-        BoardWord::Net(n) => net_refused(s, first, n),
-        BoardWord::End(e) => end_refused(s, first, e),
-        BoardWord::Unknown => first_of(true, first | s.ended, false, false),
-    }
-}
-
-fn with_row(s: Scan, r: Row) -> Scan
-    ensures { result ≡ with_row s r }
-{
-    let board = s.board;
-    let count = board.count;
-    let at = wide(count);
-    let vertex = s.vertex;
-    let book = s.book;
-    if count < 31 {
-        let mut rows = board.rows;
-        rows[at] = r;
-        Scan {
-            board: Board {
-                count: count + 1,
-                rows,
-            },
-            pins: s.pins,
-            vertex,
-            nets: s.nets,
-            last: s.last,
-            book,
-            ended: s.ended,
-        }
-    } else {
-        s
-    }
-}
-
-fn with_taken(s: Scan, p: TakenPins) -> Scan
-    ensures { result ≡ with_taken s p }
-{
-    let board = s.board;
-    let vertex = p.vertex;
-    let book = s.book;
-    Scan {
-        board,
-        pins: true,
-        vertex,
-        nets: s.nets,
-        last: s.last,
-        book,
-        ended: s.ended,
-    }
-}
-
-fn with_net(s: Scan, n: Net) -> Scan
-    ensures { result ≡ with_net s n }
-{
-    let board = s.board;
-    let vertex = s.vertex;
-    let nets = s.nets;
-    let book = s.book;
-    if nets < 255 {
-        Scan {
-            board,
-            pins: s.pins,
-            vertex,
-            nets: nets + 1,
-            last: n.number,
-            book,
-            ended: s.ended,
-        }
-    } else {
-        s
-    }
-}
-
-fn with_end(s: Scan, e: BoardEnd) -> Scan
-    ensures { result ≡ with_end s e }
-{
-    let board = s.board;
-    let vertex = s.vertex;
-    let book = e.book;
-    Scan {
-        board,
-        pins: s.pins,
-        vertex,
-        nets: s.nets,
-        last: s.last,
-        book,
-        ended: true,
-    }
-}
-
-// The scan with what one more word says.
-fn with_word(s: Scan, w: BoardWord) -> Scan
-    ensures { result ≡ with_word s w }
-{
-    match w {
-        BoardWord::Row(r) => with_row(s, r),
-        BoardWord::Taken(p) => with_taken(s, p),
-        BoardWord::Net(n) => with_net(s, n),
-        BoardWord::End(e) => with_end(s, e),
-        BoardWord::Unknown => s,
-    }
 }
 
 // Before the first word.
@@ -223,49 +87,106 @@ fn before_words() -> Scan
             count: 0,
             rows: [row; 31],
         },
-        pins: false,
-        vertex: Vertex { line: 0, column: 0 },
+        pin: None,
         nets: 0,
-        last: 0,
+        last: None,
         book: Book::Old,
         ended: false,
     }
 }
 
-// A refusal: its number and the index of its word. The scan is that before the first word.
-fn refused(number: u8, index: usize) -> Scanned
-    ensures { result ≡ scanned (no (refusal number index)) }
+#[tactic(auto, unfolding(crate::specs::Scan::with_row))]
+fn with_row(scan: Scan, row: Row) -> Result<Scan, WordFault>
+    ensures { result ≡ with_row scan row }
 {
-    Scanned {
-        number,
-        index,
-        scan: before_words(),
+    if scan.pin.is_some() || scan.last.is_some() || scan.ended {
+        return Err(WordFault::Misplaced);
+    }
+    let mut board = scan.board;
+    if row.right <= row.left || 31 <= board.count {
+        return Err(WordFault::BadRow);
+    }
+    board.rows[usize::from(board.count)] = row;
+    board.count += 1;
+    Ok(Scan { board, ..scan })
+}
+
+#[tactic(auto, unfolding(crate::specs::Scan::with_taken))]
+fn with_taken(scan: Scan, first: bool, pins: TakenPins) -> Result<Scan, WordFault>
+    ensures { result ≡ with_taken scan first pins }
+{
+    let again = scan.pin.is_some_and(|last| pins.vertex <= last);
+    if first || scan.last.is_some() || again || scan.ended {
+        return Err(WordFault::Misplaced);
+    }
+    Ok(Scan {
+        pin: Some(pins.vertex),
+        ..scan
+    })
+}
+
+#[tactic(auto, unfolding(crate::specs::Scan::with_net))]
+fn with_net(scan: Scan, first: bool, net: Net) -> Result<Scan, WordFault>
+    requires { scan.nets < 255 }
+    ensures { result ≡ with_net scan first net }
+{
+    let again = scan.last.is_some_and(|last| net.number <= last);
+    if first || again || scan.ended {
+        return Err(WordFault::Misplaced);
+    }
+    Ok(Scan {
+        nets: scan.nets + 1,
+        last: Some(net.number),
+        ..scan
+    })
+}
+
+#[tactic(auto, unfolding(crate::specs::Scan::with_end))]
+fn with_end(scan: Scan, first: bool, end: BoardEnd) -> Result<Scan, WordFault>
+    ensures { result ≡ with_end scan first end }
+{
+    if first || scan.ended {
+        return Err(WordFault::Misplaced);
+    }
+    if end.rows != scan.board.count || end.nets != scan.nets {
+        return Err(WordFault::WrongCount);
+    }
+    Ok(Scan {
+        book: end.book,
+        ended: true,
+        ..scan
+    })
+}
+
+// The scan with what one more word says, or what is wrong with the word.
+#[tactic(auto, unfolding(crate::specs::Scan::with_word))]
+fn with_word(scan: Scan, first: bool, word: BoardWord) -> Result<Scan, WordFault>
+    requires { scan.nets < 255 }
+    ensures { result ≡ with_word scan first word }
+{
+    match word {
+        BoardWord::Row(row) => with_row(scan, row),
+        BoardWord::Taken(pins) => with_taken(scan, first, pins),
+        BoardWord::Net(net) => with_net(scan, first, net),
+        BoardWord::End(end) => with_end(scan, first, end),
+        BoardWord::Unknown => Err(WordFault::Unknown),
     }
 }
 
 // The words one by one, each through 12 to 15; then an end must have been. First of all 11: no words or more than BOARD_WORDS.
-pub fn scan_words(words: &[u32]) -> Scanned
+pub fn scan_words(words: &[u32]) -> Result<Scan, ScanRefusal>
     ensures { ScanPromise words.now result }
 {
-    let mut s = before_words();
-    let n = words.len();
-    if (n == 0) | (BOARD_WORDS < n) {
-        return refused(11, 0);
+    if words.is_empty() || BOARD_WORDS < words.len() {
+        return Err(ScanRefusal::BadLength);
     }
-    for i in 0..n {
-        let w = words::board_word(words[i]);
-        let number = word_refused(s, i == 0, w);
-        if number != 0 {
-            return refused(number, i);
-        }
-        s = with_word(s, w);
+    let mut scan = before_words();
+    for (i, word) in words.iter().enumerate() {
+        let next = with_word(scan, i == 0, words::board_word(*word));
+        scan = next.map_err(|fault| ScanRefusal::Word(fault, i))?;
     }
-    if s.ended {
-        return Scanned {
-            number: 0,
-            index: 0,
-            scan: s,
-        };
+    if !scan.ended {
+        return Err(ScanRefusal::Word(WordFault::Misplaced, words.len()));
     }
-    refused(13, n)
+    Ok(scan)
 }

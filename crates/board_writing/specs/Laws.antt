@@ -1,6 +1,6 @@
 -- The words of rows, taken pins, nets and end make up the definition's; and so does the whole call.
 -- Assumes nothing.
-use Rattle.std.specs.Prelude.{◌≡◌, refl, true, false, List, [], ◌∷◌, ◌++◌, map, ℕ, ◌+◌, ◌-◌, ◌%◌, ◌≤◌, ◌<◌, length, set}
+use Rattle.std.specs.Prelude.{◌≡◌, refl, true, false, List, [], ◌∷◌, ◌++◌, map, ℕ, ◌+◌, ◌-◌, ◌≤◌, ◌<◌, length, set, Ok, Err}
 use Rattle.std.proofs.Common.{ap, ◌∙◌, append_assoc, arith, length-append, lt-ltb, le-ltb}
 use Rattle.std.proofs.lemmas.List.{length-map}
 use Rattle.board.specs.ViewLaws.{height_of}
@@ -21,7 +21,7 @@ use Rattle.board_writing.specs.BufferLaws.{continues_more}
 use Rattle.board_writing.specs.Words.{row_words, net_words}
 use Rattle.board_writing.specs.WordsLaws.{row_words_length, row_words_all, net_words_all, net_words_le}
 use Rattle.board_writing.specs.Promise.{WritePromise, WrittenWords}
-use Rattle.board_writing.specs.declared.WriteAnswer.TheVariants as answer
+use Rattle.board_writing.specs.declared.WriteRefusal.TheVariants.{Unsound, ShortBuffer}
 
 -- ── rows, taken pins, nets and end ──
 parts : (s : code.Session) → length s.nets ≡ 64
@@ -39,7 +39,7 @@ pub all_written : (s : code.Session) (before rowed pinned after : List ℕ) (row
     → rowed ≡ written_into before (row_words s.block.board.rows s.block.board.count)
     → Continues (map taken_word (taken_of s.block.taken)) rowed pinned rows from
     → Continues (net_words s.nets 64) pinned after from at
-    → w ≡ end_word s.block.book s.block.board.count ((at - from) % 256)
+    → w ≡ end_word s.block.book s.block.board.count (at - from)
     → WrittenWords (board_words (session_of s)) before (set after at w) (at + 1)
 all_written s before rowed pinned after rows from at w e h t r q m C D f =
     let R = row_words s.block.board.rows s.block.board.count in
@@ -50,7 +50,7 @@ all_written s before rowed pinned after rows from at w e h t r q m C D f =
     let ln : length N ≤ 64 = net_words_le s.nets 64 (omega arith) in
     let i : at ≡ from + length N = D.index in
     let j : from ≡ rows + length T = C.index in
-    let c : (at - from) % 256 ≡ length N = omega arith in
+    let c : at - from ≡ length N = omega arith in
     let b : after ≡ written_into before (R ++ (T ++ N)) = B.buffer R before (omega arith) m in
     let l : length (R ++ (T ++ N)) ≡ at = omega (arith, length-append R (T ++ N), length-append T N) in
     let x : w ≡ end_word s.block.book s.block.board.count (length N) = rw c at f in
@@ -60,20 +60,20 @@ all_written s before rowed pinned after rows from at w e h t r q m C D f =
     })
 
 -- ── the whole call ──
-pub unsound_write : (s : Session) (before : List ℕ) → sound? s ≡ false → WritePromise s before answer.Unsound before
+pub unsound_write : (s : Session) (before : List ℕ) → sound? s ≡ false → WritePromise s before (Err Unsound) before
 unfolding write_board
 unsound_write s before e =
     let x : write_board s (length before) ≡ no (refusal 20 0) = rw e refl in
     record { answers = rw x refl; buffer = rw x refl }
 
-pub short_write : (s : Session) (before : List ℕ) → sound? s ≡ true → length before < board_limit → WritePromise s before answer.ShortBuffer before
+pub short_write : (s : Session) (before : List ℕ) → sound? s ≡ true → length before < board_limit → WritePromise s before (Err ShortBuffer) before
 unfolding write_board
 short_write s before e h =
     let x : write_board s (length before) ≡ no (refusal 18 0) = rw (e, lt-ltb (length before) board_limit h) refl in
     record { answers = rw x refl; buffer = rw x refl }
 
 pub whole_write : (s : Session) (before after : List ℕ) (r : ℕ) → sound? s ≡ true → board_limit ≤ length before
-    → WrittenWords (board_words s) before after r → WritePromise s before (answer.Written r) after
+    → WrittenWords (board_words s) before after r → WritePromise s before (Ok r) after
 unfolding write_board
 whole_write s before after r e h w =
     let x : write_board s (length before) ≡ yes (board_words s) = rw (e, le-ltb (length before) board_limit h) refl in

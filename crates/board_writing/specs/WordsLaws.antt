@@ -1,6 +1,6 @@
 -- One row's or place's words more; and all of them are the words of the documents' board, taken pins and nets.
 -- Assumes nothing.
-use Rattle.std.specs.Prelude.{◌≡◌, refl, List, [], ◌∷◌, ◌++◌, map, ℕ, zero, suc, ◌+◌, ◌<◌, ◌≤◌, length, get_or, take, drop}
+use Rattle.std.specs.Prelude.{◌≡◌, refl, List, [], ◌∷◌, ◌++◌, map, ℕ, zero, suc, ◌+◌, ◌<◌, ◌≤◌, length, get_or, take, drop, None, Some}
 use Rattle.std.proofs.Common.{ap, add-one, arith, length-append, length-take, take-suc, drop-cons}
 use Rattle.std.proofs.lemmas.List.{map-append}
 use Rattle.std.proofs.Math.Seq.{take-length, drop-length}
@@ -11,11 +11,8 @@ use Rattle.board.specs.declared.Row.{Row}
 use Rattle.board.specs.declared.Board as code
 use Rattle.board_block.specs.View.{vertex_at, taken_then, taken_from}
 use Rattle.board_block.specs.declared.TakenPins.{TakenPins}
-use Rattle.net.specs.View.{nothing}
+use Rattle.net.specs.View.{Held, nothing}
 use Rattle.net.specs.declared.Net.{Net}
-use Rattle.net.specs.declared.Held.{Held}
-use Rattle.net.specs.declared.Held.TheVariants.{Nothing, Ends}
-use Rattle.net.specs.declared.Place.{Place}
 use Rattle.net_places.specs.Places.{held_net, nets_from, nets_of}
 use Rattle.words.specs.BoardWord.{row_word, taken_word, net_word}
 use Rattle.board_writing.specs.Words.{row_words, pin_word, pin_words_from, net_words, held_word}
@@ -57,22 +54,22 @@ unfolding pin_words_from taken_from
 pin_words_none a = rw (drop-length a) refl
 
 -- ── the nets of the first n places, and their words ──
-snoc_from : (k : ℕ) (ps : List Place) (p : Place) → nets_from k (ps ++ (p ∷ [])) ≡ nets_from k ps ++ held_net (k + length ps) p.held []
+snoc_from : (k : ℕ) (ps : List Held) (p : Held) → nets_from k (ps ++ (p ∷ [])) ≡ nets_from k ps ++ held_net (k + length ps) p []
 unfolding nets_from
 snoc_from k [] p = let e : k + 0 ≡ k = omega arith in rw e refl
 snoc_from k (q ∷ ps) p =
     let e : k + suc (length ps) ≡ suc k + length ps = omega arith in
-    rw (e, snoc_from (suc k) ps p) (held-append k q.held (nets_from (suc k) ps) (held_net (suc k + length ps) p.held []))
+    rw (e, snoc_from (suc k) ps p) (held-append k q (nets_from (suc k) ps) (held_net (suc k + length ps) p []))
   where
     held-append : (k : ℕ) (h : Held) (xs ys : List Net) → held_net k h (xs ++ ys) ≡ held_net k h xs ++ ys
-    held-append k Nothing xs ys = refl
-    held-append k (Ends e) xs ys = refl
+    held-append k None xs ys = refl
+    held-append k (Some e) xs ys = refl
 
 held-word : (k : ℕ) (h : Held) → map net_word (held_net k h []) ≡ held_word k h
-held-word k Nothing = refl
-held-word k (Ends e) = refl
+held-word k None = refl
+held-word k (Some e) = refl
 
-pub net_words_more : (ps : List Place) (n : ℕ) → n < length ps → net_words ps (n + 1) ≡ net_words ps n ++ held_word (n + 1) (get_or ps n nothing).held
+pub net_words_more : (ps : List Held) (n : ℕ) → n < length ps → net_words ps (n + 1) ≡ net_words ps n ++ held_word (n + 1) (get_or ps n nothing)
 unfolding net_words nets_of
 net_words_more ps n h =
     let l : 1 + length (take n ps) ≡ suc n = omega (arith, length-take n ps) in
@@ -81,15 +78,15 @@ net_words_more ps n h =
       take-suc ps n nothing h,
       snoc_from 1 (take n ps) (get_or ps n nothing),
       l,
-      map-append net_word (nets_from 1 (take n ps)) (held_net (suc n) (get_or ps n nothing).held []),
+      map-append net_word (nets_from 1 (take n ps)) (held_net (suc n) (get_or ps n nothing) []),
     )
-    (ap (λ (ws : List ℕ). map net_word (nets_from 1 (take n ps)) ++ ws) (held-word (suc n) (get_or ps n nothing).held))
+    (ap (λ (ws : List ℕ). map net_word (nets_from 1 (take n ps)) ++ ws) (held-word (suc n) (get_or ps n nothing)))
 
 held_word_le : (k : ℕ) (h : Held) → length (held_word k h) ≤ 1
-held_word_le k Nothing = omega arith
-held_word_le k (Ends e) = omega arith
+held_word_le k None = omega arith
+held_word_le k (Some e) = omega arith
 
-pub net_words_le : (ps : List Place) (n : ℕ) → n ≤ length ps → length (net_words ps n) ≤ n
+pub net_words_le : (ps : List Held) (n : ℕ) → n ≤ length ps → length (net_words ps n) ≤ n
 unfolding net_words nets_of nets_from
 net_words_le ps zero h = omega arith
 net_words_le ps (suc n) h =
@@ -97,11 +94,11 @@ net_words_le ps (suc n) h =
     omega (
       arith,
       ap length e,
-      length-append (net_words ps n) (held_word (suc n) (get_or ps n nothing).held),
-      held_word_le (suc n) (get_or ps n nothing).held,
+      length-append (net_words ps n) (held_word (suc n) (get_or ps n nothing)),
+      held_word_le (suc n) (get_or ps n nothing),
       net_words_le ps n (omega arith),
     )
 
-pub net_words_all : (ps : List Place) → net_words ps (length ps) ≡ map net_word (nets_of ps)
+pub net_words_all : (ps : List Held) → net_words ps (length ps) ≡ map net_word (nets_of ps)
 unfolding net_words
 net_words_all ps = rw (take-length ps) refl

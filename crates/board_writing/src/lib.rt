@@ -9,21 +9,31 @@ ghost use Rattle.call_rules.specs.Reading.{board_limit};
 ghost use Rattle.call_rules.specs.Writing.{board_words, written_into};
 ghost use Rattle.board_writing.specs.Buffer.{Continues};
 ghost use Rattle.board_writing.specs.Words.{row_words, pin_word, held_word, net_words};
-ghost use Rattle.board_writing.specs.Promise.{WrittenWords, WritePromise};
+ghost use Rattle.board_writing.specs.Promise.{write_number, WrittenWords, WritePromise};
 
 use board::Board;
-use board_block::TakenPins;
-use net::{Held, Net, Place};
-use numbers::wide;
+use board_block::{Block, TakenPins};
+use net::{Net, Place};
 use session::Session;
 use words::{BOARD_WORDS, BoardEnd};
 
-// What writing answers: the count of words written, or a refusal: 20 an unsound session, 18 a buffer under BOARD_WORDS words.
-#[derive(Clone, Copy)]
-pub enum WriteAnswer {
-    Written(usize),
+// Why a session is not written: it is unsound, or the buffer has under BOARD_WORDS words.
+#[derive(Clone, Copy, PartialEq, Eq)]
+pub enum WriteRefusal {
     Unsound,
     ShortBuffer,
+}
+
+impl WriteRefusal {
+    // Its number in the table.
+    pub fn number(self) -> u8
+        ensures { result ≡ write_number self }
+    {
+        match self {
+            WriteRefusal::Unsound => 20,
+            WriteRefusal::ShortBuffer => 18,
+        }
+    }
 }
 
 // The row words, from the start of the buffer.
@@ -32,10 +42,8 @@ fn write_rows(b: Board, out: &mut [u32])
     requires in_bounds { 31 ≤ length out.old }
     ensures { out.new ≡ written_into out.old (row_words b.rows b.count) }
 {
-    let n = wide(b.count);
-    let rows = b.rows;
-    for i in 0..n {
-        out[i] = words::pack_row(rows[i]);
+    for (i, row) in b.rows[..usize::from(b.count)].iter().enumerate() {
+        out[i] = words::pack_row(*row);
     }
 }
 
@@ -59,8 +67,8 @@ fn write_pins(pins: [u8; 1024], out: &mut [u32], from: usize) -> usize
     ensures { Continues (map taken_word (taken_of pins)) out.old out.new from result }
 {
     let mut at = from;
-    for i in 0..1024 {
-        at = write_pin(i, pins[i], out, at);
+    for (place, count) in pins.iter().enumerate() {
+        at = write_pin(place, *count, out, at);
     }
     at
 }
@@ -68,12 +76,11 @@ fn write_pins(pins: [u8; 1024], out: &mut [u32], from: usize) -> usize
 // The word of what a place holds, at this index of the buffer; answers with the next index.
 fn write_place(place: Place, number: u8, out: &mut [u32], at: usize) -> usize
     requires { at < length out.old }
-    ensures { Continues (held_word number place.held) out.old out.new at result }
+    ensures { Continues (held_word number place) out.old out.new at result }
 {
-    let held = place.held;
-    match held {
-        Held::Nothing => at,
-        Held::Ends(ends) => {
+    match place {
+        None => at,
+        Some(ends) => {
             out[at] = words::pack_net(Net { number, ends });
             at + 1
         }
@@ -86,10 +93,8 @@ fn write_nets(nets: [Place; 64], out: &mut [u32], from: usize) -> usize
     ensures { Continues (net_words nets 64) out.old out.new from result }
 {
     let mut at = from;
-    let mut number: u8 = 0;
-    for i in 0..64 {
-        number += 1;
-        at = write_place(nets[i], number, out, at);
+    for (i, place) in nets.iter().enumerate() {
+        at = write_place(*place, (i + 1) as u8, out, at);
     }
     at
 }
@@ -101,33 +106,27 @@ fn write_sound(s: Session, out: &mut [u32]) -> usize
     requires board_limit_in_bounds { board_limit ≤ length out.old }
     ensures { WrittenWords (board_words (session_of s)) out.old out.new result }
 {
-    let block = s.block;
-    let board = block.board;
-    let book = block.book;
-    let pins = block.taken;
-    let nets = s.nets;
-    let rows = wide(board.count);
+    let Block { board, book, taken } = s.block;
     write_rows(board, out);
-    let from = write_pins(pins, out, rows);
-    let at = write_nets(nets, out, from);
-    let count = ((at - from) % 256) as u8;
+    let from = write_pins(taken, out, usize::from(board.count));
+    let at = write_nets(s.nets, out, from);
     out[at] = words::pack_end(BoardEnd {
         book,
         rows: board.count,
-        nets: count,
+        nets: (at - from) as u8,
     });
     at + 1
 }
 
 // The session's board and nets as words at the start of the buffer; the words after them are untouched.
-pub fn write_board(s: Session, out: &mut [u32]) -> WriteAnswer
+pub fn write_board(s: Session, out: &mut [u32]) -> Result<usize, WriteRefusal>
     ensures { WritePromise (session_of s) out.old result out.new }
 {
     if !s.sound() {
-        return WriteAnswer::Unsound;
+        return Err(WriteRefusal::Unsound);
     }
     if out.len() < BOARD_WORDS {
-        return WriteAnswer::ShortBuffer;
+        return Err(WriteRefusal::ShortBuffer);
     }
-    WriteAnswer::Written(write_sound(s, out))
+    Ok(write_sound(s, out))
 }

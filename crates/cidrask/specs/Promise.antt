@@ -1,10 +1,19 @@
 -- Definitions only: what the calls for C promise. Nothing is proved here.
 use Rattle.std.specs.Prelude.{◌≡◌, List, ℕ, length}
-use Rattle.call_rules.specs.Result.{Result}
+use Rattle.session_rules.specs.Refusal.{Refusal}
+use Rattle.session.specs.View.{session_of}
+use Rattle.session.specs.declared.Session as code
+use Rattle.call_rules.specs.Result.{Result, no, yes}
+use Rattle.call_rules.specs.Reading.{read_bytes}
 use Rattle.call_rules.specs.Writing.{count_of, buffer_after}
 use Rattle.call_rules.specs.Editor.{EditorRoutes, editor_wire, editor_judge, editor_alike, editor_draw}
-use Rattle.cidrask_told.specs.Told.{tell, count_told, wire_told, judge_told, alike_told}
+use Rattle.cidrask_told.specs.Told.{tell, refused_told, count_told, wire_told, judge_told, alike_told}
 use Rattle.cidrask_told.specs.declared.Told.{Told}
+
+-- the board is read, and the call P made on its session; or the refusal is told
+pub data OnBoard (board : List ℕ) (P : code.Session → Told → Type 0) : (t : Told) → Type 0 where
+  unread : {r : Refusal} → read_bytes board ≡ no r → OnBoard board P (refused_told r)
+  read : {s : code.Session} {t : Told} → read_bytes board ≡ yes (session_of s) → P s t → OnBoard board P t
 
 -- reading with routing: what came out, told by t, and the buffer afterwards
 pub record RoutedAs (board before : List ℕ) (t : Told) (after : List ℕ) : Type 0 where

@@ -5,6 +5,7 @@ ghost use Rattle.std.specs.Prelude.{◌≡◌};
 ghost use Rattle.call_rules.specs.Editor.{editor_wire, editor_judge, editor_alike};
 ghost use Rattle.cidrask_told.specs.Told.{wire_told, judge_told, alike_told};
 ghost use Rattle.cidrask.specs.Promise.{
+  OnBoard,
   RoutedAs,
   RoutePromise,
   WirePromise,
@@ -14,61 +15,57 @@ ghost use Rattle.cidrask.specs.Promise.{
   DrawPromise,
 };
 
-use board_reading::ReadAnswer;
 use cidrask_told::Told;
+use session::Session;
 
-// The board is read first; a board that is refused leaves the buffer untouched.
-fn routed(board: &[u8], buffer: &mut [u8]) -> Told
-    ensures { RoutedAs board.now buffer.old result buffer.new }
+// The board is read, and the call made on its session; or the refusal is told.
+fn on_board<F: FnOnce(Session) -> Told>(board: &[u8], call: F) -> Told
+    requires { F.IsAlwaysCallable call }
+    ensures { OnBoard board.now (F.post call) result }
 {
     let after = board_reading::read_bytes(board);
-    let answer = after.answer;
-    match answer {
-        ReadAnswer::Refused(number, place) => cidrask_told::refused(number, place),
-        ReadAnswer::Accepted => cidrask_told::route_told(route_call::route_bytes(
-            after.session,
-            buffer,
-        )),
+    match after.answer {
+        Ok(()) => call(after.session),
+        Err(refusal) => cidrask_told::refused(refusal.number(), refusal.place()),
     }
 }
 
 fn wired(board: &[u8]) -> Told
     ensures { result ≡ wire_told (editor_wire board.now) }
 {
-    let after = board_reading::read_bytes(board);
-    let answer = after.answer;
-    match answer {
-        ReadAnswer::Refused(number, place) => cidrask_told::refused(number, place),
-        ReadAnswer::Accepted => cidrask_told::wire_told(wire_call::wire(after.session)),
-    }
+    on_board(
+        board,
+        |session| cidrask_told::wire_told(wire_call::wire(session)),
+    )
 }
 
 fn judged(board: &[u8], list: &[u8]) -> Told
     ensures { result ≡ judge_told (editor_judge board.now list.now) }
 {
-    let after = board_reading::read_bytes(board);
-    let answer = after.answer;
-    match answer {
-        ReadAnswer::Refused(number, place) => cidrask_told::refused(number, place),
-        ReadAnswer::Accepted => cidrask_told::judge_told(judge_call::judge_bytes(
-            after.session,
-            list,
-        )),
-    }
+    on_board(
+        board,
+        |session| cidrask_told::judge_told(judge_call::judge_bytes(session, list)),
+    )
 }
 
 fn compared(board: &[u8], one: &[u8], two: &[u8]) -> Told
     ensures { result ≡ alike_told (editor_alike board.now one.now two.now) }
 {
+    on_board(
+        board,
+        |session| cidrask_told::alike_told(judge_call::compare_bytes(session, one, two)),
+    )
+}
+
+// A board that is refused leaves the buffer untouched.
+// Kept: what a closure writes through a borrow of the buffer is not known after the call, so this and `drawn` do not go through `on_board`.
+fn routed(board: &[u8], buffer: &mut [u8]) -> Told
+    ensures { RoutedAs board.now buffer.old result buffer.new }
+{
     let after = board_reading::read_bytes(board);
-    let answer = after.answer;
-    match answer {
-        ReadAnswer::Refused(number, place) => cidrask_told::refused(number, place),
-        ReadAnswer::Accepted => cidrask_told::alike_told(judge_call::compare_bytes(
-            after.session,
-            one,
-            two,
-        )),
+    match after.answer {
+        Ok(()) => cidrask_told::route_told(route_call::route_bytes(after.session, buffer)),
+        Err(refusal) => cidrask_told::refused(refusal.number(), refusal.place()),
     }
 }
 
@@ -77,14 +74,9 @@ fn drawn(board: &[u8], list: &[u8], page: &mut [u8]) -> Told
     ensures second_value { result.second ≡ 0 }
 {
     let after = board_reading::read_bytes(board);
-    let answer = after.answer;
-    match answer {
-        ReadAnswer::Refused(number, place) => cidrask_told::refused(number, place),
-        ReadAnswer::Accepted => cidrask_told::draw_told(draw_call::draw_bytes(
-            after.session,
-            list,
-            page,
-        )),
+    match after.answer {
+        Ok(()) => cidrask_told::draw_told(draw_call::draw_bytes(after.session, list, page)),
+        Err(refusal) => cidrask_told::refused(refusal.number(), refusal.place()),
     }
 }
 

@@ -1,6 +1,6 @@
 -- Laws of margins and tallies, for callers.
 -- Assumes nothing.
-use Rattle.std.specs.Prelude.{◌≡◌, refl, Bool, true, false, cond, List, [], ◌∷◌, ◌↔◌, ℕ, zero, suc, ◌+◌, ◌-◌, ◌≤◌, ◌<◌, T, ltb, ℤ, pos, negsuc, ◌-ℤ◌, ◌<ℤ◌}
+use Rattle.std.specs.Prelude.{◌≡◌, refl, Bool, true, false, cond, List, [], ◌∷◌, ◌↔◌, ℕ, zero, suc, ◌+◌, ◌-◌, ◌≤◌, ◌<◌, T, ltb, ℤ, pos, negsuc, ◌-ℤ◌, ◌<ℤ◌, None, Some}
 use Rattle.std.proofs.Common.{ap, sym, ◌∙◌, subst, inl, inr, arith, lt-ltb, le-ltb}
 use Rattle.std.specs.Int.Signed.{lt_z}
 use Rattle.count.specs.Truth.{one}
@@ -9,13 +9,12 @@ use Rattle.count.specs.Sum.{count}
 use Rattle.count.specs.Lists.{tally}
 use Rattle.board.specs.Board.{Board}
 use Rattle.net.specs.declared.Pair.{Pair}
-use Rattle.net.specs.declared.Held.{Held}
-use Rattle.net.specs.declared.Held.TheVariants.{Nothing, Ends}
 use Rattle.cut.specs.Cut.{edges, crosses, crossing, margin, Overfull, overfull?}
 use Rattle.cut.specs.Tally.{TallyOf, held_crosses, with_held, cut_edge}
 use Rattle.cut.specs.declared.Tally.{Tally}
 use Rattle.cut.specs.declared.Cut.{Cut}
 use Rattle.cut.specs.declared.Cut.TheVariants.{Row, Column}
+use Rattle.net.specs.View.{Held}
 
 -- ── a test of signed numbers ──
 T_true : (b : Bool) → T b ↔ (b ≡ true)
@@ -66,8 +65,8 @@ overfull_more b ps x = (
 
 -- ── the tally of a cut ──
 pub with-held : (t : Tally) (x : Cut) (h : Held) → ((with_held t x h).edges ≡ t.edges) × ((with_held t x h).nets ≡ t.nets + held_crosses x h)
-with-held t x Nothing = (refl, omega arith)
-with-held t x (Ends p) = go (crosses x p)
+with-held t x None = (refl, omega arith)
+with-held t x (Some p) = go (crosses x p)
   where
     go : (c : Bool) → ((cond c (record { edges = t.edges; nets = t.nets + 1 }) t).edges ≡ t.edges)
         × ((cond c (record { edges = t.edges; nets = t.nets + 1 }) t).nets ≡ t.nets + one c)
@@ -75,8 +74,8 @@ with-held t x (Ends p) = go (crosses x p)
     go false = (refl, omega arith)
 
 pub held_crosses_le : (x : Cut) (h : Held) → held_crosses x h ≤ 1
-held_crosses_le x Nothing = omega arith
-held_crosses_le x (Ends p) = one_le (crosses x p)
+held_crosses_le x None = omega arith
+held_crosses_le x (Some p) = one_le (crosses x p)
 
 pub edges_count : (b : Board) (x : Cut) → edges b x ≡ count 32 (cut_edge b x)
 unfolding edges

@@ -11,11 +11,10 @@ ghost use Rattle.cut.specs.Extent.{places, lines_of, columns_of, extent};
 ghost use Rattle.cut.specs.Tally.{cut_edge, with_held, TallyOf};
 
 use board::{Board, Direction, Vertex};
-use net::{Held, Pair, Place};
-use numbers::{before, larger};
+use net::{Pair, Place};
 
 // A row i, or a column j: the cut between columns j and j + 1.
-#[derive(Clone, Copy)]
+#[derive(Clone, Copy, PartialEq, Eq)]
 pub enum Cut {
     Row(u8),
     Column(u8),
@@ -50,12 +49,11 @@ pub fn is_crossing(x: Cut, p: Pair) -> bool
 // The tally with one place more: its count of nets is raised when a net held there crosses.
 fn with_place(t: Tally, x: Cut, place: Place) -> Tally
     requires { t.nets ≤ 63 }
-    ensures { result ≡ with_held t x place.held }
+    ensures { result ≡ with_held t x place }
 {
-    let held = place.held;
-    match held {
-        Held::Nothing => t,
-        Held::Ends(p) => {
+    match place {
+        None => t,
+        Some(p) => {
             if is_crossing(x, p) {
                 Tally {
                     edges: t.edges,
@@ -71,7 +69,7 @@ fn with_place(t: Tally, x: Cut, place: Place) -> Tally
 // Counts one place into the lent tally: its count of nets is raised when a net held there crosses.
 fn count_place(t: &mut Tally, x: Cut, place: Place)
     requires { t.old.nets ≤ 63 }
-    ensures { t.new ≡ with_held t.old x place.held }
+    ensures { t.new ≡ with_held t.old x place }
 {
     *t = with_place(*t, x, place);
 }
@@ -79,7 +77,7 @@ fn count_place(t: &mut Tally, x: Cut, place: Place)
 // The tally with one place more: it is lent to be counted into, and handed back.
 fn counted(t: Tally, x: Cut, place: Place) -> Tally
     requires { t.nets ≤ 63 }
-    ensures { result ≡ with_held t x place.held }
+    ensures { result ≡ with_held t x place }
 {
     let mut lent = t;
     count_place(&mut lent, x, place);
@@ -114,7 +112,7 @@ pub fn lines_of(b: Board) -> u8
 pub fn columns_of(b: Board, l: u8) -> u8
     ensures { result ≡ columns_of (board_of b) l }
 {
-    places(larger(board::right_of(b, before(l)), board::right_of(b, l)))
+    places(board::right_of(b, l.saturating_sub(1)).max(board::right_of(b, l)))
 }
 
 // How many columns of a row, or lines of a column, can have an edge of the cut.
@@ -135,7 +133,7 @@ pub fn edges_of(b: Board, x: Cut) -> u8
     let end = extent_of(b, x);
     let mut n: u8 = 0;
     for k in 0..end {
-        n += board::bit(is_cut_edge(b, x, k));
+        n += u8::from(is_cut_edge(b, x, k));
     }
     n
 }
@@ -148,8 +146,8 @@ pub fn tally_of(b: Board, nets: [Place; 64], x: Cut) -> Tally
         edges: edges_of(b, x),
         nets: 0,
     };
-    for i in 0..64 {
-        t = counted(t, x, nets[i]);
+    for place in &nets {
+        t = counted(t, x, *place);
     }
     t
 }

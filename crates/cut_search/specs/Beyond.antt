@@ -1,6 +1,6 @@
 -- What a search need not look at: vertices past the board's lines and columns, which are none, and columns that no net crosses.
 -- Assumes nothing.
-use Rattle.std.specs.Prelude.{◌≡◌, Bool, false, ℕ, ◌-◌, ◌≤◌, min}
+use Rattle.std.specs.Prelude.{◌≡◌, Bool, false, ℕ, ◌-◌, ◌≤◌, min, None, Some}
 use Rattle.std.proofs.Math.Path.{refl}
 use Rattle.std.proofs.Common.{ap, arith, le-leb}
 use Rattle.std.proofs.Math.Bool.{xor}
@@ -12,8 +12,6 @@ use Rattle.board.specs.Board.{Board, at}
 use Rattle.board.specs.Degree.{vertex?}
 use Rattle.board.specs.declared.Vertex.{Vertex}
 use Rattle.net.specs.declared.Pair.{Pair}
-use Rattle.net.specs.declared.Held.{Held}
-use Rattle.net.specs.declared.Held.TheVariants.{Nothing, Ends}
 use Rattle.cut.specs.Cut.{crosses, overfull?}
 use Rattle.cut.specs.Odd.{odd?}
 use Rattle.cut.specs.Tally.{held_crosses}
@@ -23,6 +21,7 @@ use Rattle.cut.specs.Past.{no-vertex-below, no-vertex-right}
 use Rattle.cut.specs.declared.Cut.TheVariants.{Column}
 use Rattle.cut_search.specs.Found.{further, NoneCrossesFrom}
 use Rattle.cut_search.specs.Reading.{lines_from}
+use Rattle.net.specs.View.{Held}
 
 -- ── vertices ──
 first_skip : {A : Type 0} (t : A → Bool) (xs ys : List A) → select t xs ≡ [] → first t (xs ++ ys) ≡ first t ys
@@ -54,13 +53,13 @@ module _ (b : Board) (ps : List Pair) where
 
 -- ── columns ──
 pub further_left : (m : ℕ) (h : Held) → m ≤ further m h
-further_left m Nothing = omega arith
-further_left m (Ends p) = omega arith
+further_left m None = omega arith
+further_left m (Some p) = omega arith
 
 pub further_none : (m j : ℕ) (h : Held) → further m h ≤ j → held_crosses (Column j) h ≡ 0
 unfolding crosses xor
-further_none m j Nothing e = refl
-further_none m j (Ends p) e = rw (le-leb p.first.column j (omega arith), le-leb p.second.column j (omega arith)) refl
+further_none m j None e = refl
+further_none m j (Some p) e = rw (le-leb p.first.column j (omega arith), le-leb p.second.column j (omega arith)) refl
 
 pub columns_done : (b : Board) (ps : List Pair) (n j : ℕ) → NoneCrossesFrom ps n → min n 31 ≤ j
     → first (overfull? b ps) (map Column (rising j (31 - j))) ≡ none

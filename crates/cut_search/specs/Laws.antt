@@ -1,6 +1,6 @@
 -- What the answers of the searches say: the cut or vertex found is the first, and nothing is found exactly where there is none.
 -- Assumes for vertices that the board is within the limits.
-use Rattle.std.specs.Prelude.{◌≡◌, refl, ℕ, ◌+◌, ◌*◌, ◌<◌, get_or}
+use Rattle.std.specs.Prelude.{◌≡◌, refl, ℕ, ◌+◌, ◌*◌, ◌<◌, get_or, None, Some}
 use mathlib.Core.List.{List, [], ◌∷◌, ◌++◌, head?}
 use Rattle.std.proofs.Math.Option.{Option, none, some}
 use Rattle.std.proofs.Common.{arith}
@@ -15,9 +15,6 @@ use Rattle.cut.specs.First.{no-overfull, first-overfull, no-odd, first-odd}
 use Rattle.cut.specs.declared.Cut.{Cut}
 use Rattle.net_terminals.specs.Counts.{Counts}
 use Rattle.cut_search.specs.Found.{overfull_rows, overfull_columns, found_cut, odd_with, found_vertex}
-use Rattle.cut_search.specs.declared.FoundCut as code-cut
-use Rattle.cut_search.specs.declared.FoundVertex as code-vertex
-use Rattle.cut_search.specs.declared.FoundCut.TheVariants.{At, Nothing}
 
 -- ── rows first, then columns ──
 pub rows_then_columns : (b : Board) (ps : List Pair) → overfull_cuts b ps ≡ overfull_rows b ps ++ overfull_columns b ps
@@ -33,19 +30,19 @@ head_else [] ys e = refl
 head_else (y ∷ xs) ys e = absurd (let z : ◌≡◌ {A = ℕ} 0 1 = cc in omega arith)
 
 -- the first overfull cut is the first overfull row, and where there is none the first overfull column
-pub found_some : (o : Option Cut) (x : Cut) → At x ≡ found_cut o → o ≡ some x
+pub found_some : (o : Option Cut) (x : Cut) → Some x ≡ found_cut o → o ≡ some x
 found_some none x e = absurd (let z : ◌≡◌ {A = ℕ} 0 1 = cc in omega arith)
 found_some (some y) x e = cc
 
-pub found_none : (o : Option Cut) → Nothing ≡ found_cut o → o ≡ none
+pub found_none : (o : Option Cut) → None ≡ found_cut o → o ≡ none
 found_none none e = refl
 found_none (some y) e = absurd (let z : ◌≡◌ {A = ℕ} 0 1 = cc in omega arith)
 
-pub first_is_row : (b : Board) (ps : List Pair) (x : Cut) → At x ≡ found_cut (head? (overfull_rows b ps)) → At x ≡ found_cut (head? (overfull_cuts b ps))
+pub first_is_row : (b : Board) (ps : List Pair) (x : Cut) → Some x ≡ found_cut (head? (overfull_rows b ps)) → Some x ≡ found_cut (head? (overfull_cuts b ps))
 first_is_row b ps x e =
     rw (rows_then_columns b ps, head_then (overfull_rows b ps) (overfull_columns b ps) x (found_some (head? (overfull_rows b ps)) x e)) refl
 
-pub first_is_column : (b : Board) (ps : List Pair) → Nothing ≡ found_cut (head? (overfull_rows b ps))
+pub first_is_column : (b : Board) (ps : List Pair) → None ≡ found_cut (head? (overfull_rows b ps))
     → found_cut (head? (overfull_columns b ps)) ≡ found_cut (head? (overfull_cuts b ps))
 first_is_column b ps e =
     rw (rows_then_columns b ps, head_else (overfull_rows b ps) (overfull_columns b ps) (found_none (head? (overfull_rows b ps)) e)) refl
@@ -53,26 +50,26 @@ first_is_column b ps e =
 -- ── what the answers name ──
 module _ (b : Board) (ps : List Pair) where
   -- the answer of `first_overfull`
-  pub overfull-named : (x : Cut) → code-cut.TheVariants.At x ≡ found_cut (head? (overfull_cuts b ps)) → FirstOverfull b ps x
+  pub overfull-named : (x : Cut) → Some x ≡ found_cut (head? (overfull_cuts b ps)) → FirstOverfull b ps x
   overfull-named x e = (first-overfull b ps x).0 (found_some (head? (overfull_cuts b ps)) x e)
 
-  pub overfull-nothing : code-cut.TheVariants.Nothing ≡ found_cut (head? (overfull_cuts b ps)) → (x : Cut) → IsCut b x → Overfull b ps x → ⊥
+  pub overfull-nothing : None ≡ found_cut (head? (overfull_cuts b ps)) → (x : Cut) → IsCut b x → Overfull b ps x → ⊥
   overfull-nothing e = (no-overfull b ps).0 ((head-none (overfull_cuts b ps)).0 (found_none (head? (overfull_cuts b ps)) e))
 
-pub vertex_some : (o : Option Vertex) (v : Vertex) → code-vertex.TheVariants.At v ≡ found_vertex o → o ≡ some v
+pub vertex_some : (o : Option Vertex) (v : Vertex) → Some v ≡ found_vertex o → o ≡ some v
 vertex_some none v e = absurd (let z : ◌≡◌ {A = ℕ} 0 1 = cc in omega arith)
 vertex_some (some u) v e = cc
 
-pub vertex_none : (o : Option Vertex) → code-vertex.TheVariants.Nothing ≡ found_vertex o → o ≡ none
+pub vertex_none : (o : Option Vertex) → None ≡ found_vertex o → o ≡ none
 vertex_none none e = refl
 vertex_none (some u) e = absurd (let z : ◌≡◌ {A = ℕ} 0 1 = cc in omega arith)
 
 module _ (b : Board) (ps : List Pair) (W : Within b) where
   -- the answer of `first_odd`
-  pub odd-named : (v : Vertex) → code-vertex.TheVariants.At v ≡ found_vertex (head? (odd_vertices b ps)) → FirstOdd b ps v
+  pub odd-named : (v : Vertex) → Some v ≡ found_vertex (head? (odd_vertices b ps)) → FirstOdd b ps v
   odd-named v e = (first-odd b ps W v).0 (vertex_some (head? (odd_vertices b ps)) v e)
 
-  pub odd-nothing : code-vertex.TheVariants.Nothing ≡ found_vertex (head? (odd_vertices b ps)) → (v : Vertex) → IsVertex b v → Even b ps v
+  pub odd-nothing : None ≡ found_vertex (head? (odd_vertices b ps)) → (v : Vertex) → IsVertex b v → Even b ps v
   odd-nothing e = (no-odd b ps W).0 ((head-none (odd_vertices b ps)).0 (vertex_none (head? (odd_vertices b ps)) e))
 
 -- ── odd by the count of terminals ──

@@ -1,6 +1,6 @@
 -- A line of the drawing byte by byte, lines one below the other, and what reading answers as a drawing; what is drawn is of the four named kinds.
 -- Assumes what reading promises.
-use Rattle.std.specs.Prelude.{◌≡◌, ℕ, zero, suc, ◌+◌, ◌<◌, length, get_or}
+use Rattle.std.specs.Prelude.{◌≡◌, ℕ, zero, suc, ◌+◌, ◌<◌, length, get_or, Ok, Err}
 use Rattle.std.proofs.Common.{ap, ◌∙◌, add-one, length-append, get_or-append-add}
 use Rattle.std.proofs.Math.Path.{subst⁻¹}
 use mathlib.Core.List.{List, [], ◌∷◌, ◌++◌, flat_map, append_assoc, append-nil}
@@ -19,10 +19,10 @@ use Rattle.session_rules.specs.Session.{Session}
 use Rattle.call_rules.specs.Result.{yes}
 use Rattle.call_rules.specs.Reading.{read_bytes}
 use Rattle.board_roundtrip.specs.RoundTrip.{read_bytes_sound}
-use Rattle.board_reading.specs.Promise.{ReadPromise}
+use Rattle.board_reading.specs.Promise.{AfterRead, ReadPromise}
 use Rattle.board_reading.proofs.ReadAs.{read_refused, read_accepted}
-use Rattle.board_reading.specs.declared.AfterRead.{AfterRead}
-use Rattle.board_reading.specs.declared.ReadAnswer.TheVariants as answer
+use Rattle.board_reading.specs.Refused.{read_number, read_place}
+use Rattle.board_reading.specs.declared.ReadRefusal.{ReadRefusal}
 use Rattle.degrees.specs.Drawing.{sign_of, signs_on, line_drawn, board_drawn, drawn, bytes_drawn}
 
 -- ── a line ──
@@ -61,11 +61,11 @@ put_line_more f n {j = j} {b = b} {d = d} P Q =
     subst⁻¹ (λ (t : List ℕ). Put t 0 b j d) more (put_then P Q)
 
 -- ── what reading answers ──
-pub refusal_drawn : (bytes : List ℕ) {r : AfterRead} (n p : ℕ) → ReadPromise (read_bytes bytes) r → r.answer ≡ answer.Refused n p
-    → bytes_drawn bytes ≡ refused_line n (p ∷ [])
-refusal_drawn bytes n p P e = ap drawn (read_refused P n p e)
+pub refusal_drawn : (bytes : List ℕ) {r : AfterRead} (e : ReadRefusal) → ReadPromise (read_bytes bytes) r → r.answer ≡ Err e
+    → bytes_drawn bytes ≡ refused_line (read_number e) (read_place e ∷ [])
+refusal_drawn bytes e P h = ap drawn (read_refused P e h)
 
-pub board-drawn : (bytes : List ℕ) {r : AfterRead} → ReadPromise (read_bytes bytes) r → r.answer ≡ answer.Accepted
+pub board-drawn : (bytes : List ℕ) {r : AfterRead} → ReadPromise (read_bytes bytes) r → r.answer ≡ Ok tt
     → bytes_drawn bytes ≡ board_drawn (board_of r.session.block.board)
 board-drawn bytes P e = ap drawn (read_accepted P e)
 

@@ -13,8 +13,6 @@ ghost use Rattle.degrees.specs.Drawing.{sign_of, line_drawn, board_drawn, bytes_
 
 use board::{Board, Vertex};
 use board_degree::VertexKind;
-use board_reading::ReadAnswer;
-use numbers::{smaller, wide};
 
 // The sign of a vertex.
 fn sign(kind: VertexKind) -> u8
@@ -37,7 +35,7 @@ fn draw_line(b: Board, l: u8, out: &mut [u8], at: usize) -> usize
 {
     for c in 0..32 {
         let kind = board_degree::kind_of(b, Vertex { line: l, column: c });
-        out[at + wide(c)] = sign(kind);
+        out[at + usize::from(c)] = sign(kind);
     }
     out[at + 32] = b'\n';
     at + 33
@@ -48,7 +46,7 @@ fn draw_board(b: Board, out: &mut [u8]) -> usize
     requires { 1056 ≤ length out.old }
     ensures { Holds (board_drawn (board_of b)) result out.new }
 {
-    let lines = smaller(b.count, 31) + 1;
+    let lines = b.count.min(31) + 1;
     let mut end: usize = 0;
     for l in 0..lines {
         end = draw_line(b, l, out, end);
@@ -61,10 +59,9 @@ fn draw_bytes(bytes: &[u8], out: &mut [u8; 1056]) -> usize
     ensures { Holds (bytes_drawn bytes.now) result out.new }
 {
     let after = board_reading::read_bytes(bytes);
-    let answer = after.answer;
-    match answer {
-        ReadAnswer::Refused(number, place) => text::refused(wide(number), place, out),
-        ReadAnswer::Accepted => draw_board(after.session.block.board, out),
+    match after.answer {
+        Ok(()) => draw_board(after.session.block.board, out),
+        Err(refusal) => text::refused(usize::from(refusal.number()), refusal.place(), out),
     }
 }
 

@@ -39,8 +39,7 @@ use Rattle.call_rules.specs.Judge.{judged, if_even}
 use Rattle.route_call.specs.Answers.{route_answer}
 use Rattle.cidrask_told.specs.Told.{tell, judge_told}
 use Rattle.board_convex.proofs.Exact.{is-convex}
-use Rattle.board_reading.specs.Promise.{read_answer, refusal_in, ReadPromise}
-use Rattle.board_reading.specs.declared.AfterRead.{AfterRead}
+use Rattle.board_reading.specs.Promise.{AfterRead, read_answer, refusal_in, ReadPromise}
 use Rattle.judge_call.specs.Answers.{judgement_of, likeness_of}
 use Rattle.judge_laws.specs.Passing.{Numbered}
 use Rattle.judge_laws.specs.Exact.{passes_exactly}

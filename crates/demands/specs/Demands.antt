@@ -4,6 +4,7 @@
 -- with its contract, of the method `add_all` of crate session, which is lent a slice of nets, and of crate cidrask for C; the checker holds the
 -- code to them, and to ending on every input.
 -- Nothing is proved in this file.
+use Rattle.std.specs.Prelude as prelude
 use Rattle.std.specs.Prelude.{◌≡◌, Bool, true, List, [], ◌∷◌, ◌++◌, ◌↔◌, ◌⊎◌, ℕ, ◌+◌, ◌/◌, ◌%◌, ◌≤◌, ◌<◌, length, take, replicate}
 use Rattle.std.proofs.Math.Option.{none, some}
 use Rattle.count.specs.Truth.{Decides}
@@ -31,13 +32,14 @@ use Rattle.session_rules.specs.Names.{Keeps, Returns, ChangesName, Untouched}
 use Rattle.session_rules.specs.NewRule.{under_new, over_refusal}
 use Rattle.session_rules.specs.Moves.{Moves, RefusedAfresh}
 use Rattle.session.specs.declared.Session.{Session}
-use Rattle.session.specs.declared.AfterAdd.{AfterAdd}
-use Rattle.session.specs.declared.AfterAddAll.{AfterAddAll}
-use Rattle.session.specs.declared.AfterWithdraw.{AfterWithdraw}
-use Rattle.session.specs.declared.AfterTakeBack.{AfterTakeBack}
-use Rattle.session.specs.declared.AfterKeep.{AfterKeep}
-use Rattle.session.specs.declared.AfterReturn.{AfterReturn}
-use Rattle.session_move.specs.declared.AfterMove.{AfterMove}
+use Rattle.session.specs.declared.After.{After}
+use Rattle.session_answers.specs.declared.AddAllAnswer.{AddAllAnswer}
+use Rattle.session_answers.specs.declared.AddRefusal.{AddRefusal}
+use Rattle.session_answers.specs.declared.WithdrawRefusal.{WithdrawRefusal}
+use Rattle.session_answers.specs.declared.TakeBackRefusal.{TakeBackRefusal}
+use Rattle.session_answers.specs.declared.KeepRefusal.{KeepRefusal}
+use Rattle.session_answers.specs.declared.ReturnRefusal.{ReturnRefusal}
+use Rattle.session_answers.specs.declared.MoveRefusal.{MoveRefusal}
 use Rattle.session_move.specs.Promise.{MovePromise}
 use Rattle.session.specs.View.{session_of}
 use Rattle.session.specs.Value.{add_all_of}
@@ -55,21 +57,19 @@ use Rattle.call_rules.specs.Page.{edges_of, page_of, page_room}
 use Rattle.call_rules.specs.ReadOff.{ReadsOff}
 use Rattle.call_rules.specs.Route.{route_room, route_refused, HandsBack, HandsBackBytes, Routes, RoutesBytes}
 use Rattle.call_rules.specs.Wire.{figures_of, wire, Bounded}
-use Rattle.board_reading.specs.declared.AfterRead.{AfterRead}
-use Rattle.board_reading.specs.Promise.{read_answer, ReadPromise}
+use Rattle.board_reading.specs.Promise.{AfterRead, read_answer, ReadPromise}
 use Rattle.board_roundtrip.specs.Parts.{Bytes, as_read}
-use Rattle.board_writing.specs.declared.WriteAnswer.{WriteAnswer}
+use Rattle.board_writing.specs.declared.WriteRefusal.{WriteRefusal}
 use Rattle.board_writing.specs.Promise.{write_answer, WritePromise}
-use Rattle.judge_call.specs.declared.Judgement.{Judgement}
-use Rattle.judge_call.specs.declared.Likeness.{Likeness}
+use Rattle.judge_report.specs.declared.Report as code-report
+use Rattle.judge_call.specs.declared.JudgeRefusal.{JudgeRefusal}
+use Rattle.judge_call.specs.declared.CompareRefusal.{CompareRefusal}
 use Rattle.judge_call.specs.Answers.{judgement_of, likeness_of}
-use Rattle.draw_call.specs.declared.DrawAnswer.{DrawAnswer}
+use Rattle.draw_call.specs.declared.DrawRefusal.{DrawRefusal}
 use Rattle.draw_call.specs.Answers.{draw_answer}
 use Rattle.draw_call.specs.Promise.{DrawWordsPromise, DrawBytesPromise}
-use Rattle.route_call.specs.declared.RouteAnswer.{RouteAnswer}
-use Rattle.route_call.specs.Answers.{route_answer}
-use Rattle.wire_call.specs.declared.WireAnswer.{WireAnswer}
-use Rattle.wire_call.specs.Answers.{wire_answer}
+use Rattle.route_call.specs.Answers.{RouteAnswer, route_answer}
+use Rattle.wire_call.specs.Answers.{WireAnswer, wire_answer}
 use Rattle.cidrask_told.specs.declared.Told.{Told}
 use Rattle.cidrask_told.specs.Told.{tell, first_of, refused_told, count_told}
 use Rattle.cidrask.specs.Promise.{RoutePromise, WirePromise, JudgePromise, AlikePromise, DrawPromise}
@@ -159,7 +159,7 @@ pub record Decided (s : machine.Session) (Given : ℕ → Type 0) (Refused : Typ
   pub refused : Refused ↔ (Routable s.block.board (pairs s.nets) → ⊥)
 
 -- judging accepts
-abbrev pub Passes : Judgement → Type 0
+abbrev pub Passes : prelude.Result code-report.Report JudgeRefusal → Type 0
 Passes r = (x : Report) × (judgement_of r ≡ yes x)
 
 -- the words are those of a routing of the session's nets, which has the paths dss
@@ -178,32 +178,32 @@ OfRouting s ws = (dss : List (List Direction)) × IsRouting s ws dss
 -- definition's; a refusal changes nothing, but for a list of nets: "for this call alone a refusal leaves that much changed and no more" (document
 -- 02, §1).
 pub record Demand1 : Type 0 where
-  pub add : (s : Session) (n : Net) (r : AfterAdd) → AddPromise s n r
+  pub add : (s : Session) (n : Net) (r : After (prelude.Result Unit AddRefusal)) → AddPromise s n r
       → (add_answer r.answer ≡ (call (session_of s) (calls.add n)).answer) × (session_of r.session ≡ (call (session_of s) (calls.add n)).next)
       × ((add_answer r.answer ≡ accepted → ⊥) → r.session ≡ s)
   -- 02, §1: an unsound session gets 20, and none went on; else the result is that of single adds up to the first that is refused. Changed is what
   -- the nets left that went on, and no more: with none, the very session that was given is handed back
-  pub add-all : (s : Session) (ns : List Net) (r : AfterAddAll) → AddAllPromise s ns r
+  pub add-all : (s : Session) (ns : List Net) (r : After AddAllAnswer) → AddAllPromise s ns r
       → (add_all_answer r.answer ≡ (call (session_of s) (calls.add_all ns)).answer)
       × (session_of r.session ≡ (call (session_of s) (calls.add_all ns)).next)
       × (Unsound (session_of s) → add_all_answer r.answer ≡ went_on 0 (some (refusal 20 0)))
       × (Sound (session_of s) → OneByOne (session_of s) ns (add_all_answer r.answer) (session_of r.session))
       × (r.session ≡ (add_all_of s (take r.answer.count ns)).session)
       × (r.answer.count ≡ 0 → r.session ≡ s)
-  pub withdraw : (s : Session) (k : ℕ) (r : AfterWithdraw) → WithdrawPromise s k r
+  pub withdraw : (s : Session) (k : ℕ) (r : After (prelude.Result Unit WithdrawRefusal)) → WithdrawPromise s k r
       → (withdraw_answer r.answer ≡ (call (session_of s) (calls.withdraw k)).answer)
       × (session_of r.session ≡ (call (session_of s) (calls.withdraw k)).next)
       × ((withdraw_answer r.answer ≡ accepted → ⊥) → r.session ≡ s)
-  pub take-back : (s : Session) (r : AfterTakeBack) → TakeBackPromise s r
+  pub take-back : (s : Session) (r : After (prelude.Result Unit TakeBackRefusal)) → TakeBackPromise s r
       → (take_back_answer r.answer ≡ (call (session_of s) calls.take_back).answer) × (session_of r.session ≡ (call (session_of s) calls.take_back).next)
       × ((take_back_answer r.answer ≡ accepted → ⊥) → r.session ≡ s)
   -- 02, §5: `Keeps` and `Returns` have the request's sentences, refusals 35 and 36 among them
-  pub keep : (s : Session) (k : ℕ) (r : AfterKeep) → KeepPromise s k r
+  pub keep : (s : Session) (k : ℕ) (r : After (prelude.Result Unit KeepRefusal)) → KeepPromise s k r
       → (keep_answer r.answer ≡ (call (session_of s) (calls.keep k)).answer)
       × (session_of r.session ≡ (call (session_of s) (calls.keep k)).next)
       × Keeps (session_of s) k (keep_answer r.answer) (session_of r.session)
       × ((keep_answer r.answer ≡ accepted → ⊥) → r.session ≡ s)
-  pub return-to : (s : Session) (k : ℕ) (r : AfterReturn) → ReturnPromise s k r
+  pub return-to : (s : Session) (k : ℕ) (r : After (prelude.Result Unit ReturnRefusal)) → ReturnPromise s k r
       → (return_answer r.answer ≡ (call (session_of s) (calls.return_to k)).answer)
       × (session_of r.session ≡ (call (session_of s) (calls.return_to k)).next)
       × Returns (session_of s) k (return_answer r.answer) (session_of r.session)
@@ -211,7 +211,7 @@ pub record Demand1 : Type 0 where
   -- 02, §10: `Moves` has the request's sentences, 39 among them. Of a sound session 39 comes exactly where, under the new book, a taken pin would get
   -- 38 or one of the nets, entered afresh one by one, would be refused; and such a session is sound afterwards. "Moving a session already under the
   -- new rule changes nothing at all."
-  pub move : (s : Session) (r : AfterMove) → MovePromise s r
+  pub move : (s : Session) (r : After (prelude.Result Unit MoveRefusal)) → MovePromise s r
       → (move_answer r.answer ≡ (call (session_of s) calls.move_over).answer) × (session_of r.session ≡ (call (session_of s) calls.move_over).next)
       × Moves (session_of s) (move_answer r.answer) (session_of r.session)
       × (Sound (session_of s)
@@ -232,13 +232,13 @@ pub record Demand1 : Type 0 where
       × ((bs : List ℕ) (r : AfterRead) → ReadPromise (read_bytes bs) r → (session_of r.session).names ≡ nothing_kept)
   pub read-words : (ws : List ℕ) (r : AfterRead) → ReadPromise (read_words ws) r → Reads (read_words ws) r
   pub read-bytes : (bs : List ℕ) (r : AfterRead) → ReadPromise (read_bytes bs) r → Reads (read_bytes bs) r
-  pub write : (s : Session) (before : List ℕ) (r : WriteAnswer) (after : List ℕ) → WritePromise (session_of s) before r after
+  pub write : (s : Session) (before : List ℕ) (r : prelude.Result ℕ WriteRefusal) (after : List ℕ) → WritePromise (session_of s) before r after
       → (write_answer r ≡ count_of (write_board (session_of s) (length before))) × (after ≡ buffer_after before (write_board (session_of s) (length before)))
       × ((q : Refusal) → write_answer r ≡ no q → after ≡ before)
   -- judging and comparing are lent nothing to write to
-  pub judge : (s : Session) (ws : List ℕ) (r : Judgement) → judgement_of r ≡ judge_words (session_of s) ws
+  pub judge : (s : Session) (ws : List ℕ) (r : prelude.Result code-report.Report JudgeRefusal) → judgement_of r ≡ judge_words (session_of s) ws
       → (Unsound (session_of s) → judgement_of r ≡ no (refusal 20 0)) × (Sound (session_of s) → Judges (session_of s) ws (judgement_of r))
-  pub judge-bytes : (s : Session) (bs : List ℕ) (r : Judgement) → judgement_of r ≡ judge_bytes (session_of s) bs
+  pub judge-bytes : (s : Session) (bs : List ℕ) (r : prelude.Result code-report.Report JudgeRefusal) → judgement_of r ≡ judge_bytes (session_of s) bs
       → (Unsound (session_of s) → judgement_of r ≡ no (refusal 20 0))
       × (Sound (session_of s) → ((WholeWords bs → ⊥) → judgement_of r ≡ no (refusal 10 0))
       × (WholeWords bs → Judges (session_of s) (words_in bs) (judgement_of r)))
@@ -248,18 +248,18 @@ pub record Demand1 : Type 0 where
       → (turns_occurring v (pairs s.nets) dss ≤ 2)
       × ((knock_knee (pairs s.nets) dss v ≡ true) ↔ TwoTurns (turns_of_each v (pairs s.nets) dss))
       × (Within s.block.board → knock_knee (pairs s.nets) dss v ≡ true → (v.line < 32) × (v.column < 32))
-  pub compare : (s : Session) (vs ws : List ℕ) (r : Likeness) → likeness_of r ≡ compare_words (session_of s) vs ws
+  pub compare : (s : Session) (vs ws : List ℕ) (r : prelude.Result Bool CompareRefusal) → likeness_of r ≡ compare_words (session_of s) vs ws
       → (Unsound (session_of s) → likeness_of r ≡ no (refusal 20 0)) × (Sound (session_of s) → Compares (session_of s) vs ws (likeness_of r))
-  pub compare-bytes : (s : Session) (one two : List ℕ) (r : Likeness) → likeness_of r ≡ compare_bytes (session_of s) one two
+  pub compare-bytes : (s : Session) (one two : List ℕ) (r : prelude.Result Bool CompareRefusal) → likeness_of r ≡ compare_bytes (session_of s) one two
       → (Unsound (session_of s) → likeness_of r ≡ no (refusal 20 0)) × (Sound (session_of s) → ComparesBytes (session_of s) one two (likeness_of r))
   -- 02, §3: "Any two that are alike in the new sense were alike in the old one": every net uses equally many edges in both
   pub were_alike : (s : machine.Session) (vs ws : List ℕ) (dss ess : List (List Direction)) → judged s vs ≡ yes dss → judged s ws ≡ yes ess
       → SameCopper s dss ess → equally_many dss ess ≡ true
   -- 02, §7: `Draws` has the call's sentences; what its page shows is `read_off`
-  pub draw : (s : Session) (ws before : List ℕ) (r : DrawAnswer) (after : List ℕ) → DrawWordsPromise (session_of s) ws before r after
+  pub draw : (s : Session) (ws before : List ℕ) (r : prelude.Result ℕ DrawRefusal) (after : List ℕ) → DrawWordsPromise (session_of s) ws before r after
       → (Unsound (session_of s) → (draw_answer r ≡ no (refusal 20 0)) × (after ≡ before))
       × (Sound (session_of s) → Draws (session_of s) ws before (draw_answer r) after)
-  pub draw-bytes : (s : Session) (bs before : List ℕ) (r : DrawAnswer) (after : List ℕ) → DrawBytesPromise (session_of s) bs before r after
+  pub draw-bytes : (s : Session) (bs before : List ℕ) (r : prelude.Result ℕ DrawRefusal) (after : List ℕ) → DrawBytesPromise (session_of s) bs before r after
       → (Unsound (session_of s) → (draw_answer r ≡ no (refusal 20 0)) × (after ≡ before))
       × (Sound (session_of s) → DrawsBytes (session_of s) bs before (draw_answer r) after)
   -- "every used edge can be read off it": the edges that the paths use, which are edges of the board, the vertices, and spaces for all else
@@ -353,19 +353,21 @@ pub record Demand2 : Type 0 where
       → (r ≡ true) ↔ Convex (board_of b)
   pub taken : (b : Board) → Within b → (is_convex b ≡ true) ↔ Convex b
   -- "A word list passes exactly when it has the shape of 01's routing words and its paths are a routing of the board's nets as 01 defines it."
-  pub passes : (s : Session) (ws : List ℕ) (r : Judgement) → Sound (session_of s) → judgement_of r ≡ judge_words (session_of s) ws
+  pub passes : (s : Session) (ws : List ℕ) (r : prelude.Result code-report.Report JudgeRefusal) → Sound (session_of s) → judgement_of r ≡ judge_words (session_of s) ws
       → Passes r ↔ OfRouting s ws
   -- and a list of bytes when it is whole words and they do
-  pub passes_bytes : (s : Session) (bs : List ℕ) (r : Judgement) → Sound (session_of s) → judgement_of r ≡ judge_bytes (session_of s) bs
+  pub passes_bytes : (s : Session) (bs : List ℕ) (r : prelude.Result code-report.Report JudgeRefusal) → Sound (session_of s) → judgement_of r ≡ judge_bytes (session_of s) bs
       → Passes r ↔ (WholeWords bs × OfRouting s (words_in bs))
   -- "A session written as words reads back with the same board and nets," its taken pins and its book among what belongs to the board (02, §8: "They
   -- are written too, and read back the same"; §9: "Written words carry the board's rule"),
-  pub reads_back : (s : Session) (before : List ℕ) (w : WriteAnswer) (after : List ℕ) → Sound (session_of s) → board_limit ≤ length before
+  pub reads_back : (s : Session) (before : List ℕ) (w : prelude.Result ℕ WriteRefusal) (after : List ℕ) → Sound (session_of s)
+      → board_limit ≤ length before
       → WritePromise (session_of s) before w after
       → (n : ℕ) × (write_answer w ≡ yes n) × ((r : AfterRead) → ReadPromise (read_words (take n after)) r
       → (read_answer r.answer ≡ none) × ((session_of r.session).block ≡ (session_of s).block) × ((session_of r.session).nets ≡ (session_of s).nets))
   -- and accepted words write back as the same words."
-  pub writes_back : (ws : List ℕ) (r : AfterRead) (before : List ℕ) (w : WriteAnswer) (after : List ℕ) → ReadPromise (read_words ws) r
+  pub writes_back : (ws : List ℕ) (r : AfterRead) (before : List ℕ) (w : prelude.Result ℕ WriteRefusal) (after : List ℕ)
+      → ReadPromise (read_words ws) r
       → read_answer r.answer ≡ none → board_limit ≤ length before → WritePromise (session_of r.session) before w after
       → (write_answer w ≡ yes (length ws)) × (after ≡ written_into before ws)
   -- the same in bytes
@@ -388,18 +390,20 @@ pub record Demand3 : Type 0 where
       → FreshPromise b s → Fresh (session_of s) × (session_of s ≡ bare (block_of b))
   -- adds, lists of nets, withdrawals, take-backs, keeps, returns and moves that kept their promises are calls of such a list, as the machine is fed
   -- them
-  pub add_made : (s : Session) (n : Net) (r : AfterAdd) → AddPromise s n r → Meets s (changed (calls.add n) (add_answer r.answer) r.session)
-  pub add_all_made : (s : Session) (ns : List Net) (r : AfterAddAll) → AddAllPromise s ns r
+  pub add_made : (s : Session) (n : Net) (r : After (prelude.Result Unit AddRefusal)) → AddPromise s n r
+      → Meets s (changed (calls.add n) (add_answer r.answer) r.session)
+  pub add_all_made : (s : Session) (ns : List Net) (r : After AddAllAnswer) → AddAllPromise s ns r
       → Meets s (changed (calls.add_all ns) (add_all_answer r.answer) r.session)
-  pub withdraw_made : (s : Session) (k : ℕ) (r : AfterWithdraw) → WithdrawPromise s k r
+  pub withdraw_made : (s : Session) (k : ℕ) (r : After (prelude.Result Unit WithdrawRefusal)) → WithdrawPromise s k r
       → Meets s (changed (calls.withdraw k) (withdraw_answer r.answer) r.session)
-  pub take_back_made : (s : Session) (r : AfterTakeBack) → TakeBackPromise s r
+  pub take_back_made : (s : Session) (r : After (prelude.Result Unit TakeBackRefusal)) → TakeBackPromise s r
       → Meets s (changed calls.take_back (take_back_answer r.answer) r.session)
-  pub keep_made : (s : Session) (k : ℕ) (r : AfterKeep) → KeepPromise s k r
+  pub keep_made : (s : Session) (k : ℕ) (r : After (prelude.Result Unit KeepRefusal)) → KeepPromise s k r
       → Meets s (changed (calls.keep k) (keep_answer r.answer) r.session)
-  pub return_made : (s : Session) (k : ℕ) (r : AfterReturn) → ReturnPromise s k r
+  pub return_made : (s : Session) (k : ℕ) (r : After (prelude.Result Unit ReturnRefusal)) → ReturnPromise s k r
       → Meets s (changed (calls.return_to k) (return_answer r.answer) r.session)
-  pub move_made : (s : Session) (r : AfterMove) → MovePromise s r → Meets s (changed calls.move_over (move_answer r.answer) r.session)
+  pub move_made : (s : Session) (r : After (prelude.Result Unit MoveRefusal)) → MovePromise s r
+      → Meets s (changed calls.move_over (move_answer r.answer) r.session)
   -- 02, §5: a return to a name is accepted and brings back the nets that were on the board at the keep, with an empty pile, whatever calls came
   -- between, routings and other returns included, but for another keep under that name and moves to the new rule; the board and the names are as
   -- before the return
@@ -409,7 +413,7 @@ pub record Demand3 : Type 0 where
       × (answers_of ms ≡ calls.answers (session_of s) (calls.keep k ∷ between) ++ (accepted ∷ []))
   -- 02, §1: "A routing after such a call is given or refused as after the single adds": those of the nets that went on, and of the next, if one was
   -- refused. The sessions stand for the same, and two routing calls with the same buffer are refused alike, so also given alike
-  pub as_singly : (s : Session) (ns : List Net) (r : AfterAddAll) (singles : List Made) → AddAllPromise s ns r → Chain s singles
+  pub as_singly : (s : Session) (ns : List Net) (r : After AddAllAnswer) (singles : List Made) → AddAllPromise s ns r → Chain s singles
       → calls_of singles ≡ singly (take (r.answer.count + 1) ns)
       → (session_of (last s singles) ≡ session_of r.session)
       × ((before : List ℕ) (x y : RouteAnswer) (after after' : List ℕ)
@@ -423,7 +427,8 @@ pub record Demand3 : Type 0 where
   -- 02, §10: "A routing after the move is given or refused as if the nets had been entered afresh under the new book": the nets, added one by one to
   -- the bare board under the new book, are refused nowhere and leave the same board and nets, and two routing calls with the same buffer are refused
   -- alike, so also given alike
-  pub as_afresh : (s u : Session) (r : AfterMove) (singles : List Made) → MovePromise s r → move_answer r.answer ≡ accepted
+  pub as_afresh : (s u : Session) (r : After (prelude.Result Unit MoveRefusal)) (singles : List Made) → MovePromise s r
+      → move_answer r.answer ≡ accepted
       → session_of u ≡ bare (under_new (session_of s).block) → Chain u singles → calls_of singles ≡ singly (session_of s).nets
       → (answers_of singles ≡ replicate (length (session_of s).nets) accepted)
       × ((session_of (last u singles)).block ≡ (session_of r.session).block) × ((session_of (last u singles)).nets ≡ (session_of r.session).nets)

@@ -1,7 +1,7 @@
 -- The end of the board found word by word, and what drawing and reading answer as the text that is printed.
 -- Assumes what reading and drawing promise.
-use Rattle.std.specs.Prelude.{◌≡◌, refl, List, [], ◌∷◌, ℕ, ◌+◌, ◌-◌, ◌/◌, ◌≤◌, ◌<◌, length, take, drop, get_or}
-use Rattle.std.proofs.Common.{ap, sym, ◌∙◌, arith, length-append, length-drop, take_all, take_at, drop-drop, get_or-drop, eq-eqb, ne_eqb}
+use Rattle.std.specs.Prelude.{Ok, Err, ◌≡◌, refl, List, [], ◌∷◌, ◌++◌, ℕ, ◌+◌, ◌-◌, ◌/◌, ◌<◌, length, take, drop, get_or}
+use Rattle.std.proofs.Common.{ap, sym, ◌∙◌, arith, length-append, length-drop, take_all, take_at, eq-eqb, ne_eqb}
 use Rattle.text.specs.Line.{refused_line}
 use Rattle.text.specs.Put.{Holds}
 use Rattle.session_rules.specs.Refusal.{refusal}
@@ -11,10 +11,10 @@ use Rattle.call_rules.specs.Reading.{read_bytes}
 use Rattle.call_rules.specs.Writing.{Writes}
 use Rattle.call_rules.specs.Page.{page_room, draw_bytes}
 use Rattle.call_rules.specs.Editor.{editor_draw}
-use Rattle.board_reading.specs.Promise.{ReadPromise}
+use Rattle.board_reading.specs.Promise.{AfterRead, ReadPromise}
 use Rattle.board_reading.proofs.ReadAs.{read_refused, read_accepted}
-use Rattle.board_reading.specs.declared.AfterRead.{AfterRead}
-use Rattle.board_reading.specs.declared.ReadAnswer.TheVariants as answer
+use Rattle.board_reading.specs.Refused.{read_number, read_place}
+use Rattle.board_reading.specs.declared.ReadRefusal.{ReadRefusal}
 use Rattle.draw.specs.Text.{board_end, page_text, text_of}
 
 -- ── the end of the board ──
@@ -28,46 +28,45 @@ end_short (a ∷ (b ∷ (c ∷ []))) h = refl
 end_short (a ∷ (b ∷ (c ∷ (d ∷ rest)))) h = absurd (omega arith)
 
 -- a word that is the end, and one that is not
-end_here : (bytes : List ℕ) → 4 ≤ length bytes → get_or bytes 3 0 / 16 ≡ 15 → board_end bytes ≡ 4
+end_here : (x rest : List ℕ) → length x ≡ 4 → get_or x 3 0 / 16 ≡ 15 → board_end (x ++ rest) ≡ 4
 unfolding board_end
-end_here [] h e = absurd (omega arith)
-end_here (a ∷ []) h e = absurd (omega arith)
-end_here (a ∷ (b ∷ [])) h e = absurd (omega arith)
-end_here (a ∷ (b ∷ (c ∷ []))) h e = absurd (omega arith)
-end_here (a ∷ (b ∷ (c ∷ (d ∷ rest)))) h e = rw (eq-eqb (d / 16) 15 e) refl
+end_here [] rest l e = absurd (omega arith)
+end_here (a ∷ []) rest l e = absurd (omega arith)
+end_here (a ∷ (b ∷ [])) rest l e = absurd (omega arith)
+end_here (a ∷ (b ∷ (c ∷ []))) rest l e = absurd (omega arith)
+end_here (a ∷ (b ∷ (c ∷ (d ∷ [])))) rest l e = rw (eq-eqb (d / 16) 15 e) refl
+end_here (a ∷ (b ∷ (c ∷ (d ∷ (f ∷ more))))) rest l e = absurd (omega arith)
 
-end_later : (bytes : List ℕ) → 4 ≤ length bytes → (get_or bytes 3 0 / 16 ≡ 15 → ⊥) → board_end bytes ≡ 4 + board_end (drop 4 bytes)
+end_later : (x rest : List ℕ) → length x ≡ 4 → (get_or x 3 0 / 16 ≡ 15 → ⊥) → board_end (x ++ rest) ≡ 4 + board_end rest
 unfolding board_end
-end_later [] h n = absurd (omega arith)
-end_later (a ∷ []) h n = absurd (omega arith)
-end_later (a ∷ (b ∷ [])) h n = absurd (omega arith)
-end_later (a ∷ (b ∷ (c ∷ []))) h n = absurd (omega arith)
-end_later (a ∷ (b ∷ (c ∷ (d ∷ rest)))) h n = rw (ne_eqb (d / 16) 15 n) refl
+end_later [] rest l n = absurd (omega arith)
+end_later (a ∷ []) rest l n = absurd (omega arith)
+end_later (a ∷ (b ∷ [])) rest l n = absurd (omega arith)
+end_later (a ∷ (b ∷ (c ∷ []))) rest l n = absurd (omega arith)
+end_later (a ∷ (b ∷ (c ∷ (d ∷ [])))) rest l n = rw (ne_eqb (d / 16) 15 n) refl
+end_later (a ∷ (b ∷ (c ∷ (d ∷ (f ∷ more))))) rest l n = absurd (omega arith)
 
--- DEFINITION: no word before index i is the end
-pub record Looked (bytes : List ℕ) (i : ℕ) : Type 0 where
-  pub within : i ≤ length bytes
-  pub left : board_end bytes ≡ i + board_end (drop i bytes)
+-- DEFINITION: the rest is what follows index i, and no word before index i is the end
+pub record Looked (bytes rest : List ℕ) (i : ℕ) : Type 0 where
+  pub long : length bytes ≡ i + length rest
+  pub left : board_end bytes ≡ i + board_end rest
 
-pub looked_none : (bytes : List ℕ) → Looked bytes 0
-looked_none bytes = record { within = omega arith; left = omega arith }
+pub looked_none : (bytes : List ℕ) → Looked bytes bytes 0
+looked_none bytes = record { long = omega arith; left = omega arith }
 
-module _ {bytes : List ℕ} {i : ℕ} (l : Looked bytes i) where
-  rest-length : length (drop i bytes) ≡ length bytes - i
-  rest-length = length-drop i bytes
+module _ {bytes rest : List ℕ} {i : ℕ} (l : Looked bytes rest i) where
+  pub looked-end : (x after : List ℕ) → rest ≡ x ++ after → length x ≡ 4 → get_or x 3 0 / 16 ≡ 15 → i + 4 ≡ board_end bytes
+  looked-end x after e k f = let z = end_here x after k f in let y = rw e at l.left in omega (arith, y, z)
 
-  pub looked-end : 4 ≤ length bytes - i → {x : ℕ} → x ≡ get_or bytes (i + 3) 0 → x / 16 ≡ 15 → i + 4 ≡ board_end bytes
-  looked-end h e f =
-      let z = end_here (drop i bytes) (omega (arith, rest-length)) (rw (get_or-drop i bytes 3 0, ← e) f) in omega (arith, l.left)
+  pub looked-on : (x after : List ℕ) → rest ≡ x ++ after → length x ≡ 4 → (get_or x 3 0 / 16 ≡ 15 → ⊥) → Looked bytes after (i + 4)
+  looked-on x after e k n =
+      let z = end_later x after k n in
+      let y = rw e at l.left in
+      let w = rw e at l.long in
+      record { long = omega (arith, w, k, length-append x after); left = omega (arith, y, z) }
 
-  pub looked-on : 4 ≤ length bytes - i → {x : ℕ} → x ≡ get_or bytes (i + 3) 0 → (x / 16 ≡ 15 → ⊥) → Looked bytes (i + 4)
-  looked-on h e n =
-      let z = end_later (drop i bytes) (omega (arith, rest-length)) (rw (get_or-drop i bytes 3 0, ← e) n) in
-      let d : drop 4 (drop i bytes) ≡ drop (i + 4) bytes = drop-drop 4 i bytes in
-      record { within = omega (arith, l.within); left = (let y = rw d at z in omega (arith, l.left)) }
-
-  pub looked-all : length bytes - i < 4 → length bytes ≡ board_end bytes
-  looked-all h = let z = end_short (drop i bytes) (omega (arith, rest-length)) in omega (arith, l.left, l.within, rest-length)
+  pub looked-all : length rest < 4 → length bytes ≡ board_end bytes
+  looked-all h = let z = end_short rest h in omega (arith, l.left, l.long, z)
 
 -- ── the text ──
 -- the page stands at the start of the buffer
@@ -88,12 +87,12 @@ refused_text (yes text) {n = n} {p} W =
     absurd (let z : no (refusal n p) ≡ yes (length text) = W.answers in let y : ◌≡◌ {A = ℕ} 0 1 = cc in omega arith)
 
 -- the board's refusal, or what drawing gives for the session that is read
-pub unread_text : (board list : List ℕ) {r : AfterRead} (n p : ℕ) → ReadPromise (read_bytes board) r → r.answer ≡ answer.Refused n p
-    → page_text (editor_draw board list page_room) ≡ refused_line n (p ∷ [])
+pub unread_text : (board list : List ℕ) {r : AfterRead} (e : ReadRefusal) → ReadPromise (read_bytes board) r → r.answer ≡ Err e
+    → page_text (editor_draw board list page_room) ≡ refused_line (read_number e) (read_place e ∷ [])
 unfolding editor_draw
-unread_text board list n p P e = rw (read_refused P n p e) refl
+unread_text board list e P h = rw (read_refused P e h) refl
 
-pub read_text : (board list : List ℕ) {r : AfterRead} → ReadPromise (read_bytes board) r → r.answer ≡ answer.Accepted
+pub read_text : (board list : List ℕ) {r : AfterRead} → ReadPromise (read_bytes board) r → r.answer ≡ Ok tt
     → page_text (editor_draw board list page_room) ≡ page_text (draw_bytes (session_of r.session) list page_room)
 unfolding editor_draw
 read_text board list P e = rw (read_accepted P e) refl

@@ -12,10 +12,8 @@ ghost use Rattle.call_rules.specs.Page.{draw_bytes};
 ghost use Rattle.call_rules.specs.Editor.{editor_draw};
 ghost use Rattle.draw.specs.Text.{board_end, page_text, text_of};
 
-use board_reading::ReadAnswer;
-use draw_call::DrawAnswer;
+use draw_call::DrawRefusal;
 use judge_page::PAGE_BYTES;
-use numbers::{long, wide};
 use session::Session;
 
 // How many of the bytes are the board's.
@@ -23,15 +21,15 @@ fn board_end(bytes: &[u8]) -> usize
     ensures value { result ≡ board_end bytes.now }
     ensures upper_bound { result ≤ length bytes.now }
 {
-    let n = bytes.len();
-    let mut at: usize = 0;
-    while 4 <= n - at {
-        if bytes[at + 3] / 16 == 15 {
-            return at + 4;
+    let mut end: usize = 0;
+    for word in bytes.chunks_exact(4) {
+        end += 4;
+        let is_last = word[3] / 16 == 15;
+        if is_last {
+            return end;
         }
-        at += 4;
     }
-    n
+    bytes.len()
 }
 
 // The page of a list for a session, or the refusal, at the start of the buffer; how many bytes that is.
@@ -40,8 +38,13 @@ fn session_text(s: Session, list: &[u8], out: &mut [u8]) -> usize
     ensures { Holds (page_text (draw_bytes (session_of s) list.now 4032)) result out.new }
 {
     match draw_call::draw_bytes(s, list, out) {
-        DrawAnswer::Drawn(count) => count,
-        DrawAnswer::Refused(r) => text::refused(wide(r.number), long(r.place), out),
+        Ok(count) => count,
+        Err(DrawRefusal::Unsound) => text::refused(20, 0, out),
+        Err(DrawRefusal::NoRoom) => text::refused(37, 0, out),
+        Err(DrawRefusal::UnevenBytes) => text::refused(10, 0, out),
+        Err(DrawRefusal::List(r)) => {
+            text::refused(usize::from(r.fault.number()), usize::from(r.place), out)
+        }
     }
 }
 
@@ -50,10 +53,9 @@ fn board_text(board: &[u8], list: &[u8], out: &mut [u8; PAGE_BYTES]) -> usize
     ensures { Holds (page_text (editor_draw board.now list.now 4032)) result out.new }
 {
     let after = board_reading::read_bytes(board);
-    let answer = after.answer;
-    match answer {
-        ReadAnswer::Refused(number, place) => text::refused(wide(number), place, out),
-        ReadAnswer::Accepted => session_text(after.session, list, out),
+    match after.answer {
+        Ok(()) => session_text(after.session, list, out),
+        Err(refusal) => text::refused(usize::from(refusal.number()), refusal.place(), out),
     }
 }
 

@@ -1,17 +1,34 @@
 -- Definitions only: the count of bytes, or the number and place, for each answer of the code. Nothing is proved here.
-use Rattle.std.specs.Prelude.{cond, ℕ, ltb}
+use Rattle.std.specs.Prelude as rust
+use Rattle.std.specs.Prelude.{cond, ℕ, ltb, Ok, Err}
+use Rattle.session_rules.specs.Refusal as machine
+use Rattle.session_rules.specs.Refusal.{refusal}
 use Rattle.session_rules.specs.Session.{Session}
 use Rattle.session_rules.specs.Sound.{sound?}
 use Rattle.call_rules.specs.Result.{Result, no, yes}
 use Rattle.call_rules.specs.Page.{page_room}
 use Rattle.judge_shape.specs.Refused.{refusal_of}
-use Rattle.draw_call.specs.declared.DrawAnswer.{DrawAnswer}
-use Rattle.draw_call.specs.declared.DrawAnswer.TheVariants as answer
+use Rattle.judge_list.specs.declared.BytesRefusal.{BytesRefusal}
+use Rattle.judge_list.specs.declared.BytesRefusal.TheVariants as bytes
+use Rattle.draw_call.specs.declared.DrawRefusal.{DrawRefusal}
+use Rattle.draw_call.specs.declared.DrawRefusal.TheVariants as drawing
 
-abbrev pub draw_answer : DrawAnswer → Result ℕ
-draw_answer (answer.Drawn n) = yes n
-draw_answer (answer.Refused r) = no (refusal_of r)
+-- the refusal of a list of bytes
+abbrev pub of_bytes : BytesRefusal → DrawRefusal
+of_bytes bytes.UnevenBytes = drawing.UnevenBytes
+of_bytes (bytes.List r) = drawing.List r
 
--- the number of what is refused before the list is looked at, 0 where nothing is
-abbrev pub refused_first : Session → (room : ℕ) → ℕ
-refused_first s room = cond (sound? s) (cond (ltb room page_room) 37 0) 20
+-- as number and place
+abbrev pub draw_refusal : DrawRefusal → machine.Refusal
+draw_refusal drawing.Unsound = refusal 20 0
+draw_refusal drawing.NoRoom = refusal 37 0
+draw_refusal drawing.UnevenBytes = refusal 10 0
+draw_refusal (drawing.List r) = refusal_of r
+
+abbrev pub draw_answer : rust.Result ℕ DrawRefusal → Result ℕ
+draw_answer (Ok n) = yes n
+draw_answer (Err r) = no (draw_refusal r)
+
+-- what is refused before the list is looked at
+abbrev pub asked_first : Session → (room : ℕ) → rust.Result Unit DrawRefusal
+asked_first s room = cond (sound? s) (cond (ltb room page_room) (Err drawing.NoRoom) (Ok tt)) (Err drawing.Unsound)

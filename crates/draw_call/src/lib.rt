@@ -2,77 +2,79 @@
 #![tactic(auto)]
 
 ghost use Rattle.std.specs.Prelude.{◌≡◌};
-ghost use Rattle.session_rules.specs.Refusal.{refusal};
 ghost use Rattle.session.specs.View.{session_of};
-ghost use Rattle.call_rules.specs.Result.{no};
-ghost use Rattle.draw_call.specs.Answers.{refused_first, draw_answer};
+ghost use Rattle.draw_call.specs.Answers.{asked_first, of_bytes};
+ghost use Rattle.draw_call.specs.declared.DrawRefusal.TheVariants as drawing;
 ghost use Rattle.draw_call.specs.Promise.{DrawWordsPromise, DrawBytesPromise};
 
-use judge_list::BytesChecked;
+use judge_list::BytesRefusal;
 use judge_page::PAGE_BYTES;
-use judge_shape::{Checked, Refusal};
+use judge_shape::Refusal;
 use session::Session;
 
-// What drawing answers: the count of bytes written, or the refusal.
-#[derive(Clone, Copy)]
-pub enum DrawAnswer {
-    Drawn(usize),
-    Refused(Refusal),
+// Why no page is drawn: the session is unsound, the buffer is too short, the count of bytes is no multiple of 4, or the list is refused.
+#[derive(Clone, Copy, PartialEq, Eq)]
+pub enum DrawRefusal {
+    Unsound,
+    NoRoom,
+    UnevenBytes,
+    List(Refusal),
 }
 
-// What is refused before the list is looked at: 20 where the session is unsound, then 37 where a buffer of so many bytes is too short, otherwise 0.
-fn ask_first(s: Session, room: usize) -> u8
-    ensures { result ≡ refused_first (session_of s) room }
+impl From<Refusal> for DrawRefusal {
+    ghost from_gives = { λ refusal result. result ≡ drawing.List refusal };
+
+    fn from(refusal: Refusal) -> DrawRefusal {
+        DrawRefusal::List(refusal)
+    }
+}
+
+impl From<BytesRefusal> for DrawRefusal {
+    ghost from_gives = { λ refusal result. result ≡ of_bytes refusal };
+
+    fn from(refusal: BytesRefusal) -> DrawRefusal {
+        match refusal {
+            BytesRefusal::UnevenBytes => DrawRefusal::UnevenBytes,
+            BytesRefusal::List(refusal) => DrawRefusal::List(refusal),
+        }
+    }
+}
+
+// What is asked before the list is looked at: is the session sound, and then, is there room for a page in a buffer of so many bytes?
+fn ask_first(s: Session, room: usize) -> Result<(), DrawRefusal>
+    ensures { result ≡ asked_first (session_of s) room }
 {
     let unsound = !s.sound();
     let short = room < PAGE_BYTES;
     if unsound {
-        return 20;
+        return Err(DrawRefusal::Unsound);
     }
     if short {
-        return 37;
+        return Err(DrawRefusal::NoRoom);
     }
-    0
+    Ok(())
 }
 
-// A refusal with place 0.
-fn refused(number: u8) -> DrawAnswer
-    ensures { draw_answer result ≡ no (refusal number 0) }
-{
-    DrawAnswer::Refused(Refusal { number, place: 0 })
-}
-
-// Judges a list of routing words and draws its page at the start of the buffer.
-pub fn draw_words(s: Session, words: &[u32], out: &mut [u8]) -> DrawAnswer
+// Judges a list of routing words and draws its page at the start of the buffer; how many bytes it has.
+pub fn draw_words(s: Session, words: &[u32], out: &mut [u8]) -> Result<usize, DrawRefusal>
     ensures { DrawWordsPromise (session_of s) words.now out.old result out.new }
 {
-    let number = ask_first(s, out.len());
-    if number != 0 {
-        return refused(number);
-    }
+    ask_first(s, out.len())?;
     let board = s.block.board;
     let nets = s.nets;
     let mut used = [0u8; 2048];
-    match judge_list::check(board, nets, words, &mut used) {
-        Checked::Refused(r) => DrawAnswer::Refused(r),
-        Checked::Passed => DrawAnswer::Drawn(judge_page::draw(board, &used, out)),
-    }
+    judge_list::check(board, nets, words, &mut used)?;
+    Ok(judge_page::draw(board, &used, out))
 }
 
-// The same of bytes: 10 where their count is no multiple of 4.
-pub fn draw_bytes(s: Session, bytes: &[u8], out: &mut [u8]) -> DrawAnswer
+// The same of bytes: their count must be a multiple of 4.
+pub fn draw_bytes(s: Session, bytes: &[u8], out: &mut [u8]) -> Result<usize, DrawRefusal>
     ensures { DrawBytesPromise (session_of s) bytes.now out.old result out.new }
 {
-    let number = ask_first(s, out.len());
-    if number != 0 {
-        return refused(number);
-    }
+    ask_first(s, out.len())?;
     let board = s.block.board;
     let nets = s.nets;
     let mut used = [0u8; 2048];
-    match judge_list::check_bytes(board, nets, bytes, &mut used) {
-        BytesChecked::UnevenBytes => refused(10),
-        BytesChecked::Refused(r) => DrawAnswer::Refused(r),
-        BytesChecked::Passed => DrawAnswer::Drawn(judge_page::draw(board, &used, out)),
-    }
+    judge_list::check_bytes(board, nets, bytes, &mut used)?;
+    Ok(judge_page::draw(board, &used, out))
 }

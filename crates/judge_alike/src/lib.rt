@@ -8,11 +8,5 @@ ghost use Rattle.judge_alike.specs.MapsAlike.{maps_alike};
 pub fn is_alike(first: &[u8; 2048], second: &[u8; 2048]) -> bool
     ensures { result ≡ maps_alike first.now second.now }
 {
-    let mut same = true;
-    for i in 0..2048 {
-        let one = first[i];
-        let two = second[i];
-        same = same & (one == two);
-    }
-    same
+    first == second
 }

@@ -1,8 +1,9 @@
 -- Judging a session in its parts: the soundness of the session, and then the judge's verdict on its board and nets.
 -- Assumes nothing.
-use Rattle.std.specs.Prelude.{◌≡◌, false, List, ℕ, ◌<◌, eqb, length}
+use Rattle.std.specs.Prelude as rust
+use Rattle.std.specs.Prelude.{Err, ◌≡◌, false, List, ℕ, ◌<◌, eqb, length}
 use Rattle.std.proofs.Math.Path.{refl}
-use Rattle.std.proofs.Common.{◌∙◌}
+use Rattle.std.proofs.Common.{sym, ◌∙◌, arith}
 use Rattle.std.proofs.Math.Bool.{true}
 use Rattle.std.proofs.Math.Dec.{ltb}
 use borrow.Author.Tests.{lt-ltb}
@@ -14,7 +15,12 @@ use Rattle.words.specs.Bytes.{words_in, uneven}
 use Rattle.call_rules.specs.Result.{no}
 use Rattle.call_rules.specs.Shape.{bad_count}
 use Rattle.call_rules.specs.Judge.{judged, judge_words, compare_words, judge_bytes}
+use Rattle.words_bytes.specs.Words.{FilledAll}
+use Rattle.words_bytes.specs.WordsLaws.{told-uneven, told-long}
+use Rattle.words_bytes.specs.declared.FillError.{FillError}
+use Rattle.words_bytes.specs.declared.FillError.TheVariants.{Uneven, Long}
 use Rattle.judge_list.specs.Verdicts.{verdict_on, comparison_on}
+use Rattle.judge_call.specs.Answers.{unfilled, judge_refusal}
 
 module _ (s : Session) where
   pub judge-unsound : (ws : List ℕ) → sound? s ≡ false → judge_words s ws ≡ no (refusal 20 0)
@@ -52,3 +58,9 @@ module _ (s : Session) where
       let l : ltb 2049 (length (words_in bs)) ≡ true = lt-ltb 2049 (length (words_in bs)) k in
       let b : bad_count (words_in bs) ≡ true = or_right (eqb (length (words_in bs)) 0) (ltb 2049 (length (words_in bs))) l in
       bytes_even bs e h ∙ rw (e, b) refl
+
+  -- bytes whose words do not fill a list of so many words
+  pub bytes-unfilled : (bs : List ℕ) {before after : List ℕ} {r : rust.Result ℕ FillError} (f : FillError) → sound? s ≡ true
+      → FilledAll bs before after r → length before ≡ 2049 → r ≡ Err f → no (judge_refusal (unfilled f)) ≡ judge_bytes s bs
+  bytes-unfilled bs Uneven e F l h = sym (bytes-uneven bs e (told-uneven F h))
+  bytes-unfilled bs Long e F l h = let (even, long) = told-long F h in sym (bytes-long bs e even (omega (arith, long, l)))

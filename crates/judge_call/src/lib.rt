@@ -4,100 +4,121 @@
 ghost use Rattle.std.specs.Prelude.{◌≡◌};
 ghost use Rattle.session.specs.View.{session_of};
 ghost use Rattle.call_rules.specs.Judge.{judge_words, compare_words, judge_bytes, compare_bytes};
-ghost use Rattle.judge_call.specs.Answers.{judgement_of, likeness_of};
+ghost use Rattle.judge_call.specs.declared.JudgeRefusal.TheVariants as judging;
+ghost use Rattle.judge_call.specs.declared.CompareRefusal.TheVariants as comparing;
+ghost use Rattle.judge_call.specs.Answers.{unfilled, in_list, judgement_of, likeness_of};
 
-use judge_list::{BytesChecked, Comparison, Verdict};
+use judge_list::{BytesRefusal, ListRefusal, Which};
 use judge_report::Report;
-use judge_shape::Refusal;
+use judge_shape::{Fault, Refusal};
 use session::Session;
 use words::ROUTING_WORDS;
-use words_bytes::Filled;
+use words_bytes::FillError;
 
-// What judging answers: the report; 20 an unsound session; 10 a count of bytes that is no multiple of 4; or 41 to 46.
-#[derive(Clone, Copy)]
-pub enum Judgement {
-    Passed(Report),
+// Why a list gets no report: the session is unsound, the count of bytes is no multiple of 4, or the list is refused.
+#[derive(Clone, Copy, PartialEq, Eq)]
+pub enum JudgeRefusal {
     Unsound,
     UnevenBytes,
-    Refused(Refusal),
+    List(Refusal),
 }
 
-// What comparing answers: whether the two are alike; 20; 10 for either list; or the refusal of the first list, with 0, or of the second, with 1.
-#[derive(Clone, Copy)]
-pub enum Likeness {
-    Alike(bool),
-    Unsound,
-    UnevenBytes,
-    Refused(u8, Refusal),
+impl From<Refusal> for JudgeRefusal {
+    ghost from_gives = { λ refusal result. result ≡ judging.List refusal };
+
+    fn from(refusal: Refusal) -> JudgeRefusal {
+        JudgeRefusal::List(refusal)
+    }
 }
 
-// Judges a list of routing words against a session.
-pub fn judge_words(s: Session, words: &[u32]) -> Judgement
-    ensures { judgement_of result ≡ judge_words (session_of s) words.now }
-{
-    if !s.sound() {
-        Judgement::Unsound
-    } else {
-        let board = s.block.board;
-        let nets = s.nets;
-        match judge_list::judge(board, nets, words) {
-            Verdict::Passed(report) => Judgement::Passed(report),
-            Verdict::Refused(refusal) => Judgement::Refused(refusal),
+// Bytes that do not fit are more words than a routing may have.
+impl From<FillError> for JudgeRefusal {
+    ghost from_gives = { λ error result. result ≡ unfilled error };
+
+    fn from(error: FillError) -> JudgeRefusal {
+        match error {
+            FillError::Uneven => JudgeRefusal::UnevenBytes,
+            FillError::Long => JudgeRefusal::List(Refusal {
+                fault: Fault::Length,
+                place: 0,
+            }),
         }
     }
 }
 
+// Why two lists are not compared: the session is unsound, the count of bytes of either is no multiple of 4, or one of the lists is refused.
+#[derive(Clone, Copy, PartialEq, Eq)]
+pub enum CompareRefusal {
+    Unsound,
+    UnevenBytes,
+    List(ListRefusal),
+}
+
+impl From<ListRefusal> for CompareRefusal {
+    ghost from_gives = { λ refusal result. result ≡ comparing.List refusal };
+
+    fn from(refusal: ListRefusal) -> CompareRefusal {
+        CompareRefusal::List(refusal)
+    }
+}
+
+// The refusal of bytes, where they are one of two lists.
+fn in_list(list: Which, refusal: BytesRefusal) -> CompareRefusal
+    ensures { result ≡ in_list list refusal }
+{
+    match refusal {
+        BytesRefusal::UnevenBytes => CompareRefusal::UnevenBytes,
+        BytesRefusal::List(refusal) => CompareRefusal::List(ListRefusal { list, refusal }),
+    }
+}
+
+// Judges a list of routing words against a session.
+pub fn judge_words(s: Session, words: &[u32]) -> Result<Report, JudgeRefusal>
+    ensures { judgement_of result ≡ judge_words (session_of s) words.now }
+{
+    if !s.sound() {
+        Err(JudgeRefusal::Unsound)
+    } else {
+        let report = judge_list::judge(s.block.board, s.nets, words)?;
+        Ok(report)
+    }
+}
+
 // Judges the first list, then the second, and tells whether they are alike.
-pub fn compare_words(s: Session, first: &[u32], second: &[u32]) -> Likeness
+pub fn compare_words(s: Session, first: &[u32], second: &[u32]) -> Result<bool, CompareRefusal>
     ensures { likeness_of result ≡ compare_words (session_of s) first.now second.now }
 {
     if !s.sound() {
-        return Likeness::Unsound;
+        return Err(CompareRefusal::Unsound);
     }
-    let board = s.block.board;
-    let nets = s.nets;
-    match judge_list::compare(board, nets, first, second) {
-        Comparison::Alike(alike) => Likeness::Alike(alike),
-        Comparison::Refused(list, refusal) => Likeness::Refused(list, refusal),
-    }
+    let alike = judge_list::compare(s.block.board, s.nets, first, second)?;
+    Ok(alike)
 }
 
-// The same of bytes: 10 where their count is no multiple of 4.
-pub fn judge_bytes(s: Session, bytes: &[u8]) -> Judgement
+// The same of bytes: their count must be a multiple of 4.
+pub fn judge_bytes(s: Session, bytes: &[u8]) -> Result<Report, JudgeRefusal>
     ensures { judgement_of result ≡ judge_bytes (session_of s) bytes.now }
 {
     if !s.sound() {
-        return Judgement::Unsound;
+        return Err(JudgeRefusal::Unsound);
     }
     let mut words = [0u32; ROUTING_WORDS];
-    match words_bytes::fill_all(bytes, &mut words) {
-        Filled::Uneven => Judgement::UnevenBytes,
-        Filled::Long => Judgement::Refused(Refusal {
-            number: 41,
-            place: 0,
-        }),
-        Filled::Words(n) => judge_words(s, &words[..n]),
-    }
+    let n = words_bytes::fill_all(bytes, &mut words)?;
+    judge_words(s, &words[..n])
 }
 
 // Two lists of bytes: the first whole, then the second.
-pub fn compare_bytes(s: Session, first: &[u8], second: &[u8]) -> Likeness
+pub fn compare_bytes(s: Session, first: &[u8], second: &[u8]) -> Result<bool, CompareRefusal>
     ensures { likeness_of result ≡ compare_bytes (session_of s) first.now second.now }
 {
     if !s.sound() {
-        return Likeness::Unsound;
+        return Err(CompareRefusal::Unsound);
     }
     let board = s.block.board;
     let nets = s.nets;
     let mut one = [0u8; 2048];
     let mut two = [0u8; 2048];
-    match judge_list::check_bytes(board, nets, first, &mut one) {
-        BytesChecked::UnevenBytes => Likeness::UnevenBytes,
-        BytesChecked::Refused(refusal) => Likeness::Refused(0, refusal),
-        BytesChecked::Passed => match judge_list::check_bytes(board, nets, second, &mut two) {
-            BytesChecked::UnevenBytes => Likeness::UnevenBytes,
-            BytesChecked::Refused(refusal) => Likeness::Refused(1, refusal),
-            BytesChecked::Passed => Likeness::Alike(judge_alike::is_alike(&one, &two)),
-        },
-    }
+    judge_list::check_bytes(board, nets, first, &mut one).map_err(|r| in_list(Which::First, r))?;
+    judge_list::check_bytes(board, nets, second, &mut two).map_err(|r| in_list(Which::Second, r))?;
+    Ok(judge_alike::is_alike(&one, &two))
 }

@@ -1,13 +1,10 @@
 -- The report on a list that passes is that of the routing whose words it is; and what the law assumes of the nets holds of 64 places.
 -- Assumes that the board is within the limits.
-use Rattle.std.specs.Prelude.{◌≡◌, refl, List, [], ◌∷◌, ◌↔◌, ℕ, suc, ◌+◌, ◌<◌, ◌≤◌, length}
+use Rattle.std.specs.Prelude.{◌≡◌, refl, List, [], ◌∷◌, ◌↔◌, ℕ, suc, ◌+◌, ◌<◌, ◌≤◌, length, None, Some}
 use Rattle.std.proofs.Common.{ap, sym, ◌∙◌, arith}
 use Rattle.board.specs.Board.{Within}
 use Rattle.board.specs.declared.Direction.{Direction}
 use Rattle.net.specs.declared.Net.{Net}
-use Rattle.net.specs.declared.Held.{Held}
-use Rattle.net.specs.declared.Held.TheVariants.{Nothing, Ends}
-use Rattle.net.specs.declared.Place.{Place}
 use Rattle.session_rules.specs.Session.{Session, pairs}
 use Rattle.net_places.specs.Places.{held_net, nets_from, nets_of}
 use Rattle.call_rules.specs.Result.{Result, no, yes, and_then}
@@ -16,6 +13,7 @@ use Rattle.call_rules.specs.Judge.{judged}
 use Rattle.judge_laws.specs.Walks.{yes_eq, no_yes}
 use Rattle.judge_laws.specs.Passing.{Numbered}
 use Rattle.judge_laws.specs.Exact.{Passing, passes_sound, passes_complete}
+use Rattle.net.specs.View.{Held}
 
 -- ── the report ──
 -- DEFINITION: a routing of the nets of which these are the words and this is the report
@@ -39,23 +37,23 @@ reports_exactly s w m l ws r = (
 
 -- ── the nets of 64 places ──
 held_numbered : (k : ℕ) (h : Held) (ns : List Net) → k < 256 → Numbered ns → Numbered (held_net k h ns)
-held_numbered k Nothing ns p m = m
-held_numbered k (Ends e) ns p m = (p, m)
+held_numbered k None ns p m = m
+held_numbered k (Some e) ns p m = (p, m)
 
 held_length : (k : ℕ) (h : Held) (ns : List Net) → length (held_net k h ns) ≤ suc (length ns)
-held_length k Nothing ns = omega arith
-held_length k (Ends e) ns = omega arith
+held_length k None ns = omega arith
+held_length k (Some e) ns = omega arith
 
-nets_numbered : (k : ℕ) (ps : List Place) → k + length ps ≤ 256 → Numbered (nets_from k ps)
+nets_numbered : (k : ℕ) (ps : List Held) → k + length ps ≤ 256 → Numbered (nets_from k ps)
 unfolding nets_from
 nets_numbered k [] h = tt
-nets_numbered k (p ∷ ps) h = held_numbered k p.held (nets_from (suc k) ps) (omega arith) (nets_numbered (suc k) ps (omega arith))
+nets_numbered k (p ∷ ps) h = held_numbered k p (nets_from (suc k) ps) (omega arith) (nets_numbered (suc k) ps (omega arith))
 
-nets_length : (k : ℕ) (ps : List Place) → length (nets_from k ps) ≤ length ps
+nets_length : (k : ℕ) (ps : List Held) → length (nets_from k ps) ≤ length ps
 unfolding nets_from
 nets_length k [] = omega arith
-nets_length k (p ∷ ps) = omega (arith, held_length k p.held (nets_from (suc k) ps), nets_length (suc k) ps)
+nets_length k (p ∷ ps) = omega (arith, held_length k p (nets_from (suc k) ps), nets_length (suc k) ps)
 
-pub places_fit : (ps : List Place) → length ps ≡ 64 → Numbered (nets_of ps) × (length (nets_of ps) ≤ 64)
+pub places_fit : (ps : List Held) → length ps ≡ 64 → Numbered (nets_of ps) × (length (nets_of ps) ≤ 64)
 unfolding nets_of
 places_fit ps h = (nets_numbered 1 ps (omega arith), omega (arith, nets_length 1 ps))

@@ -1,15 +1,12 @@
 -- On a board within the limits two maps of used edges say whether the routings are alike: comparing is that of document 02, §3.
 -- Assumes that the board is within the limits.
-use Rattle.std.specs.Prelude.{◌≡◌, Bool, List, [], ◌∷◌, ℕ, suc}
+use Rattle.std.specs.Prelude.{◌≡◌, Bool, List, [], ◌∷◌, ℕ, suc, None, Some}
 use Rattle.std.proofs.Math.Path.{refl, ap, sym}
 use Rattle.std.proofs.Common.{◌∙◌, arith}
 use Rattle.board.specs.Board.{Board, Within}
 use Rattle.board.specs.declared.Direction.{Direction}
 use Rattle.net.specs.declared.Net.{Net}
 use Rattle.net.specs.declared.Pair.{Pair}
-use Rattle.net.specs.declared.Held.{Held}
-use Rattle.net.specs.declared.Held.TheVariants.{Nothing, Ends}
-use Rattle.net.specs.declared.Place.{Place}
 use Rattle.routing_rules.specs.Routing.{Routing}
 use Rattle.session_rules.specs.Session.{pairs}
 use Rattle.session_laws.specs.Rising.{From}
@@ -21,7 +18,7 @@ use Rattle.call_rules.specs.Shape.{PathAt, paths_from}
 use Rattle.call_rules.specs.Walk.{walk_paths}
 use Rattle.call_rules.specs.Judge.{paths_in, judged, of_list, alike_on}
 use Rattle.judge_shape.specs.States.{shape_refused}
-use Rattle.judge_shape.specs.declared.Checked.TheVariants as checked
+use Rattle.std.specs.Prelude.{Ok}
 use Rattle.judge_walk.specs.EdgeMap.{unused, map_of}
 use Rattle.judge_walk.specs.MapWalk.{Came, stopped, came}
 use Rattle.judge_laws.specs.Walks.{ends_of}
@@ -30,16 +27,17 @@ use Rattle.judge_alike.specs.MapsAlike.{maps_alike}
 use Rattle.judge_alike.specs.Alike.{nets_in, lists-alike}
 use Rattle.judge_list.specs.Verdicts.{check_on, Checks, judged_by, leaving, map_by, comparison_by, on, comparison_on}
 use Rattle.judge_list.specs.VerdictLaws.{shape_all, judged_is, judged_same, map_left}
+use Rattle.net.specs.View.{Held}
 
 -- ── the nets and paths of a list ──
-nets_rise : (k : ℕ) (places : List Place) → From k (nets_from k places)
+nets_rise : (k : ℕ) (places : List Held) → From k (nets_from k places)
 unfolding nets_from
 nets_rise k [] = tt
-nets_rise k (place ∷ places) = go place.held (nets_rise (suc k) places)
+nets_rise k (place ∷ places) = go place (nets_rise (suc k) places)
   where
     go : (held : Held) → From (suc k) (nets_from (suc k) places) → From k (held_net k held (nets_from (suc k) places))
-    go Nothing f = from_less (suc k) k (nets_from (suc k) places) (omega arith) f
-    go (Ends e) f = (omega arith, f)
+    go None f = from_less (suc k) k (nets_from (suc k) places) (omega arith) f
+    go (Some e) f = (omega arith, f)
 
 pub ends_in : (ps : List PathAt) → ends_of ps ≡ pairs (nets_in ps)
 ends_in [] = refl
@@ -55,7 +53,7 @@ in_list b ns ws dss e =
     (shape_all ns ws s, yes_same _ _ y)
 
 -- ── comparing ──
-module _ {b : Board} (w : Within b) (places : List Place) where
+module _ {b : Board} (w : Within b) (places : List Held) where
   -- the map by which a list is judged is the map of its paths
   mapped-same : (ws : List ℕ) → map_by b (nets_of places) ws
       ≡ and_then (judged (on b (nets_of places)) ws) (λ dss. yes (map_of (paths_from 0 (nets_of places) ws)))
@@ -69,7 +67,7 @@ module _ {b : Board} (w : Within b) (places : List Place) where
           rw j refl
       go (came tt m) e =
           let j : judged (on b (nets_of places)) ws ≡ yes (paths_in (paths_from 0 (nets_of places) ws)) = sym (judged_same w places ws) ∙ (rw e refl) in
-          let k : Checks b (nets_of places) ws unused m checked.Passed = record { ends = sym e } in
+          let k : Checks b (nets_of places) ws unused m (Ok tt) = record { ends = sym e } in
           rw (j, map_left w places ws k refl) refl
 
   -- of two lists that pass, the maps are alike exactly where the routings are

@@ -1,3 +1,4 @@
+pub mod Refusals
 pub mod Verdicts
 pub mod VerdictLaws
 pub mod ComparisonLaws

@@ -1,7 +1,8 @@
 -- Definitions only: judging and comparing on a board with nets, and what the values of the code stand for. Nothing is proved here.
 -- The code walks with a map of used edges (judge_walk, MapWalk). On a board within the limits that gives what document 01 lays down (VerdictLaws),
 -- and two maps say when routings are alike, by document 02, §3 (ComparisonLaws).
-use Rattle.std.specs.Prelude.{◌≡◌, Bool, true, false, List, [], ◌∷◌, ℕ}
+use Rattle.std.specs.Prelude as rust
+use Rattle.std.specs.Prelude.{◌≡◌, Bool, true, false, List, [], ◌∷◌, ℕ, Ok, Err}
 use Rattle.board.specs.Board.{Board}
 use Rattle.board_block.specs.Block.{plain}
 use Rattle.board.specs.declared.Direction.{Direction}
@@ -15,21 +16,18 @@ use Rattle.call_rules.specs.Shape.{paths_from}
 use Rattle.call_rules.specs.Report as calls
 use Rattle.call_rules.specs.Report.{report_of}
 use Rattle.call_rules.specs.Judge.{paths_in, judged, of_list, alike_on}
-use Rattle.judge_shape.specs.Refused.{refusal_of}
+use Rattle.judge_shape.specs.Refused.{number_of, refusal_of}
 use Rattle.judge_shape.specs.States.{shape_refused}
 use Rattle.judge_shape.specs.declared.Refusal.{Refusal}
-use Rattle.judge_shape.specs.declared.Checked.{Checked}
-use Rattle.judge_shape.specs.declared.Checked.TheVariants as checked
 use Rattle.judge_walk.specs.EdgeMap.{unused}
 use Rattle.judge_walk.specs.MapWalk.{Came, stopped, came, unless_at, map_paths, path_end}
 use Rattle.judge_report.specs.Reports.{report_is}
+use Rattle.judge_report.specs.declared.Report.{Report}
 use Rattle.judge_alike.specs.MapsAlike.{maps_alike}
-use Rattle.judge_list.specs.declared.Verdict.{Verdict}
-use Rattle.judge_list.specs.declared.Verdict.TheVariants as verdict
-use Rattle.judge_list.specs.declared.BytesChecked.{BytesChecked}
-use Rattle.judge_list.specs.declared.BytesChecked.TheVariants as bytes
-use Rattle.judge_list.specs.declared.Comparison.{Comparison}
-use Rattle.judge_list.specs.declared.Comparison.TheVariants as comparison
+use Rattle.judge_list.specs.Refusals.{which_number}
+use Rattle.judge_list.specs.declared.BytesRefusal.{BytesRefusal}
+use Rattle.judge_list.specs.declared.BytesRefusal.TheVariants as bytes
+use Rattle.judge_list.specs.declared.ListRefusal.{ListRefusal}
 
 -- ── with a map ──
 -- the shape of the whole list, then its paths, with a map of the edges used before
@@ -37,17 +35,17 @@ unfoldable pub check_on : Board → List Net → List ℕ → (m : List ℕ) →
 check_on b ns ws m = unless_at m (shape_refused ns ws) (map_paths b (paths_from 0 ns ws) m)
 
 -- what `check` promises: its answer r, and the map m' that it leaves
-pub record Checks (b : Board) (ns : List Net) (ws : List ℕ) (m m' : List ℕ) (r : Checked) : Type 0 where
+pub record Checks (b : Board) (ns : List Net) (ws : List ℕ) (m m' : List ℕ) (r : rust.Result Unit Refusal) : Type 0 where
   pub ends : path_end r m' ≡ check_on b ns ws m
 
 -- the same of bytes: 10 where their count is not a multiple of 4, and then the map is untouched
-abbrev pub BytesCheckedAs : Board → List Net → (bs m m' : List ℕ) → BytesChecked → Type 0
-BytesCheckedAs b ns bs m m' bytes.UnevenBytes = (uneven bs ≡ true) × (m' ≡ m)
-BytesCheckedAs b ns bs m m' (bytes.Refused r) = (uneven bs ≡ false) × Checks b ns (words_in bs) m m' (checked.Refused r)
-BytesCheckedAs b ns bs m m' bytes.Passed = (uneven bs ≡ false) × Checks b ns (words_in bs) m m' checked.Passed
+abbrev pub BytesCheckedAs : Board → List Net → (bs m m' : List ℕ) → rust.Result Unit BytesRefusal → Type 0
+BytesCheckedAs b ns bs m m' (Err bytes.UnevenBytes) = (uneven bs ≡ true) × (m' ≡ m)
+BytesCheckedAs b ns bs m m' (Err (bytes.List r)) = (uneven bs ≡ false) × Checks b ns (words_in bs) m m' (Err r)
+BytesCheckedAs b ns bs m m' (Ok u) = (uneven bs ≡ false) × Checks b ns (words_in bs) m m' (Ok u)
 
 -- what `check_bytes` promises
-pub record ChecksBytes (b : Board) (ns : List Net) (bs : List ℕ) (m m' : List ℕ) (r : BytesChecked) : Type 0 where
+pub record ChecksBytes (b : Board) (ns : List Net) (bs : List ℕ) (m m' : List ℕ) (r : rust.Result Unit BytesRefusal) : Type 0 where
   pub tells : BytesCheckedAs b ns bs m m' r
 
 -- a value, where the check passes
@@ -87,13 +85,17 @@ comparison_on b ns vs ws =
     and_then (of_list 0 (judged (on b ns) vs)) (λ dss. and_then (of_list 1 (judged (on b ns) ws)) (λ ess. yes (alike_on (on b ns) dss ess)))
 
 -- ── what the values of the code stand for ──
-abbrev pub verdict_of : Verdict → Result calls.Report
-verdict_of (verdict.Passed r) = yes (report_is r)
-verdict_of (verdict.Refused r) = no (refusal_of r)
+abbrev pub verdict_of : rust.Result Report Refusal → Result calls.Report
+verdict_of (Ok r) = yes (report_is r)
+verdict_of (Err r) = no (refusal_of r)
 
 abbrev pub list_refusal : ℕ → Refusal → machine.Refusal
-list_refusal k r = record { number = r.number; place = k ∷ (r.place ∷ []) }
+list_refusal k r = record { number = number_of r.fault; place = k ∷ (r.place ∷ []) }
 
-abbrev pub comparison_of : Comparison → Result Bool
-comparison_of (comparison.Alike t) = yes t
-comparison_of (comparison.Refused k r) = no (list_refusal k r)
+-- the refusal of one of two lists has the list's place number too
+abbrev pub refusal_in : ListRefusal → machine.Refusal
+refusal_in r = list_refusal (which_number r.list) r.refusal
+
+abbrev pub comparison_of : rust.Result Bool ListRefusal → Result Bool
+comparison_of (Ok t) = yes t
+comparison_of (Err r) = no (refusal_in r)

@@ -1,11 +1,12 @@
 // Judging a list of routing words against a board and its nets, from words or bytes, and comparing two. That the session is sound is tested above.
 #![tactic(auto)]
 
-ghost use Rattle.std.specs.Prelude.{◌≡◌, ◌≤◌, length};
+ghost use Rattle.std.specs.Prelude.{◌≡◌, ◌≤◌, Ok, length};
 ghost use Rattle.call_rules.specs.Shape.{routing_limit};
 ghost use Rattle.board.specs.View.{board_of};
 ghost use Rattle.net_places.specs.Places.{nets_of};
-ghost use Rattle.judge_shape.specs.declared.Checked.TheVariants.{Passed};
+ghost use Rattle.judge_list.specs.declared.BytesRefusal.TheVariants as bytes;
+ghost use Rattle.judge_list.specs.Refusals.{which_number, unfilled};
 ghost use Rattle.judge_list.specs.Verdicts.{
   Checks,
   ChecksBytes,
@@ -17,84 +18,123 @@ ghost use Rattle.judge_list.specs.Verdicts.{
 
 use board::Board;
 use judge_report::Report;
-use judge_shape::{Checked, Refusal};
+use judge_shape::{Fault, Refusal};
 use net::Place;
 use words::ROUTING_WORDS;
-use words_bytes::Filled;
+use words_bytes::FillError;
 
-// The report on a list that passes, or its refusal.
-#[derive(Clone, Copy)]
-pub enum Verdict {
-    Passed(Report),
-    Refused(Refusal),
-}
-
-// Whether two lists that pass are alike; or the refusal of the first, with 0, or of the second, with 1.
-#[derive(Clone, Copy)]
-pub enum Comparison {
-    Alike(bool),
-    Refused(u8, Refusal),
-}
-
-// What a list of bytes comes to: it passes; 10 a count of bytes that is no multiple of 4; or 41 to 46.
-#[derive(Clone, Copy)]
-pub enum BytesChecked {
-    Passed,
+// Why a list of bytes does not pass: their count is no multiple of 4, or their words are refused.
+#[derive(Clone, Copy, PartialEq, Eq)]
+pub enum BytesRefusal {
     UnevenBytes,
-    Refused(Refusal),
+    List(Refusal),
+}
+
+impl From<Refusal> for BytesRefusal {
+    ghost from_gives = { λ refusal result. result ≡ bytes.List refusal };
+
+    fn from(refusal: Refusal) -> BytesRefusal {
+        BytesRefusal::List(refusal)
+    }
+}
+
+// Bytes that do not fit are more words than a routing may have.
+impl From<FillError> for BytesRefusal {
+    ghost from_gives = { λ error result. result ≡ unfilled error };
+
+    fn from(error: FillError) -> BytesRefusal {
+        match error {
+            FillError::Uneven => BytesRefusal::UnevenBytes,
+            FillError::Long => BytesRefusal::List(Refusal {
+                fault: Fault::Length,
+                place: 0,
+            }),
+        }
+    }
+}
+
+// Which of two lists.
+#[derive(Clone, Copy, PartialEq, Eq)]
+pub enum Which {
+    First,
+    Second,
+}
+
+impl Which {
+    // Its place number.
+    pub fn number(self) -> u8
+        ensures { result ≡ which_number self }
+    {
+        match self {
+            Which::First => 0,
+            Which::Second => 1,
+        }
+    }
+}
+
+// The refusal of one of two lists.
+#[derive(Clone, Copy, PartialEq, Eq)]
+pub struct ListRefusal {
+    pub list: Which,
+    pub refusal: Refusal,
 }
 
 // Does a list pass? First the shape of the whole list, then the paths in order, with a map of the edges used before.
-pub fn check(b: Board, nets: [Place; 64], words: &[u32], used: &mut [u8; 2048]) -> Checked
+pub fn check(
+    b: Board,
+    nets: [Place; 64],
+    words: &[u32],
+    used: &mut [u8; 2048],
+) -> Result<(), Refusal>
     ensures checks { Checks (board_of b) (nets_of nets) words.now used.old used.new result }
-    ensures words_len_bound { result ≡ Passed → length words.now ≤ routing_limit }
+    ensures words_len_bound { result ≡ Ok tt → length words.now ≤ routing_limit }
 {
-    match judge_shape::check_shape(nets, words) {
-        Checked::Refused(r) => Checked::Refused(r),
-        Checked::Passed => judge_walk::walk_paths(b, nets, words, used),
-    }
+    judge_shape::check_shape(nets, words)?;
+    judge_walk::walk_paths(b, nets, words, used)
 }
 
 // The same of bytes.
-pub fn check_bytes(b: Board, nets: [Place; 64], bytes: &[u8], used: &mut [u8; 2048]) -> BytesChecked
+pub fn check_bytes(
+    b: Board,
+    nets: [Place; 64],
+    bytes: &[u8],
+    used: &mut [u8; 2048],
+) -> Result<(), BytesRefusal>
     ensures { ChecksBytes (board_of b) (nets_of nets) bytes.now used.old used.new result }
 {
     let mut words = [0u32; ROUTING_WORDS];
-    match words_bytes::fill_all(bytes, &mut words) {
-        Filled::Uneven => BytesChecked::UnevenBytes,
-        Filled::Long => BytesChecked::Refused(Refusal {
-            number: 41,
-            place: 0,
-        }),
-        Filled::Words(n) => match check(b, nets, &words[..n], used) {
-            Checked::Passed => BytesChecked::Passed,
-            Checked::Refused(r) => BytesChecked::Refused(r),
-        },
-    }
+    let n = words_bytes::fill_all(bytes, &mut words)?;
+    check(b, nets, &words[..n], used)?;
+    Ok(())
 }
 
 // Judges a list of routing words for the nets on the board.
-pub fn judge(b: Board, nets: [Place; 64], words: &[u32]) -> Verdict
+pub fn judge(b: Board, nets: [Place; 64], words: &[u32]) -> Result<Report, Refusal>
     ensures { verdict_of result ≡ verdict_by (board_of b) (nets_of nets) words.now }
 {
     let mut used = [0u8; 2048];
-    match check(b, nets, words, &mut used) {
-        Checked::Refused(r) => Verdict::Refused(r),
-        Checked::Passed => Verdict::Passed(judge_report::report_of(nets, words)),
-    }
+    check(b, nets, words, &mut used)?;
+    Ok(judge_report::report_of(nets, words))
 }
 
-// Judges the first list, then the second, and compares the maps of their edges.
-pub fn compare(b: Board, nets: [Place; 64], first: &[u32], second: &[u32]) -> Comparison
+// Judges the first list, then the second, and compares the maps of their edges: are they alike?
+pub fn compare(
+    b: Board,
+    nets: [Place; 64],
+    first: &[u32],
+    second: &[u32],
+) -> Result<bool, ListRefusal>
     ensures { comparison_of result ≡ comparison_by (board_of b) (nets_of nets) first.now second.now }
 {
     let mut one = [0u8; 2048];
     let mut two = [0u8; 2048];
-    match check(b, nets, first, &mut one) {
-        Checked::Refused(r) => Comparison::Refused(0, r),
-        Checked::Passed => match check(b, nets, second, &mut two) {
-            Checked::Refused(r) => Comparison::Refused(1, r),
-            Checked::Passed => Comparison::Alike(judge_alike::is_alike(&one, &two)),
-        },
-    }
+    check(b, nets, first, &mut one).map_err(|refusal| ListRefusal {
+        list: Which::First,
+        refusal,
+    })?;
+    check(b, nets, second, &mut two).map_err(|refusal| ListRefusal {
+        list: Which::Second,
+        refusal,
+    })?;
+    Ok(judge_alike::is_alike(&one, &two))
 }

@@ -1,8 +1,9 @@
 -- The bytes of a page one by one, as they are written.
 -- Assumes nothing.
-use Rattle.std.specs.Prelude.{◌≡◌, Bool, List, ℕ, ◌+◌, ◌*◌, ◌/◌, ◌%◌, ◌<◌, ltb, length, take, get_or, set}
+use Rattle.std.specs.Prelude.{◌≡◌, Bool, List, ℕ, ◌+◌, ◌*◌, ◌/◌, ◌%◌, ◌<◌, ltb, ◌≤◌, ◌++◌, length, take, drop, get_or, set}
 use Rattle.std.proofs.Math.Path.{refl}
-use Rattle.std.proofs.Common.{ap, sym, ◌∙◌, inl, inr, arith, add-one, take-suc, take_all, length-take-le}
+use Rattle.std.proofs.Common.{ap, sym, ◌∙◌, inl, inr, arith, add-one, take-suc, take_all, length-take-le, append-nil}
+use Rattle.std.proofs.Math.ListN.{drop_of_length-le}
 use borrow.Author.Tests.{eq-eqb, ne_eqb, ltb-true, ltb-false}
 use Rattle.count.specs.TruthLaws.{bool}
 use Rattle.board.specs.Board.{Board, height, at, Edge}
@@ -30,7 +31,8 @@ module _ (b : Board) (m : List ℕ) (y x : ℕ) where
   unfolding on_line
   across-character h k = rw (eq-eqb (y % 2) 0 h, ne_eqb (x % 2) 0 k, slot_across (along Right (at (y / 2) (x / 2))) refl) refl
 
-  pub down-character : (y % 2 ≡ 0 → ⊥) → x % 2 ≡ 0 → sign_if (ltb 0 (get_or m (slot_at Down (at (y / 2) (x / 2))) 0)) bar ≡ character_at b (marked m) y x
+  pub down-character : (y % 2 ≡ 0 → ⊥) → x % 2 ≡ 0
+      → sign_if (ltb 0 (get_or m (slot_at Down (at (y / 2) (x / 2))) 0)) bar ≡ character_at b (marked m) y x
   unfolding below_line
   down-character h k = rw (ne_eqb (y % 2) 0 h, eq-eqb (x % 2) 0 k, slot_down (along Down (at (y / 2) (x / 2))) refl) refl
 
@@ -58,9 +60,11 @@ module _ (b : Board) (used : Edge → Bool) where
       rw (add-one i, take-suc (page b used) i 0 l, byte-at i h, e)
       (store_next (take i (page b used)) out before i (byte_at b used i) (length-take-le i (page b used) (omega arith)) k f)
 
-  pub bytes-all : (before : List ℕ) (i : ℕ) {n : ℕ} {out : List ℕ} → n ≡ 64 * (2 * height b + 1) → i ≡ n
-      → out ≡ written_into before (take i (page b used)) → Writes (yes (page b used)) before (yes n) out
-  bytes-all before i e h f = record {
-    answers = ap (λ (k : ℕ). yes k) (e ∙ sym (page-length b used));
-    buffer = rw (take_all i (page b used) (omega (arith, page-length b used))) at f;
-  }
+  -- all of them stand at the start of the buffer
+  pub bytes-all : (before : List ℕ) (i : ℕ) {n : ℕ} {out : List ℕ} → n ≡ 64 * (2 * height b + 1) → n ≤ length before → n ≤ i
+      → out ≡ written_into (take n before) (take i (page b used)) → Writes (yes (page b used)) before (yes n) (out ++ drop n before)
+  bytes-all before i {n} {out} e k h f =
+      let p : n ≡ length (page b used) = e ∙ sym (page-length b used) in
+      let d = drop_of_length-le (take n before) {i = length (page b used)} (omega (arith, length-take-le n before k)) in
+      let g : out ≡ page b used = rw (take_all i (page b used) (omega arith), d, append-nil (page b used)) at f in
+      record { answers = ap (λ (k : ℕ). yes k) p; buffer = rw (g, ← p) refl }

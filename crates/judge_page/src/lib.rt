@@ -10,7 +10,6 @@ ghost use Rattle.judge_walk.specs.Slots.{slot_at};
 ghost use Rattle.judge_page.specs.Marked.{marked, byte_at};
 
 use board::{Board, Direction, Vertex};
-use numbers::wide;
 
 // The most bytes of a page, and the least room for one: 63 text lines of 63 characters and a line feed.
 pub const PAGE_BYTES: usize = 4032;
@@ -38,18 +37,11 @@ fn character(b: Board, used: &[u8; 2048], y: u8, x: u8) -> u8
         line: y / 2,
         column: x / 2,
     };
-    if y % 2 == 0 {
-        if x % 2 == 0 {
-            sign_if(board::is_vertex(b, v), b'+')
-        } else {
-            sign_if(is_used(used, Direction::Right, v), b'-')
-        }
-    } else {
-        if x % 2 == 0 {
-            sign_if(is_used(used, Direction::Down, v), b'|')
-        } else {
-            b' '
-        }
+    match (y % 2, x % 2) {
+        (0, 0) => sign_if(board::is_vertex(b, v), b'+'),
+        (0, _) => sign_if(is_used(used, Direction::Right, v), b'-'),
+        (_, 0) => sign_if(is_used(used, Direction::Down, v), b'|'),
+        _ => b' ',
     }
 }
 
@@ -73,9 +65,9 @@ pub fn draw(b: Board, used: &[u8; 2048], out: &mut [u8]) -> usize
     requires in_bounds { 4032 ≤ length out.old }
     ensures { Writes (yes (page (board_of b) (marked used.now))) out.old (yes result) out.new }
 {
-    let count = 64 * (2 * wide(b.count) + 1);
-    for i in 0..count {
-        out[i] = byte_at(b, used, i);
+    let count = 64 * (2 * usize::from(b.count) + 1);
+    for (i, byte) in out[..count].iter_mut().enumerate() {
+        *byte = byte_at(b, used, i);
     }
     count
 }

@@ -1,6 +1,6 @@
 -- The directions of a path, one run on: how many edges and turns it has, and how often it turns at a vertex.
 -- Assumes nothing.
-use Rattle.std.specs.Prelude.{◌≡◌, refl, Bool, true, false, cond, not, List, [], ◌∷◌, ◌++◌, ℕ, zero, suc, ◌+◌, eqb, length, replicate}
+use Rattle.std.specs.Prelude.{◌≡◌, refl, Bool, true, false, cond, not, List, [], ◌∷◌, ◌++◌, ℕ, zero, suc, ◌+◌, eqb, length, replicate, None, Some}
 use Rattle.std.proofs.Common.{ap, ◌∙◌, arith, length-append, lt-ltb}
 use Rattle.std.proofs.lemmas.List.{length-replicate}
 use Rattle.board_convex.proofs.Turns.{turn_self}
@@ -14,8 +14,7 @@ use Rattle.words.specs.RoutingWord.{run_in}
 use Rattle.words.specs.declared.Run.{Run}
 use Rattle.call_rules.specs.Shape.{runs_from}
 use Rattle.call_rules.specs.Report.{directions, turns_at}
-use Rattle.judge_shape.specs.declared.Last.{Last}
-use Rattle.judge_shape.specs.declared.Last.TheVariants.{Nothing, Was}
+use Rattle.judge_shape.specs.States.{Last}
 use Rattle.judge_report.specs.Measures.{dirs_of}
 use Rattle.judge_report.specs.Traces.{turn_by, last_after, line_after, column_after}
 
@@ -34,10 +33,10 @@ edges_run n d ds = length-append (replicate n d) ds ∙ ap (λ (k : ℕ). k + le
 -- ── turns ──
 -- DEFINITION: the turns of a path with the directions ds still to go, after a step in the last direction
 abbrev pub turns_after : Last → List Direction → ℕ
-turns_after Nothing ds = turns ds
-turns_after (Was e) ds = turns (e ∷ ds)
+turns_after None ds = turns ds
+turns_after (Some e) ds = turns (e ∷ ds)
 
-turn_is : (e d : Direction) (n : ℕ) → turn e d ≡ turn_by (Was e) (run d (suc n))
+turn_is : (e d : Direction) (n : ℕ) → turn e d ≡ turn_by (Some e) (run d (suc n))
 unfolding turn
 turn_is e d n = rw (lt-ltb 0 (suc n) (omega arith)) (go (eqb (number e) (number d)))
   where
@@ -50,28 +49,28 @@ unfolding turns
 straight_turns zero d ds = refl
 straight_turns (suc n) d ds = omega (arith, turn_self d, straight_turns n d ds)
 
-last_some : (l : Last) (d : Direction) (n : ℕ) → last_after l (run d (suc n)) ≡ Was d
+last_some : (l : Last) (d : Direction) (n : ℕ) → last_after l (run d (suc n)) ≡ Some d
 last_some l d n = rw (lt-ltb 0 (suc n) (omega arith)) refl
 
 turn_none : (l : Last) (d : Direction) → turn_by l (run d 0) ≡ 0
-turn_none Nothing d = refl
-turn_none (Was e) d = refl
+turn_none None d = refl
+turn_none (Some e) d = refl
 
 pub turns_run : (l : Last) (n : ℕ) (d : Direction) (ds : List Direction)
     → turns_after l (replicate n d ++ ds) ≡ turn_by l (run d n) + turns_after (last_after l (run d n)) ds
 unfolding turns
 turns_run l zero d ds = omega (arith, turn_none l d)
-turns_run Nothing (suc n) d ds = rw (last_some Nothing d n) (omega (arith, straight_turns n d ds))
-turns_run (Was e) (suc n) d ds = rw (last_some (Was e) d n, ← turn_is e d n) (omega (arith, straight_turns n d ds))
+turns_run None (suc n) d ds = rw (last_some None d n) (omega (arith, straight_turns n d ds))
+turns_run (Some e) (suc n) d ds = rw (last_some (Some e) d n, ← turn_is e d n) (omega (arith, straight_turns n d ds))
 
 -- ── turns at a vertex ──
 -- DEFINITION: how often a path turns at v, with the directions ds still to go from u, after a step in the last direction
 abbrev pub turns_from : Vertex → Last → Vertex → List Direction → ℕ
-turns_from v Nothing u ds = turns_at v u ds
-turns_from v (Was e) u [] = 0
-turns_from v (Was e) u (d ∷ ds) = cond (same u v) (turn e d) 0 + turns_at v u (d ∷ ds)
+turns_from v None u ds = turns_at v u ds
+turns_from v (Some e) u [] = 0
+turns_from v (Some e) u (d ∷ ds) = cond (same u v) (turn e d) 0 + turns_at v u (d ∷ ds)
 
-step_from : (v u : Vertex) (d : Direction) (ds : List Direction) → turns_at v u (d ∷ ds) ≡ turns_from v (Was d) (next d u) ds
+step_from : (v u : Vertex) (d : Direction) (ds : List Direction) → turns_at v u (d ∷ ds) ≡ turns_from v (Some d) (next d u) ds
 unfolding turns_at
 step_from v u d [] = refl
 step_from v u d (e ∷ ds) = refl
@@ -111,17 +110,17 @@ either_none true = refl
 either_none false = refl
 
 straight_from : (v : Vertex) (d : Direction) (n l c : ℕ) (ds : List Direction)
-    → turns_from v (Was d) (at l c) (replicate n d ++ ds) ≡ turns_from v (Was d) (at (line_after d l n) (column_after d c n)) ds
+    → turns_from v (Some d) (at l c) (replicate n d ++ ds) ≡ turns_from v (Some d) (at (line_after d l n) (column_after d c n)) ds
 straight_from v d zero l c ds = rw (line_none d l, column_none d c) refl
 straight_from v d (suc n) l c ds =
     let s : cond (same (at l c) v) (turn d d) 0 ≡ 0 = rw (turn_self d) (either_none (same (at l c) v)) in
     let r = straight_from v d n (line_after d l 1) (column_after d c 1) ds in
-    let q : turns_at v (at l c) (d ∷ (replicate n d ++ ds)) ≡ turns_from v (Was d) (at (line_after d l (suc n)) (column_after d c (suc n))) ds =
+    let q : turns_at v (at l c) (d ∷ (replicate n d ++ ds)) ≡ turns_from v (Some d) (at (line_after d l (suc n)) (column_after d c (suc n))) ds =
     step_from v (at l c) d (replicate n d ++ ds) ∙ (rw (next_is d l c, ← line_more d l n, ← column_more d c n) r) in
     omega (arith, s, q)
 
 run_from : (v : Vertex) (d : Direction) (n l c : ℕ) (ds : List Direction)
-    → turns_at v (at l c) (d ∷ (replicate n d ++ ds)) ≡ turns_from v (Was d) (at (line_after d l (suc n)) (column_after d c (suc n))) ds
+    → turns_at v (at l c) (d ∷ (replicate n d ++ ds)) ≡ turns_from v (Some d) (at (line_after d l (suc n)) (column_after d c (suc n))) ds
 run_from v d n l c ds =
     step_from v (at l c) d (replicate n d ++ ds)
     ∙ (rw (next_is d l c, ← line_more d l n, ← column_more d c n) (straight_from v d n (line_after d l 1) (column_after d c 1) ds))
@@ -131,9 +130,9 @@ pub from_run : (v : Vertex) (last : Last) (n : ℕ) (d : Direction) (l c : ℕ) 
     ≡ cond (same (at l c) v) (turn_by last (run d n)) 0 + turns_from v (last_after last (run d n)) (at (line_after d l n) (column_after d c n)) ds
 from_run v last zero d l c ds =
     rw (turn_none last d, line_none d l, column_none d c) (omega (arith, either_none (same (at l c) v)))
-from_run v Nothing (suc n) d l c ds =
+from_run v None (suc n) d l c ds =
     let q = run_from v d n l c ds in
-    rw (last_some Nothing d n) (omega (arith, either_none (same (at l c) v), q))
-from_run v (Was e) (suc n) d l c ds =
+    rw (last_some None d n) (omega (arith, either_none (same (at l c) v), q))
+from_run v (Some e) (suc n) d l c ds =
     let q = run_from v d n l c ds in
-    rw (last_some (Was e) d n, ← turn_is e d n) (omega (arith, q))
+    rw (last_some (Some e) d n, ← turn_is e d n) (omega (arith, q))

@@ -1,7 +1,8 @@
 -- The marks of two turns or more, counted over an array and over the vertices in reading order.
 -- Assumes nothing.
-use Rattle.std.specs.Prelude.{◌≡◌, refl, Bool, List, [], ◌∷◌, map, ℕ, suc, ◌+◌, ◌/◌, ◌%◌, ◌<◌, ◌≤◌, ltb, length, drop, get_or}
-use Rattle.std.proofs.Common.{ap, ◌∙◌, add-one, arith, drop_of_length-le, drop-cons}
+use Rattle.std.specs.Prelude.{◌≡◌, refl, Bool, true, false, cond, List, [], ◌∷◌, map, ℕ, suc, ◌+◌, ◌/◌, ◌%◌, ◌<◌, ltb, length, get_or, count_by}
+use Rattle.std.proofs.Common.{ap, sym, ◌∙◌, arith}
+use Rattle.std.proofs.lemmas.List.Recursion.{is_count_by}
 use Rattle.count.specs.Truth.{one}
 use Rattle.count.specs.Lists.{rising, select}
 use Rattle.count.specs.Tallies.{length_select}
@@ -11,13 +12,13 @@ use Rattle.board.specs.Order.{reading_order}
 use Rattle.board.specs.OrderLaws.{reading_by_index}
 use Rattle.judge_report.specs.Traces.{knocks_in}
 
-pub knocks_more : (a : List ℕ) (i : ℕ) → i < length a → knocks_in (drop i a) ≡ one (ltb 1 (get_or a i 0)) + knocks_in (drop (i + 1) a)
+pub knocks_counted : (a : List ℕ) → count_by (λ m. ltb 1 m) a ≡ knocks_in a
 unfolding knocks_in
-knocks_more a i h = rw (add-one i, drop-cons a i 0 h) refl
-
-pub knocks_none : (a : List ℕ) (i : ℕ) → length a ≤ i → knocks_in (drop i a) ≡ 0
-unfolding knocks_in
-knocks_none a i h = rw (drop_of_length-le a h) refl
+knocks_counted a = sym (is_count_by knocks_in (λ m. ltb 1 m) refl (λ m ms. more (ltb 1 m) (knocks_in ms)) a)
+  where
+    more : (t : Bool) (n : ℕ) → one t + n ≡ cond t (1 + n) n
+    more true n = refl
+    more false n = omega arith
 
 -- ── the vertices by their index ──
 abbrev pub vertex_at : ℕ → Vertex

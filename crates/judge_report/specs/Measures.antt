@@ -5,7 +5,6 @@ use Rattle.board.specs.Path.{turns}
 use Rattle.board.specs.declared.Vertex.{Vertex}
 use Rattle.board.specs.declared.Direction.{Direction}
 use Rattle.net.specs.declared.Net.{Net}
-use Rattle.net.specs.declared.Held.{Held}
 use Rattle.session_rules.specs.Session.{pairs}
 use Rattle.net_places.specs.Places.{held_net}
 use Rattle.words.specs.RoutingWord.{run_in}
@@ -14,6 +13,7 @@ use Rattle.call_rules.specs.Report.{edges_used, turns_made, turns_at, turns_occu
 use Rattle.call_rules.specs.Judge.{paths_in}
 use Rattle.judge_report.specs.declared.Trace.{Trace}
 use Rattle.judge_report.specs.declared.Sum.{Sum}
+use Rattle.net.specs.View.{Held}
 
 -- ── a path ──
 -- the directions of a list of run words

@@ -1,14 +1,12 @@
 -- All paths of a list, one net on: their edges, their turns, and how many turns occur at each vertex.
 -- Assumes nothing.
-use Rattle.std.specs.Prelude.{◌≡◌, refl, List, [], ◌∷◌, ℕ, suc, ◌+◌, ◌-◌, ◌*◌, ◌/◌, ◌%◌, ◌<◌, ◌≤◌, ltb, length, take, drop, get_or}
+use Rattle.std.specs.Prelude.{◌≡◌, refl, List, [], ◌∷◌, ℕ, suc, ◌+◌, ◌-◌, ◌*◌, ◌/◌, ◌%◌, ◌<◌, ◌≤◌, ltb, length, take, drop, get_or, None, Some}
 use Rattle.std.proofs.Common.{ap, ◌∙◌, add-one, arith}
 use Rattle.board.specs.declared.Vertex.{Vertex}
 use Rattle.board.specs.declared.Direction.{Direction}
-use Rattle.net.specs.View.{nothing}
+use Rattle.net.specs.View.{Held, nothing}
 use Rattle.net.specs.declared.Net.{Net}
 use Rattle.net.specs.declared.Pair.{Pair}
-use Rattle.net.specs.declared.Held.TheVariants.{Nothing, Ends}
-use Rattle.net.specs.declared.Place.{Place}
 use Rattle.session_rules.specs.Session.{pairs}
 use Rattle.net_places.specs.Places.{net, held_net, nets_from, nets_of}
 use Rattle.call_rules.specs.Shape.{paths_from}
@@ -34,14 +32,14 @@ left_more {ws} {i} {from} {to} f n ns =
     rw (paths_part f n ns) (ap (λ (ds : List Direction). ds ∷ left ns ws to) (dirs_are (suc i) (take (to - from) (drop from ws))))
 
 -- ── what a place holds ──
-pub place_none : {ws : List ℕ} {s : Sum} {a : List ℕ} → MeasuresPlace Nothing ws s a s a
+pub place_none : {ws : List ℕ} {s : Sum} {a : List ℕ} → MeasuresPlace None ws s a s a
 place_none = record {
   edges = λ k ns. refl;
   turned = λ k ns. refl;
   marks = λ n h. (n, h, λ k ns v. refl);
 }
 
-pub place_out : {ends : Pair} {ws : List ℕ} {s : Sum} {a : List ℕ} → length ws ≤ s.at → MeasuresPlace (Ends ends) ws s a s a
+pub place_out : {ends : Pair} {ws : List ℕ} {s : Sum} {a : List ℕ} → length ws ≤ s.at → MeasuresPlace (Some ends) ws s a s a
 place_out {ends} {ws} {s} h = record {
   edges = λ k ns. rw (left_out (net k ends ∷ ns) ws s.at h, left_out ns ws s.at h) refl;
   turned = λ k ns. rw (left_out (net k ends ∷ ns) ws s.at h, left_out ns ws s.at h) refl;
@@ -60,7 +58,7 @@ place_out {ends} {ws} {s} h = record {
 
 pub place_on : {ends : Pair} {ws : List ℕ} {s : Sum} {a a' : List ℕ} {from to : ℕ} → Found ws s.at from to
     → {t : Trace} → Measured ends.first (take (to - from) (drop from ws)) t a a'
-    → {r : Sum} → r ≡ record { at = to; edges = s.edges + t.edges; turns = s.turns + t.turns } → MeasuresPlace (Ends ends) ws s a r a'
+    → {r : Sum} → r ≡ record { at = to; edges = s.edges + t.edges; turns = s.turns + t.turns } → MeasuresPlace (Some ends) ws s a r a'
 unfolding edges_used turns_made
 place_on {ends} {ws} {s} {a} {a'} {from} {to} f {t} m g = rw g (record {
   edges = λ k ns. rw (left_more f (net k ends) ns) (omega (arith, m.edges));
@@ -76,14 +74,14 @@ place_on {ends} {ws} {s} {a} {a'} {from} {to} f {t} m g = rw g (record {
 
 -- ── all places ──
 -- DEFINITION: the sum s and the marks a once the first i places are measured, from the marks a₀
-pub record Measuring (nets : List Place) (ws : List ℕ) (a₀ : List ℕ) (i : ℕ) (s : Sum) (a : List ℕ) : Type 0 where
+pub record Measuring (nets : List Held) (ws : List ℕ) (a₀ : List ℕ) (i : ℕ) (s : Sum) (a : List ℕ) : Type 0 where
   pub edges : s.edges + edges_used (left (nets_from (suc i) (drop i nets)) ws s.at) ≡ edges_used (left (nets_of nets) ws 0)
   pub turned : s.turns + turns_made (left (nets_from (suc i) (drop i nets)) ws s.at) ≡ turns_made (left (nets_of nets) ws 0)
   pub marks : Says (λ v. 0) a₀
       → (n : Vertex → ℕ) × Says n a
       × ((v : Vertex) → n v + turns_left v (nets_from (suc i) (drop i nets)) ws s.at ≡ turns_left v (nets_of nets) ws 0)
 
-pub measuring_start : {nets : List Place} {ws : List ℕ} {a : List ℕ} → Measuring nets ws a 0 (record { at = 0; edges = 0; turns = 0 }) a
+pub measuring_start : {nets : List Held} {ws : List ℕ} {a : List ℕ} → Measuring nets ws a 0 (record { at = 0; edges = 0; turns = 0 }) a
 unfolding nets_of
 measuring_start = record {
   edges = omega arith;
@@ -91,8 +89,8 @@ measuring_start = record {
   marks = λ h. ((λ v. 0), h, λ v. omega arith);
 }
 
-pub measuring_on : {nets : List Place} {ws a₀ : List ℕ} {i : ℕ} {s : Sum} {a : List ℕ} → Measuring nets ws a₀ i s a → i < length nets
-    → {r : Sum} {a' : List ℕ} → MeasuresPlace (get_or nets i nothing).held ws s a r a' → Measuring nets ws a₀ (i + 1) r a'
+pub measuring_on : {nets : List Held} {ws a₀ : List ℕ} {i : ℕ} {s : Sum} {a : List ℕ} → Measuring nets ws a₀ i s a → i < length nets
+    → {r : Sum} {a' : List ℕ} → MeasuresPlace (get_or nets i nothing) ws s a r a' → Measuring nets ws a₀ (i + 1) r a'
 measuring_on {nets} {ws} {a₀} {i} {s} {a} h l {r} {a'} p = rw (add-one i) (record {
   edges = omega (arith, h.edges, ap (λ (x : List Net). edges_used (left x ws s.at)) more, p.edges (suc i) ns);
   turned = omega (arith, h.turned, ap (λ (x : List Net). turns_made (left x ws s.at)) more, p.turned (suc i) ns);
@@ -105,11 +103,11 @@ measuring_on {nets} {ws} {a₀} {i} {s} {a} h l {r} {a'} p = rw (add-one i) (rec
     ns : List Net
     ns = nets_from (suc (suc i)) (drop (suc i) nets)
 
-    more : nets_from (suc i) (drop i nets) ≡ held_net (suc i) (get_or nets i nothing).held ns
+    more : nets_from (suc i) (drop i nets) ≡ held_net (suc i) (get_or nets i nothing) ns
     more = nets_more nets i l
 
 -- ── the report ──
-pub measuring_done : {nets : List Place} {ws a₀ : List ℕ} {i : ℕ} {s : Sum} {a : List ℕ} → Measuring nets ws a₀ i s a → length nets ≤ i
+pub measuring_done : {nets : List Held} {ws a₀ : List ℕ} {i : ℕ} {s : Sum} {a : List ℕ} → Measuring nets ws a₀ i s a → length nets ≤ i
     → Says (λ v. 0) a₀
     → {n : ℕ} → n ≡ knocks_in a
     → record { edges = s.edges; turns = s.turns; knock_knees = n } ≡ report_of (pairs (nets_of nets)) (paths_in (paths_from 0 (nets_of nets) ws))

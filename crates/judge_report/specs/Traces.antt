@@ -1,25 +1,24 @@
 -- Definitions only: a path traced run by run, and the marks of its turns. Nothing is proved here.
 -- A mark is 0 where no turn occurred, 1 where one did, and 2 where more did.
-use Rattle.std.specs.Prelude.{cond, not, ◌&&◌, List, [], ◌∷◌, ℕ, ◌+◌, ◌-◌, ◌*◌, ◌≤◌, ltb, eqb}
+use Rattle.std.specs.Prelude.{cond, not, ◌&&◌, List, [], ◌∷◌, ℕ, ◌+◌, ◌-◌, ◌*◌, ◌≤◌, ltb, eqb, None, Some}
 use Rattle.count.specs.Truth.{one}
 use Rattle.board.specs.Path.{number}
 use Rattle.board.specs.declared.Vertex.{Vertex}
 use Rattle.board.specs.declared.Direction.{Direction}
 use Rattle.board.specs.declared.Direction.TheVariants.{Up, Right, Down, Left}
 use Rattle.words.specs.declared.Run.{Run}
-use Rattle.judge_shape.specs.declared.Last.{Last}
-use Rattle.judge_shape.specs.declared.Last.TheVariants.{Nothing, Was}
+use Rattle.judge_shape.specs.States.{Last}
 use Rattle.net.specs.Grid.{changed_at}
 use Rattle.judge_report.specs.declared.Trace.{Trace}
 
 -- ── a run ──
 -- 1 where the run begins with a turn
 abbrev pub turn_by : Last → Run → ℕ
-turn_by Nothing r = 0
-turn_by (Was e) r = cond (ltb 0 r.length && not (eqb (number e) (number r.direction))) 1 0
+turn_by None r = 0
+turn_by (Some e) r = cond (ltb 0 r.length && not (eqb (number e) (number r.direction))) 1 0
 
 abbrev pub last_after : Last → Run → Last
-last_after l r = cond (ltb 0 r.length) (Was r.direction) l
+last_after l r = cond (ltb 0 r.length) (Some r.direction) l
 
 abbrev pub line_after : Direction → (line n : ℕ) → ℕ
 line_after Up l n = l - n
@@ -57,7 +56,7 @@ pub record Short (k : ℕ) (t : Trace) : Type 0 where
   pub turns : t.turns ≤ k
 
 abbrev pub begin : Vertex → Trace
-begin v = record { line = v.line; column = v.column; last = Nothing; edges = 0; turns = 0 }
+begin v = record { line = v.line; column = v.column; last = None; edges = 0; turns = 0 }
 
 -- ── the marks ──
 -- the mark m after one more turn

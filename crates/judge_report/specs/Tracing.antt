@@ -1,6 +1,6 @@
 -- A path traced run by run: its edges, its turns, and the marks of its turns.
 -- Assumes nothing.
-use Rattle.std.specs.Prelude.{◌≡◌, refl, Bool, true, false, cond, not, ◌&&◌, List, [], ◌++◌, ◌⊎◌, ℕ, suc, ◌+◌, ◌*◌, ◌<◌, ◌≤◌, ltb, eqb, length, drop, get_or, replicate}
+use Rattle.std.specs.Prelude.{◌≡◌, refl, Bool, true, false, cond, not, ◌&&◌, List, [], ◌++◌, ◌⊎◌, ℕ, suc, ◌+◌, ◌*◌, ◌<◌, ◌≤◌, ltb, eqb, length, drop, get_or, replicate, None, Some}
 use Rattle.std.proofs.Common.{ap, ◌∙◌, inl, inr, add-one, arith, drop_of_length-le, drop-cons}
 use Rattle.count.specs.TruthLaws.{bool}
 use Rattle.board.specs.Board.{at}
@@ -11,8 +11,7 @@ use Rattle.net.specs.Same.{same_exact}
 use Rattle.words.specs.RoutingWord.{run_in}
 use Rattle.words.specs.declared.Run.{Run}
 use Rattle.call_rules.specs.Report.{turns_at}
-use Rattle.judge_shape.specs.declared.Last.{Last}
-use Rattle.judge_shape.specs.declared.Last.TheVariants.{Nothing, Was}
+use Rattle.judge_shape.specs.States.{Last}
 use Rattle.net.specs.GridLaws.{length_changed, changed_same, changed_other}
 use Rattle.judge_report.specs.Traces.{turn_by, trace_run, begin, marked, mark_at, mark_run}
 use Rattle.judge_report.specs.Measures.{dirs_of, mark_of, Says, Measured}
@@ -22,8 +21,8 @@ use Rattle.judge_report.specs.declared.Trace.{Trace}
 
 -- ── the marks, one run on ──
 turn_one : (l : Last) (r : Run) → (turn_by l r ≡ 0) ⊎ (turn_by l r ≡ 1)
-turn_one Nothing r = inl refl
-turn_one (Was e) r = go (ltb 0 r.length && not (eqb (number e) (number r.direction)))
+turn_one None r = inl refl
+turn_one (Some e) r = go (ltb 0 r.length && not (eqb (number e) (number r.direction)))
   where
     go : (t : Bool) → (◌≡◌ {A = ℕ} (cond t 1 0) 0) ⊎ (◌≡◌ {A = ℕ} (cond t 1 0) 1)
     go true = inr refl
@@ -129,9 +128,9 @@ tracing_done {u} {ws} {i} {t} {a₀} {a} h l = record {
     none = rw (drop_of_length-le ws l) refl
 
     after : (l : Last) → turns_after l [] ≡ 0
-    after Nothing = refl
-    after (Was e) = refl
+    after None = refl
+    after (Some e) = refl
 
     from : (v : Vertex) (l : Last) (w : Vertex) → turns_from v l w [] ≡ 0
-    from v Nothing w = refl
-    from v (Was e) w = refl
+    from v None w = refl
+    from v (Some e) w = refl

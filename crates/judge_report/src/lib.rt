@@ -2,8 +2,7 @@
 // A mark of each vertex says how many turns occurred there: none, one, or more.
 #![tactic(auto)]
 
-ghost use Rattle.std.specs.Prelude.{◌≡◌, ◌+◌, ◌-◌, ◌*◌, ◌≤◌, ltb, length};
-ghost use Rattle.count.specs.Truth.{one};
+ghost use Rattle.std.specs.Prelude.{◌≡◌, ◌+◌, ◌*◌, ◌≤◌, ltb, length, count_by};
 ghost use Rattle.call_rules.specs.Judge.{paths_in};
 ghost use Rattle.call_rules.specs.Report.{report_of};
 ghost use Rattle.call_rules.specs.Shape.{routing_limit, paths_from};
@@ -21,14 +20,11 @@ ghost use Rattle.judge_report.specs.Traces.{
   marked,
   mark_at,
   mark_run,
-  knocks_in,
 };
 
 use board::{Direction, Vertex};
-use judge_shape::Last;
-use judge_walk::Part;
-use net::{Held, Place};
-use numbers::as_word;
+use net::Place;
+use std::ops::Range;
 use words::Run;
 
 // Where a path has come to, the direction of its last step, and its edges and turns so far.
@@ -36,7 +32,7 @@ use words::Run;
 pub struct Trace {
     pub line: u32,
     pub column: u32,
-    pub last: Last,
+    pub last: Option<Direction>,
     pub edges: u32,
     pub turns: u32,
 }
@@ -57,42 +53,25 @@ pub struct Report {
     pub knocks: u32,
 }
 
-fn index(x: u32) -> usize
-    ensures { result ≡ x }
-{
-    x as usize
-}
-
-// x - n, and 0 below 0.
-fn less(x: u32, n: u32) -> u32
-    ensures { result ≡ x - n }
-{
-    if n <= x { x - n } else { 0 }
-}
-
 // 1 where the run begins with a turn.
-fn turn_by(last: Last, run: Run) -> u32
+fn turn_by(last: Option<Direction>, run: Run) -> u32
     ensures value { result ≡ turn_by last run }
     ensures upper_bound { result ≤ 1 }
 {
     match last {
-        Last::Nothing => 0,
-        Last::Was(e) => {
-            let d = run.direction;
-            if (0 < run.length) & (words::number_of(e) != words::number_of(d)) {
-                1
-            } else {
-                0
-            }
-        }
+        None => 0,
+        Some(d) => u32::from((0 < run.length) & (d != run.direction)),
     }
 }
 
-fn last_after(last: Last, run: Run) -> Last
+fn last_after(last: Option<Direction>, run: Run) -> Option<Direction>
     ensures { result ≡ last_after last run }
 {
-    let d = run.direction;
-    if 0 < run.length { Last::Was(d) } else { last }
+    if 0 < run.length {
+        Some(run.direction)
+    } else {
+        last
+    }
 }
 
 fn line_after(d: Direction, line: u32, n: u32) -> u32
@@ -101,7 +80,7 @@ fn line_after(d: Direction, line: u32, n: u32) -> u32
     ensures upper_bound { result ≤ line + 255 }
 {
     match d {
-        Direction::Up => less(line, n),
+        Direction::Up => line.saturating_sub(n),
         Direction::Right => line,
         Direction::Down => line + n,
         Direction::Left => line,
@@ -117,11 +96,12 @@ fn column_after(d: Direction, column: u32, n: u32) -> u32
         Direction::Up => column,
         Direction::Right => column + n,
         Direction::Down => column,
-        Direction::Left => less(column, n),
+        Direction::Left => column.saturating_sub(n),
     }
 }
 
 // The trace with one run more.
+#[tactic(auto, unfolding(crate::specs::Traces::trace_run))]
 fn trace_run(t: Trace, run: Run) -> Trace
     requires { (t.line ≤ 1000000) × (t.column ≤ 1000000) × (t.edges ≤ 1000000) × (t.turns ≤ 1000000) }
     ensures value { result ≡ trace_run t run }
@@ -129,7 +109,7 @@ fn trace_run(t: Trace, run: Run) -> Trace
 {
     let d = run.direction;
     let last = t.last;
-    let n = as_word(run.length);
+    let n = u32::from(run.length);
     Trace {
         line: line_after(d, t.line, n),
         column: column_after(d, t.column, n),
@@ -147,18 +127,18 @@ fn mark_after(m: u8) -> u8
 }
 
 // Marks a turn at a vertex; one outside lines and columns 0 to 31 has no mark.
+#[tactic(auto, unfolding(net::specs::Grid::changed_at))]
 fn mark_at(line: u32, column: u32, marks: &mut [u8; 1024])
     ensures { marks.new ≡ mark_at line column marks.old }
 {
-    if line < 32 {
-        if column < 32 {
-            let at = index(line * 32 + column);
-            marks[at] = mark_after(marks[at]);
-        }
+    if line < 32 && column < 32 {
+        let at = (line * 32 + column) as usize;
+        marks[at] = mark_after(marks[at]);
     }
 }
 
 // Marks the turn with which a run begins, if it does.
+#[tactic(auto, unfolding(crate::specs::Traces::mark_run))]
 fn mark_run(t: Trace, run: Run, marks: &mut [u8; 1024])
     ensures { marks.new ≡ mark_run t run marks.old }
 {
@@ -168,24 +148,12 @@ fn mark_run(t: Trace, run: Run, marks: &mut [u8; 1024])
     }
 }
 
-// 1 where a mark says two turns or more.
-fn knock_of(m: u8) -> u32
-    ensures value { result ≡ one (ltb 1 m) }
-    ensures upper_bound { result ≤ 1 }
-{
-    if 2 <= m { 1 } else { 0 }
-}
-
 // How many marks say two turns or more.
-fn count_knocks(marks: [u8; 1024]) -> u32
-    ensures value { result ≡ knocks_in marks }
+fn count_knocks(marks: &[u8; 1024]) -> u32
+    ensures value { result ≡ count_by (λ m. ltb 1 m) marks.now }
     ensures upper_bound { result ≤ 1024 }
 {
-    let mut n: u32 = 0;
-    for i in 0..1024 {
-        n += knock_of(marks[i]);
-    }
-    n
+    marks.iter().filter(|m| 1 < **m).count() as u32
 }
 
 // Measures a path, given its runs as a part of the list.
@@ -195,14 +163,14 @@ fn measure_path(first: Vertex, runs: &[u32], marks: &mut [u8; 1024]) -> Trace
     ensures edges_bound { (result.edges ≤ 600000) × (result.turns ≤ 600000) }
 {
     let mut t = Trace {
-        line: as_word(first.line),
-        column: as_word(first.column),
-        last: Last::Nothing,
+        line: u32::from(first.line),
+        column: u32::from(first.column),
+        last: None,
         edges: 0,
         turns: 0,
     };
-    for k in 0..runs.len() {
-        let run = words::run_in(runs[k]);
+    for &word in runs {
+        let run = words::run_in(word);
         mark_run(t, run, marks);
         t = trace_run(t, run);
     }
@@ -213,20 +181,19 @@ fn measure_path(first: Vertex, runs: &[u32], marks: &mut [u8; 1024]) -> Trace
 fn measure_place(place: Place, words: &[u32], sum: Sum, marks: &mut [u8; 1024]) -> Sum
     requires words_len_bound { length words.now ≤ routing_limit }
     requires edges_bound { (sum.edges ≤ 40000000) × (sum.turns ≤ 40000000) }
-    ensures measures_place { MeasuresPlace place.held words.now sum marks.old result marks.new }
+    ensures measures_place { MeasuresPlace place words.now sum marks.old result marks.new }
     ensures edges_bound_2 { (result.edges ≤ sum.edges + 600000) × (result.turns ≤ sum.turns + 600000) }
 {
-    let held = place.held;
-    match held {
-        Held::Nothing => sum,
-        Held::Ends(ends) => {
+    match place {
+        None => sum,
+        Some(ends) => {
             let at = sum.at;
             match judge_walk::part_at(words, at) {
-                Part::Nothing => sum,
-                Part::Runs(from, to) => {
-                    let t = measure_path(ends.first, &words[from..to], marks);
+                None => sum,
+                Some(Range { start, end }) => {
+                    let t = measure_path(ends.first, &words[start..end], marks);
                     Sum {
-                        at: to,
+                        at: end,
                         edges: sum.edges + t.edges,
                         turns: sum.turns + t.turns,
                     }
@@ -247,12 +214,12 @@ pub fn report_of(nets: [Place; 64], words: &[u32]) -> Report
         edges: 0,
         turns: 0,
     };
-    for i in 0..64 {
-        sum = measure_place(nets[i], words, sum, &mut marks);
+    for &place in &nets {
+        sum = measure_place(place, words, sum, &mut marks);
     }
     Report {
         edges: sum.edges,
         turns: sum.turns,
-        knocks: count_knocks(marks),
+        knocks: count_knocks(&marks),
     }
 }

@@ -11,11 +11,10 @@ ghost use Rattle.judge_list.specs.Verdicts.{verdict_of, comparison_of};
 ghost use Rattle.judge_call.specs.Answers.{judgement_of};
 ghost use Rattle.judge_text.specs.Text.{judged_line, compared_line};
 
-use judge_call::Judgement;
-use judge_list::{Comparison, Verdict};
+use judge_call::JudgeRefusal;
+use judge_list::ListRefusal;
 use judge_report::Report;
 use judge_shape::Refusal;
-use numbers::{long, wide};
 
 fn report_line(r: Report, out: &mut [u8; 128]) -> usize
     ensures { Holds (judged_line (yes (report_is r))) result out.new }
@@ -27,41 +26,41 @@ fn report_line(r: Report, out: &mut [u8; 128]) -> usize
 fn refusal_line(r: Refusal, out: &mut [u8; 128]) -> usize
     ensures { Holds (judged_line (no (refusal_of r))) result out.new }
 {
-    text::refused(wide(r.number), long(r.place), out)
+    text::refused(usize::from(r.fault.number()), usize::from(r.place), out)
 }
 
 // The verdict on a list.
-pub fn verdict_line(v: Verdict, out: &mut [u8; 128]) -> usize
+pub fn verdict_line(v: Result<Report, Refusal>, out: &mut [u8; 128]) -> usize
     ensures { Holds (judged_line (verdict_of v)) result out.new }
 {
     match v {
-        Verdict::Passed(r) => report_line(r, out),
-        Verdict::Refused(r) => refusal_line(r, out),
+        Ok(r) => report_line(r, out),
+        Err(r) => refusal_line(r, out),
     }
 }
 
 // The judgement on a list, against a session.
-pub fn judgement_line(j: Judgement, out: &mut [u8; 128]) -> usize
+pub fn judgement_line(j: Result<Report, JudgeRefusal>, out: &mut [u8; 128]) -> usize
     ensures { Holds (judged_line (judgement_of j)) result out.new }
 {
     match j {
-        Judgement::Passed(r) => report_line(r, out),
-        Judgement::Unsound => text::refused(20, 0, out),
-        Judgement::UnevenBytes => text::refused(10, 0, out),
-        Judgement::Refused(r) => refusal_line(r, out),
+        Ok(r) => report_line(r, out),
+        Err(JudgeRefusal::Unsound) => text::refused(20, 0, out),
+        Err(JudgeRefusal::UnevenBytes) => text::refused(10, 0, out),
+        Err(JudgeRefusal::List(r)) => refusal_line(r, out),
     }
 }
 
 // Whether two lists are alike.
-pub fn comparison_line(c: Comparison, out: &mut [u8; 128]) -> usize
+pub fn comparison_line(c: Result<bool, ListRefusal>, out: &mut [u8; 128]) -> usize
     ensures { Holds (compared_line (comparison_of c)) result out.new }
 {
     match c {
-        Comparison::Alike(t) => alike_line(t, out),
-        Comparison::Refused(list, r) => text::refused_at(
-            wide(r.number),
-            wide(list),
-            long(r.place),
+        Ok(t) => alike_line(t, out),
+        Err(ListRefusal { list, refusal }) => text::refused_at(
+            usize::from(refusal.fault.number()),
+            usize::from(list.number()),
+            usize::from(refusal.place),
             out,
         ),
     }

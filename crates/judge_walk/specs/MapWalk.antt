@@ -1,7 +1,7 @@
 -- Definitions only: the walk of a list's paths with a map of used edges. Nothing is proved here.
 -- It is the walk of document 01 (call_rules, Walk), but an edge is looked up in the map, and its slot gets the net's number. It is defined on any
 -- board, and says on a refusal how the map then stands. On a board within the limits its refusals are those of document 01: `paths_same` in SameWalk.
-use Rattle.std.specs.Prelude.{◌≡◌, not, List, [], ◌∷◌, ℕ, zero, suc, ◌-◌, min, ltb, drop, get_or, set}
+use Rattle.std.specs.Prelude.{◌≡◌, not, List, [], ◌∷◌, ℕ, zero, suc, ◌-◌, min, ltb, drop, get_or, set, Result, Ok, Err}
 use Rattle.std.proofs.Math.Option.{Option, none, some}
 use Rattle.board.specs.Board.{Board, at}
 use Rattle.board.specs.Degree.{edge?}
@@ -11,19 +11,15 @@ use Rattle.board.specs.declared.Direction.TheVariants.{Up, Right, Down, Left}
 use Rattle.net.specs.Terminals.{same}
 use Rattle.net.specs.declared.Net.{Net}
 use Rattle.net.specs.declared.Pair.{Pair}
-use Rattle.net.specs.declared.Held.{Held}
 use Rattle.net_places.specs.Places.{net, held_net}
 use Rattle.session_rules.specs.Refusal.{Refusal, refusal, line, first_refusal}
 use Rattle.words.specs.declared.Run.{Run}
 use Rattle.call_rules.specs.Shape.{RunAt, PathAt, runs_from, paths_from}
-use Rattle.judge_shape.specs.Refused.{refusal_of}
-use Rattle.judge_shape.specs.declared.Checked.{Checked}
-use Rattle.judge_shape.specs.declared.Checked.TheVariants as checked
+use Rattle.judge_shape.specs.Refused.{number_of, refusal_of}
+use Rattle.judge_shape.specs.declared.Fault.{Fault}
+use Rattle.judge_shape.specs.declared.Refusal as shape
 use Rattle.judge_walk.specs.Slots.{slot_at}
-use Rattle.judge_walk.specs.declared.Walked.{Walked}
-use Rattle.judge_walk.specs.declared.Walked.TheVariants as walked
-use Rattle.judge_walk.specs.declared.Onward.{Onward}
-use Rattle.judge_walk.specs.declared.Onward.TheVariants as onward
+use Rattle.net.specs.View.{Held}
 
 -- what a walk comes to: a refusal or a value, and the map as it then stands
 pub data Came (A : Type 0) : Type 0 where
@@ -69,26 +65,26 @@ map_paths b (p ∷ ps) m = then_on (map_path b p m) (λ u a. map_paths b ps a)
 
 -- ── what the values of the code stand for ──
 -- a run whose word stands at index i
-abbrev pub run_end : (i : ℕ) → Walked → List ℕ → Came Vertex
-run_end i (walked.At v) m = came v m
-run_end i (walked.Refused k) m = stopped (refusal k i) m
+abbrev pub run_end : (i : ℕ) → Result Vertex Fault → List ℕ → Came Vertex
+run_end i (Ok v) m = came v m
+run_end i (Err f) m = stopped (refusal (number_of f) i) m
 
 -- what `walk_run` promises, whatever index the run's word has
-pub record WalksRun (b : Board) (k : ℕ) (run : Run) (v : Vertex) (m m' : List ℕ) (r : Walked) : Type 0 where
+pub record WalksRun (b : Board) (k : ℕ) (run : Run) (v : Vertex) (m m' : List ℕ) (r : Result Vertex Fault) : Type 0 where
   pub walks : (i : ℕ) → run_end i r m' ≡ map_steps b k i run.direction run.length v m
 
 -- a path, or all paths
-abbrev pub path_end : Checked → List ℕ → Came (Unit {0})
-path_end checked.Passed m = came tt m
-path_end (checked.Refused r) m = stopped (refusal_of r) m
+abbrev pub path_end : Result Unit shape.Refusal → List ℕ → Came (Unit {0})
+path_end (Ok u) m = came tt m
+path_end (Err r) m = stopped (refusal_of r) m
 
 -- the path of a place: the paths of the nets after it, ns, go on from index n of the words, or there is a refusal
-abbrev pub place_end : Board → List Net → List ℕ → Onward → List ℕ → Came (Unit {0})
-place_end b ns ws (onward.At n) m = map_paths b (paths_from n ns (drop n ws)) m
-place_end b ns ws (onward.Refused r) m = stopped (refusal_of r) m
+abbrev pub place_end : Board → List Net → List ℕ → Result ℕ shape.Refusal → List ℕ → Came (Unit {0})
+place_end b ns ws (Ok n) m = map_paths b (paths_from n ns (drop n ws)) m
+place_end b ns ws (Err r) m = stopped (refusal_of r) m
 
 -- what `walk_place` promises, whatever nets come after it
-pub record WalksPlace (b : Board) (k : ℕ) (held : Held) (ws : List ℕ) (i : ℕ) (m m' : List ℕ) (r : Onward) : Type 0 where
+pub record WalksPlace (b : Board) (k : ℕ) (held : Held) (ws : List ℕ) (i : ℕ) (m m' : List ℕ) (r : Result ℕ shape.Refusal) : Type 0 where
   pub walks : (ns : List Net) → place_end b ns ws r m' ≡ map_paths b (paths_from i (held_net k held ns) (drop i ws)) m
 
 -- the path of net k whose word stands at index i, with these run words

@@ -1,28 +1,27 @@
 -- The part of the list that a path's runs are, and the paths after it.
 -- Assumes nothing.
-use Rattle.std.specs.Prelude.{◌≡◌, refl, List, [], ◌∷◌, ℕ, suc, ◌+◌, ◌-◌, ◌<◌, ◌≤◌, min, length, take, drop, get_or}
-use Rattle.std.proofs.Common.{◌∙◌, inl, inr, arith, length-drop, drop_of_length-le, take_all, drop-cons, drop-drop}
+use Rattle.std.specs.Prelude.{◌≡◌, refl, List, [], ◌∷◌, ℕ, suc, ◌+◌, ◌-◌, ◌<◌, ◌≤◌, min, length, take, drop, get_or, Option, None, Some}
+use Rattle.std.proofs.Common.{ap, ◌∙◌, inl, inr, arith, length-drop, drop_of_length-le, take_all, drop-cons, drop-drop}
 use Rattle.count.specs.TruthLaws.{le_or_lt}
 use Rattle.count.specs.Bits.{le_case}
 use Rattle.net.specs.declared.Net.{Net}
 use Rattle.words.specs.RoutingWord.{path_in}
 use Rattle.call_rules.specs.Shape.{runs_from, paths_from}
-use Rattle.judge_walk.specs.Parts.{part_at}
-use Rattle.judge_walk.specs.declared.Part.{Part}
-use Rattle.judge_walk.specs.declared.Part.TheVariants as part
+use Rattle.std.specs.declared.ops.Range.{Range}
+use Rattle.judge_walk.specs.Parts.{part, part_at}
 
 -- ── where the part lies ──
-pub part_out : (ws : List ℕ) (i : ℕ) → length ws ≤ i → part.Nothing ≡ part_at ws i
+pub part_out : (ws : List ℕ) (i : ℕ) → length ws ≤ i → None ≡ part_at ws i
 unfolding part_at
 part_out ws i h = elim (le_case (length ws) i) [ inl e ↦ rw e.0 refl | inr e ↦ absurd (omega (arith, e.2)) ]
 
 pub part_in : (ws : List ℕ) (i : ℕ) → i < length ws
-    → part.Runs (suc i) (min (suc i + (path_in (get_or ws i 0)).runs) (length ws)) ≡ part_at ws i
+    → Some (part (suc i) (min (suc i + (path_in (get_or ws i 0)).runs) (length ws))) ≡ part_at ws i
 unfolding part_at
 part_in ws i h = elim (le_case (length ws) i) [ inl e ↦ absurd (omega (arith, e.2)) | inr e ↦ rw e.0 refl ]
 
 pub part_runs : (ws : List ℕ) (i : ℕ) → i < length ws → {from to : ℕ} → from ≡ suc i → to ≡ min (suc i + (path_in (get_or ws i 0)).runs) (length ws)
-    → part.Runs from to ≡ part_at ws i
+    → Some (part from to) ≡ part_at ws i
 part_runs ws i h e f = rw (e, f) (part_in ws i h)
 
 -- what is known of a part that is found
@@ -31,13 +30,16 @@ pub record Found (ws : List ℕ) (i from to : ℕ) : Type 0 where
   pub start : from ≡ suc i
   pub end : to ≡ min (suc i + (path_in (get_or ws i 0)).runs) (length ws)
 
-pub part_found : {ws : List ℕ} {i from to : ℕ} {r : Part} → r ≡ part_at ws i → r ≡ part.Runs from to → Found ws i from to
-part_found {ws} {i} e f = elim (le_or_lt (length ws) i) [
+pub part_found : {ws : List ℕ} {i from to : ℕ} {r : Option (Range ℕ)} → r ≡ part_at ws i → r ≡ Some (part from to) → Found ws i from to
+part_found {ws} {i} {from} {to} e f = elim (le_or_lt (length ws) i) [
   | inl h ↦ absurd (let p = part_out ws i h in let z : ◌≡◌ {A = ℕ} 0 1 = cc in omega arith)
-  | inr h ↦ let p = part_in ws i h in record { inside = h; start = cc; end = cc }
+  | inr h ↦
+      let p = part_in ws i h in
+      let q : part from to ≡ part (suc i) (min (suc i + (path_in (get_or ws i 0)).runs) (length ws)) = cc in
+      record { inside = h; start = ap (λ (x : Range ℕ). x.start) q; end = ap (λ (x : Range ℕ). x.end) q }
 ]
 
-pub part_nothing : (ws : List ℕ) (i : ℕ) {r : Part} → r ≡ part_at ws i → r ≡ part.Nothing → length ws ≤ i
+pub part_nothing : (ws : List ℕ) (i : ℕ) {r : Option (Range ℕ)} → r ≡ part_at ws i → r ≡ None → length ws ≤ i
 part_nothing ws i e f = elim (le_or_lt (length ws) i) [
   | inl h ↦ h
   | inr h ↦ absurd (let p = part_in ws i h in let z : ◌≡◌ {A = ℕ} 0 1 = cc in omega arith)

@@ -9,11 +9,8 @@
 // Then the last answer is printed: "accepted", or "refused" with the number.
 #![tactic(auto)]
 
-ghost use Rattle.std.specs.Prelude.{◌≤◌};
-
 use board::{Board, Row, Vertex};
 use net::{Net, Pair};
-use numbers::wide;
 use session::Session;
 use session_answers::Told;
 
@@ -33,30 +30,33 @@ fn join(number: u8, first: Vertex, second: Vertex) -> Net {
     }
 }
 
-// Nets 1 to 30 go down their columns, 31 to 60 along their lines, two along the top and the others along the bottom.
-fn net_of(number: u8) -> Net {
-    if number <= 30 {
-        let first = Vertex {
-            line: 0,
-            column: number,
-        };
-        let second = Vertex {
-            line: 31,
-            column: number,
-        };
-        return join(number, first, second);
-    }
-    let mut line: u8 = 31;
-    if number <= 60 {
-        line = number - 30;
-    } else if number <= 62 {
-        line = 0;
-    }
+// A net along a line.
+fn along(number: u8, line: u8) -> Net {
     join(
         number,
         Vertex { line, column: 0 },
         Vertex { line, column: 31 },
     )
+}
+
+// Nets 1 to 30 go down their columns, 31 to 60 along their lines, two along the top and the others along the bottom.
+fn net_of(number: u8) -> Net {
+    match number {
+        0..=30 => join(
+            number,
+            Vertex {
+                line: 0,
+                column: number,
+            },
+            Vertex {
+                line: 31,
+                column: number,
+            },
+        ),
+        31..=60 => along(number, number - 30),
+        61..=62 => along(number, 0),
+        _ => along(number, 31),
+    }
 }
 
 fn bare() -> Session {
@@ -69,11 +69,9 @@ fn bare() -> Session {
 
 fn full() -> Session {
     let mut session = bare();
-    let mut number: u8 = 1;
-    while number <= 64 {
+    for number in 1..=64 {
         let after = session.add(net_of(number));
         session = after.session;
-        number += 1;
     }
     session
 }
@@ -81,13 +79,11 @@ fn full() -> Session {
 // Nets 1 to 32 withdrawn and added again, which fills the pile anew.
 fn changed(start: Session) -> Session {
     let mut session = start;
-    let mut number: u8 = 1;
-    while number <= 32 {
+    for number in 1..=32 {
         let out = session.withdraw(number);
         let without = out.session;
         let after = without.add(net_of(number));
         session = after.session;
-        number += 1;
     }
     session
 }
@@ -95,11 +91,9 @@ fn changed(start: Session) -> Session {
 // The nets on the board kept under all eight names.
 fn kept(start: Session) -> Session {
     let mut session = start;
-    let mut name: u8 = 0;
-    while name <= session_names::LAST_NAME {
+    for name in 0..=session_names::LAST_NAME {
         let after = session.keep(name);
         session = after.session;
-        name += 1;
     }
     session
 }
@@ -109,30 +103,20 @@ fn kept(start: Session) -> Session {
 fn withdrawn(session: Session) -> Lap {
     let after = session.withdraw(64);
     let answer = after.answer;
-    let told = session_answers::withdraw_told(answer);
-    let next = after.session;
+    let told = Told::of(answer);
     Lap {
         told,
-        session: next,
+        session: after.session,
     }
 }
 
 fn taken_back(session: Session) -> Lap {
     let after = session.take_back();
     let answer = after.answer;
-    let told = session_answers::take_back_told(answer);
-    let next = after.session;
+    let told = Told::of(answer);
     Lap {
         told,
-        session: next,
-    }
-}
-
-fn call(back: bool, session: Session) -> Lap {
-    if back {
-        taken_back(session)
-    } else {
-        withdrawn(session)
+        session: after.session,
     }
 }
 
@@ -144,12 +128,12 @@ fn laps(start: Session, calls: usize) -> Lap {
         },
         session: start,
     };
-    let mut back = false;
-    let mut left = calls;
-    while 0 < left {
-        lap = call(back, lap.session);
-        back = !back;
-        left -= 1;
+    for turn in 0..calls {
+        lap = if turn % 2 == 0 {
+            withdrawn(lap.session)
+        } else {
+            taken_back(lap.session)
+        };
     }
     lap
 }
@@ -159,10 +143,8 @@ fn laps(start: Session, calls: usize) -> Lap {
 // The nets 1 to 40, and others behind them.
 fn listed() -> [Net; 65] {
     let mut nets = [net_of(1); 65];
-    let mut number: u8 = 1;
-    while number <= 40 {
-        nets[wide(number) - 1] = net_of(number);
-        number += 1;
+    for (net, number) in nets.iter_mut().zip(1..=40) {
+        *net = net_of(number);
     }
     nets
 }
@@ -171,99 +153,67 @@ fn in_one_call(session: Session, nets: [Net; 65]) -> Lap {
     let after = session_list::add_first(session, nets, 40);
     let answer = after.answer;
     let last = answer.last;
-    let told = session_answers::add_told(last);
-    let next = after.session;
+    let told = Told::of(last);
     Lap {
         told,
-        session: next,
+        session: after.session,
     }
 }
 
 fn added(session: Session, net: Net) -> Lap {
     let after = session.add(net);
     let answer = after.answer;
-    let told = session_answers::add_told(answer);
-    let next = after.session;
+    let told = Told::of(answer);
     Lap {
         told,
-        session: next,
+        session: after.session,
     }
 }
 
 fn in_single_calls(session: Session, nets: [Net; 65]) -> Lap {
     let mut lap = added(session, nets[0]);
-    let mut at: usize = 1;
-    while at < 40 {
-        lap = added(lap.session, nets[at]);
-        at += 1;
+    for net in &nets[1..40] {
+        lap = added(lap.session, *net);
     }
     lap
 }
 
-fn forty(one: bool, session: Session, nets: [Net; 65]) -> Lap {
-    if one {
-        in_one_call(session, nets)
-    } else {
-        in_single_calls(session, nets)
-    }
-}
-
-fn forties(one: bool, times: usize) -> Lap {
+// So many laps, but at least one, of 40 nets on the bare board.
+fn forties<F: Fn(Session, [Net; 65]) -> Lap>(times: usize, forty: F) -> Lap
+    requires { F.IsAlwaysCallable forty }
+{
     let start = bare();
     let nets = listed();
-    let mut lap = forty(one, start, nets);
-    let mut left = times;
-    while 1 < left {
-        lap = forty(one, start, nets);
-        left -= 1;
+    let mut lap = forty(start, nets);
+    for _ in 1..times {
+        lap = forty(start, nets);
     }
     lap
 }
 
 // ── in and out ──
 
-// The value of a digit, 0 of any other byte.
-fn digit(b: u8) -> u8
-    ensures { result ≤ 9 }
-{
-    if b < b'0' {
-        0
-    } else if b'9' < b {
-        0
-    } else {
-        b - b'0'
-    }
-}
-
-fn is_digit(b: u8) -> bool {
-    (b'0' <= b) & (b <= b'9')
-}
-
-// The value with one more digit, where the byte is one and there is room.
-fn longer(value: usize, b: u8) -> usize {
-    if is_digit(b) {
-        if value < 100000 {
-            return value * 10 + wide(digit(b));
-        }
-    }
-    value
-}
-
+// The value of the digits, of which those are left out for which there is no room.
 fn number(s: &[u8]) -> usize {
-    let mut value: usize = 0;
-    let mut at: usize = 0;
-    while at < s.len() {
-        value = longer(value, s[at]);
-        at += 1;
+    s.iter()
+        .filter_map(|b| char::from(*b).to_digit(10))
+        .fold(0, |value, digit| longer(value, digit))
+}
+
+// The value with one more digit, where there is room.
+fn longer(value: usize, digit: u32) -> usize {
+    if value < 100000 {
+        value * 10 + digit as usize
+    } else {
+        value
     }
-    value
 }
 
 fn print_told(told: Told) {
     if told.number == 0 {
         text::print_line(b"accepted", &[0usize; 0]);
     } else {
-        text::print_line(b"refused", &[wide(told.number)]);
+        text::print_line(b"refused", &[usize::from(told.number)]);
     }
 }
 
@@ -271,15 +221,11 @@ fn main() {
     let mut text = io::buffer();
     let n = io::read_full(0, &mut text);
     let calls = number(&text[..n]);
-    let first = text[0];
-    let last = if first == b'l' {
-        forties(true, calls)
-    } else if first == b's' {
-        forties(false, calls)
-    } else if first == b'n' {
-        laps(changed(kept(full())), calls)
-    } else {
-        laps(changed(full()), calls)
+    let last = match text[0] {
+        b'l' => forties(calls, in_one_call),
+        b's' => forties(calls, in_single_calls),
+        b'n' => laps(changed(kept(full())), calls),
+        _ => laps(changed(full()), calls),
     };
     print_told(last.told);
 }

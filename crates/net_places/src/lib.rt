@@ -5,30 +5,25 @@ ghost use Rattle.std.specs.Prelude.{◌≡◌, ◌≤◌, length};
 ghost use Rattle.session_rules.specs.Session.{holds, recorded};
 ghost use Rattle.net_places.specs.Numbered.{replaced, index_of};
 ghost use Rattle.net_places.specs.Places.{nets_of, held_one, place_at, holding, reversed_in};
-ghost use Rattle.net_places.specs.Nets.{same_pair};
 
-use net::{Change, Held, Net, Pair, Place};
-use numbers::wide;
+use net::{Change, Net, Pair, Place};
 
 // The index of what has this number; that of number 0 is past the end.
 pub fn index_of(number: u8) -> usize
     ensures { result ≡ index_of number }
 {
-    if 0 < number { wide(number - 1) } else { 255 }
+    if 0 < number {
+        usize::from(number - 1)
+    } else {
+        255
+    }
 }
 
 // The place of a number, an empty one for a number that is not 1 to 64.
 pub fn place_of(nets: [Place; 64], number: u8) -> Place
     ensures { result ≡ place_at nets number }
 {
-    let at = index_of(number);
-    if at < 64 {
-        nets[at]
-    } else {
-        Place {
-            held: Held::Nothing,
-        }
-    }
+    nets.get(index_of(number)).copied().flatten()
 }
 
 // The places with that of a number replaced; the same places for a number that is not 1 to 64.
@@ -47,41 +42,21 @@ pub fn stored(nets: [Place; 64], number: u8, place: Place) -> [Place; 64]
 pub fn is_held(nets: [Place; 64], number: u8) -> bool
     ensures { result ≡ holds number (nets_of nets) }
 {
-    let place = place_of(nets, number);
-    let held = place.held;
-    match held {
-        Held::Nothing => false,
-        Held::Ends(_) => true,
-    }
-}
-
-fn same_pair(p: Pair, q: Pair) -> bool
-    ensures { result ≡ same_pair p q }
-{
-    net::same_vertex(p.first, q.first) & net::same_vertex(p.second, q.second)
+    place_of(nets, number).is_some()
 }
 
 // Is this net held, with this number and these terminals?
 pub fn is_recorded(nets: [Place; 64], net: Net) -> bool
     ensures { result ≡ recorded net (nets_of nets) }
 {
-    let place = place_of(nets, net.number);
-    let held = place.held;
-    match held {
-        Held::Nothing => false,
-        Held::Ends(there) => same_pair(net.ends, there),
-    }
+    Some(net.ends) == place_of(nets, net.number)
 }
 
 // The place that holds a net's terminals.
 pub fn holding(ends: Pair) -> Place
     ensures { result ≡ holding ends }
 {
-    let first = ends.first;
-    let second = ends.second;
-    Place {
-        held: Held::Ends(Pair { first, second }),
-    }
+    Some(ends)
 }
 
 // The places once a change is reversed: an added net leaves, a withdrawn net returns with its terminals.
@@ -89,39 +64,26 @@ pub fn reversed(nets: [Place; 64], change: Change) -> [Place; 64]
     ensures { result ≡ reversed_in change nets }
 {
     match change {
-        Change::Added(net) => stored(
-            nets,
-            net.number,
-            Place {
-                held: Held::Nothing,
-            },
-        ),
-        Change::Withdrawn(net) => {
-            let ends = net.ends;
-            stored(nets, net.number, holding(ends))
-        }
+        Change::Added(net) => stored(nets, net.number, None),
+        Change::Withdrawn(net) => stored(nets, net.number, Some(net.ends)),
     }
 }
 
 // 1 for a place that holds a net, 0 for an empty one.
 pub fn held_one(place: Place) -> u8
-    ensures value { result ≡ held_one place.held }
+    ensures value { result ≡ held_one place }
     ensures upper_bound { result ≤ 1 }
 {
-    let held = place.held;
-    match held {
-        Held::Nothing => 0,
-        Held::Ends(_) => 1,
-    }
+    u8::from(place.is_some())
 }
 
 // How many nets there are.
 pub fn count_nets(nets: [Place; 64]) -> u8
     ensures { result ≡ length (nets_of nets) }
 {
-    let mut n: u8 = 0;
-    for i in 0..64 {
-        n += held_one(nets[i]);
+    let mut n = 0;
+    for place in &nets {
+        n += held_one(*place);
     }
     n
 }

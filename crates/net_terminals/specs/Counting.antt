@@ -1,6 +1,6 @@
 -- How a loop over the places counts the terminals of all vertices: after i places those of the first i.
 -- Assumes nothing.
-use Rattle.std.specs.Prelude.{◌≡◌, refl, Bool, true, false, List, ℕ, ◌+◌, ◌*◌, ◌≤◌, ◌<◌, length, get_or, drop, replicate}
+use Rattle.std.specs.Prelude.{◌≡◌, refl, Bool, true, false, List, ℕ, ◌+◌, ◌*◌, ◌≤◌, ◌<◌, length, get_or, drop, replicate, None, Some}
 use Rattle.std.proofs.Common.{ap, ◌∙◌, inl, inr, arith, lt-ltb}
 use Rattle.std.proofs.lemmas.List.{length-replicate, get_or-replicate}
 use Rattle.count.specs.Truth.{one}
@@ -12,11 +12,8 @@ use Rattle.net.specs.Terminals.{same, ends, terminals}
 use Rattle.net.specs.Same.{same_exact}
 use Rattle.net.specs.Grid.{changed_at}
 use Rattle.net.specs.GridLaws.{length_changed, changed_same, changed_other}
-use Rattle.net.specs.View.{nothing, pairs_of, held_ends}
+use Rattle.net.specs.View.{Held, nothing, pairs_of, held_ends}
 use Rattle.net.specs.ViewLaws.{tally_more, tally_none, terminals_tally}
-use Rattle.net.specs.declared.Held.{Held}
-use Rattle.net.specs.declared.Held.TheVariants.{Nothing, Ends}
-use Rattle.net.specs.declared.Place.{Place}
 use Rattle.net_terminals.specs.Counts.{raised, count_held, Counts}
 
 -- ── one terminal, one place ──
@@ -32,15 +29,15 @@ counted v a l c e p q h = elim (bool (same v (at l c))) [
 ]
 
 held_long : (h : Held) (a : List ℕ) → length (count_held h a) ≡ length a
-held_long Nothing a = refl
-held_long (Ends p) a =
+held_long None a = refl
+held_long (Some p) a =
     length_changed raised p.second.line p.second.column (changed_at raised p.first.line p.first.column a)
     ∙ length_changed raised p.first.line p.first.column a
 
 held_counted : (h : Held) (a : List ℕ) (l c : ℕ) → length a ≡ 1024 → l < 32 → c < 32 → get_or a (l * 32 + c) 0 < 254
     → get_or (count_held h a) (l * 32 + c) 0 ≡ held_ends (at l c) h + get_or a (l * 32 + c) 0
-held_counted Nothing a l c e p q h = omega arith
-held_counted (Ends x) a l c e p q h =
+held_counted None a l c e p q h = omega arith
+held_counted (Some x) a l c e p q h =
     let b = changed_at raised x.first.line x.first.column a in
     let f = counted x.first a l c e p q (omega arith) in
     let o = one-small (same x.first (at l c)) in
@@ -52,8 +49,8 @@ held_counted (Ends x) a l c e p q h =
     one-small false = omega arith
 
 ends_few : (h : Held) (v : Vertex) → held_ends v h ≤ 2
-ends_few Nothing v = omega arith
-ends_few (Ends p) v = go (same p.first v) (same p.second v)
+ends_few None v = omega arith
+ends_few (Some p) v = go (same p.first v) (same p.second v)
   where
     go : (s t : Bool) → one s + one t ≤ 2
     go true true = omega arith
@@ -63,32 +60,32 @@ ends_few (Ends p) v = go (same p.first v) (same p.second v)
 
 -- ── the loop ──
 -- DEFINITION: the first i places are counted
-pub record Counting (nets : List Place) (i : ℕ) (a : List ℕ) : Type 0 where
+pub record Counting (nets : List Held) (i : ℕ) (a : List ℕ) : Type 0 where
   pub long : length a ≡ 1024
   pub low : (l c : ℕ) → l < 32 → c < 32 → get_or a (l * 32 + c) 0 ≤ 2 * i
   pub here : (l c : ℕ) → l < 32 → c < 32 → get_or a (l * 32 + c) 0 + tally (λ p. ends p (at l c)) (pairs_of (drop i nets))
       ≡ terminals (pairs_of nets) (at l c)
 
-pub counting_start : (nets : List Place) → Counting nets 0 (replicate 1024 0)
+pub counting_start : (nets : List Held) → Counting nets 0 (replicate 1024 0)
 counting_start nets = record {
   long = length-replicate {A = ℕ} 1024 0;
   low = λ l c p q. omega (arith, get_or-replicate {A = ℕ} 1024 (l * 32 + c) 0 0 (omega arith));
   here = λ l c p q. omega (arith, get_or-replicate {A = ℕ} 1024 (l * 32 + c) 0 0 (omega arith), terminals_tally (pairs_of nets) (at l c));
 }
 
-pub counting_more : {nets : List Place} {i : ℕ} {a : List ℕ} → Counting nets i a → i < 64 → length nets ≡ 64
-    → Counting nets (i + 1) (count_held (get_or nets i nothing).held a)
+pub counting_more : {nets : List Held} {i : ℕ} {a : List ℕ} → Counting nets i a → i < 64 → length nets ≡ 64
+    → Counting nets (i + 1) (count_held (get_or nets i nothing) a)
 counting_more {nets} {i} {a} C h e = record {
-  long = held_long (get_or nets i nothing).held a ∙ C.long;
-  low = λ l c p q. omega (arith, held l c p q, ends_few (get_or nets i nothing).held (at l c), C.low l c p q);
+  long = held_long (get_or nets i nothing) a ∙ C.long;
+  low = λ l c p q. omega (arith, held l c p q, ends_few (get_or nets i nothing) (at l c), C.low l c p q);
   here = λ l c p q. omega (arith, held l c p q, tally_more (λ x. ends x (at l c)) nets i (omega arith), C.here l c p q);
 }
   where
     held : (l c : ℕ) → l < 32 → c < 32
-        → get_or (count_held (get_or nets i nothing).held a) (l * 32 + c) 0 ≡ held_ends (at l c) (get_or nets i nothing).held + get_or a (l * 32 + c) 0
-    held l c p q = held_counted (get_or nets i nothing).held a l c C.long p q (omega (arith, C.low l c p q))
+        → get_or (count_held (get_or nets i nothing) a) (l * 32 + c) 0 ≡ held_ends (at l c) (get_or nets i nothing) + get_or a (l * 32 + c) 0
+    held l c p q = held_counted (get_or nets i nothing) a l c C.long p q (omega (arith, C.low l c p q))
 
-pub counting_done : {nets : List Place} {i : ℕ} {a : List ℕ} → Counting nets i a → i ≡ length nets → Counts (pairs_of nets) a
+pub counting_done : {nets : List Held} {i : ℕ} {a : List ℕ} → Counting nets i a → i ≡ length nets → Counts (pairs_of nets) a
 counting_done {nets} {i} {a} C e = record {
   here = λ l c p q. omega (arith, rw e at (C.here l c p q), tally_none (λ x. ends x (at l c)) nets);
 }

@@ -7,8 +7,7 @@ ghost use Rattle.net.specs.Grid.{changed_at};
 ghost use Rattle.net_terminals.specs.Counts.{raised, count_held, Counts};
 
 use board::Vertex;
-use net::{Held, Place};
-use numbers::wide;
+use net::Place;
 
 // One more, as far as a byte goes.
 fn raised(n: u8) -> u8
@@ -23,7 +22,7 @@ fn count_at(v: Vertex, counts: &mut [u8; 1024])
 {
     if v.line < 32 {
         if v.column < 32 {
-            let at = wide(v.line) * 32 + wide(v.column);
+            let at = usize::from(v.line) * 32 + usize::from(v.column);
             counts[at] = raised(counts[at]);
         }
     }
@@ -31,12 +30,11 @@ fn count_at(v: Vertex, counts: &mut [u8; 1024])
 
 // Counts both terminals of what a place holds.
 fn count_place(place: Place, counts: &mut [u8; 1024])
-    ensures { counts.new ≡ count_held place.held counts.old }
+    ensures { counts.new ≡ count_held place counts.old }
 {
-    let held = place.held;
-    match held {
-        Held::Nothing => {}
-        Held::Ends(ends) => {
+    match place {
+        None => {}
+        Some(ends) => {
             count_at(ends.first, counts);
             count_at(ends.second, counts);
         }
@@ -48,8 +46,8 @@ pub fn count_terminals(nets: [Place; 64]) -> [u8; 1024]
     ensures { Counts (pairs_of nets) result }
 {
     let mut counts = [0u8; 1024];
-    for i in 0..64 {
-        count_place(nets[i], &mut counts);
+    for place in &nets {
+        count_place(*place, &mut counts);
     }
     counts
 }

@@ -1,10 +1,12 @@
 -- The odd vertices collected from the last one back, each in front of those collected.
 -- Assumes nothing.
-use Rattle.std.specs.Prelude.{◌≡◌, refl, Bool, true, false, cond, List, [], ◌∷◌, ◌++◌, map, ℕ, suc, ◌+◌, ◌-◌, ◌≤◌, ◌<◌, ltb, length, set, drop}
-use Rattle.std.proofs.Common.{ap, sym, ◌∙◌, inl, inr, lt-ltb, le-ltb, ltb-true, ltb-false, length-set, drop-cons, drop-set-lt, get_or-set_same}
+use Rattle.std.specs.Prelude.{◌≡◌, refl, Bool, true, false, cond, Option, None, Some, IfSome}
+use Rattle.std.specs.Prelude.{List, [], ◌∷◌, ◌++◌, map, ℕ, zero, suc, ◌+◌, ◌-◌, ◌≤◌, ◌<◌, ltb, length, set, drop}
+use Rattle.std.proofs.Common.{ap, ◌∙◌, inl, inr, ltb-true, ltb-false, length-set, drop-cons, drop-set-lt, get_or-set_same}
+use Rattle.std.proofs.Common.{add-one}
 use native.Mathlib.Omega.{arith}
-use Rattle.count.specs.TruthLaws.{bool, clash}
-use Rattle.count.specs.Lists.{rising, select, select-append, rising_more}
+use Rattle.count.specs.TruthLaws.{bool}
+use Rattle.count.specs.Lists.{up_to, rising, select, select-append, rising_more}
 use Rattle.board.specs.Board.{Board, at}
 use Rattle.board.specs.declared.Vertex.{Vertex}
 use Rattle.net.specs.declared.Pair.{Pair}
@@ -18,58 +20,56 @@ use Rattle.pairing_search.specs.declared.Odds.{Odds}
 pub few_none : Few [] no_odds
 few_none = record { most = omega arith; count = refl; list = refl }
 
-pub collects_none : Collects [] no_odds
-collects_none = record { many = refl; few = λ e. few_none }
-
-module _ (vs : List Vertex) (o : Odds) (C : Collects vs o) (v : Vertex) where
-  more-than-12 : o.many ≡ true → 12 < length vs
-  more-than-12 e = ltb-true 12 (length vs) (sym C.many ∙ e)
-
-  front : (n : ℕ) → n < 12 → length o.list ≡ 12 → drop (12 - n) o.list ≡ vs → drop (12 - (n + 1)) (set o.list (11 - n) v) ≡ v ∷ vs
-  front n h l e =
-      let k = 11 - n in let a = set o.list k v in
-      let p : 12 - (n + 1) ≡ k = omega arith in let q : suc k ≡ 12 - n = omega arith in
-      ap (λ i. drop i a) p
-      ∙ drop-cons a k (at 0 0) (omega (arith, length-set o.list k v))
-      ∙ rw (get_or-set_same o.list k v (at 0 0) (omega arith), drop-set-lt (suc k) o.list k v (omega arith), q, e) refl
-
-  pub collects-more : o.count < 12 → length o.list ≡ 12
-      → Collects (v ∷ vs) (record { many = o.many; count = o.count + 1; list = set o.list (11 - o.count) v })
-  collects-more h l = record {
-    many = elim (bool o.many) [
-      | inl e ↦ e ∙ sym (lt-ltb 12 (suc (length vs)) (omega (arith, more-than-12 e)))
-      | inr e ↦ e ∙ sym (le-ltb 12 (suc (length vs)) (omega (arith, (C.few e).count)))
-    ];
-    few = λ e. let k = C.few e in
-        record { most = omega arith; count = omega (arith, k.count); list = front o.count h l k.list };
-  }
-
-  pub collects-full : 12 ≤ o.count → (list : List Vertex) → Collects (v ∷ vs) (record { many = true; count = o.count; list = list })
-  collects-full h list = record {
-    many = sym (lt-ltb 12 (suc (length vs)) (elim (bool o.many) [
-      | inl e ↦ omega (arith, more-than-12 e)
-      | inr e ↦ omega (arith, (C.few e).count)
-    ]));
-    few = λ e. absurd (clash refl e);
-  }
+-- one vertex more in front of those in the last places
+few_more : (vs : List Vertex) (o : Odds) → Few vs o → length o.list ≡ 12 → (v : Vertex) → o.count < 12
+    → Few (v ∷ vs) (record { count = o.count + 1; list = set o.list (11 - o.count) v })
+few_more vs o F l v h =
+    let k = 11 - o.count in let a = set o.list k v in
+    let p : 12 - (o.count + 1) ≡ k = omega arith in let q : suc k ≡ 12 - o.count = omega arith in
+    record {
+      most = omega arith;
+      count = omega (arith, F.count);
+      list = ap (λ i. drop i a) p
+          ∙ drop-cons a k (at 0 0) (omega (arith, length-set o.list k v))
+          ∙ rw (get_or-set_same o.list k v (at 0 0) (omega arith), drop-set-lt (suc k) o.list k v (omega arith), q, F.list) refl;
+    }
 
 -- ── the vertices as the code collects them ──
-odds_size : (vs : List Vertex) → length (odds_of vs).list ≡ 12
-odds_size [] = refl
-odds_size (v ∷ vs) = elim (bool (ltb (odds_of vs).count 12)) [
-  | inl e ↦ rw e (length-set (odds_of vs).list (11 - (odds_of vs).count) v ∙ odds_size vs)
-  | inr e ↦ rw e (odds_size vs)
+-- DEFINITION: those collected stand in twelve places
+record Collected (vs : List Vertex) (r : Option Odds) : Type 0 where
+  all : Collects vs r
+  long : IfSome r (λ o. length o.list ≡ 12)
+
+collected_more : (vs : List Vertex) (r : Option Odds) → Collected vs r → (v : Vertex) → Collected (v ∷ vs) (put_odd v r)
+collected_more vs None C v = record {
+  all = record { many = λ e. omega (arith, C.all.many refl); few = λ o e. absurd (cc) };
+  long = C.long;
+}
+collected_more vs (Some o) C v = elim (bool (ltb o.count 12)) [
+  | inl e ↦ rw e (record {
+    all = record {
+      many = λ n. absurd (cc);
+      few = λ p n.
+          let same : p ≡ record { count = o.count + 1; list = set o.list (11 - o.count) v } = cc in
+          rw same (few_more vs o (C.all.few o refl) C.long v (ltb-true _ _ e));
+    };
+    long = length-set o.list (11 - o.count) v ∙ C.long;
+  })
+  | inr e ↦ rw e (record {
+    all = record { many = λ n. omega (arith, (C.all.few o refl).count, ltb-false o.count 12 e); few = λ p n. absurd (cc) };
+    long = tt;
+  })
 ]
 
-odds_collect : (vs : List Vertex) → Collects vs (odds_of vs)
-odds_collect [] = collects_none
-odds_collect (v ∷ vs) = elim (bool (ltb (odds_of vs).count 12)) [
-  | inl e ↦ rw e (collects-more vs (odds_of vs) (odds_collect vs) v (ltb-true _ _ e) (odds_size vs))
-  | inr e ↦ rw e (collects-full vs (odds_of vs) (odds_collect vs) v (ltb-false _ _ e) (odds_of vs).list)
-]
+odds_collect : (vs : List Vertex) → Collected vs (odds_of vs)
+odds_collect [] = record {
+  all = record { many = λ n. absurd (cc); few = λ p n. let same : p ≡ no_odds = cc in rw same few_none };
+  long = refl;
+}
+odds_collect (v ∷ vs) = collected_more vs (odds_of vs) (odds_collect vs) v
 
-pub collected : (vs : List Vertex) (o : Odds) → o ≡ odds_of vs → Collects vs o
-collected vs o e = rw e (odds_collect vs)
+pub collected : (vs : List Vertex) (r : Option Odds) → r ≡ odds_of vs → Collects vs r
+collected vs r e = rw e (odds_collect vs).all
 
 -- ── a line from column c on, and one column more ──
 -- DEFINITION: what a line has from column c on, and then the vertices vs
@@ -85,52 +85,57 @@ line_step t l c vs h = rw (rising_more c 32 h) (go (t (at l c)) (select t (map (
     go true xs = refl
     go false xs = refl
 
-odds_step : (u : Bool) (v : Vertex) (vs : List Vertex) → cond u (put_odd v (odds_of vs)) (odds_of vs) ≡ odds_of (cond u (v ∷ vs) vs)
-odds_step true v vs = refl
-odds_step false v vs = refl
+-- more than 12 stay more than 12
+many_more : (xs vs : List Vertex) → None ≡ odds_of vs → None ≡ odds_of (xs ++ vs)
+many_more [] vs e = e
+many_more (x ∷ xs) vs e = ap (put_odd x) (many_more xs vs e)
 
-module _ (b : Board) (ps : List Pair) (l n : ℕ) (all : n ≡ columns_of b l) (vs : List Vertex) where
+module _ (b : Board) (ps : List Pair) (l : ℕ) (vs : List Vertex) where
   -- before the first turn: past the line's columns nothing is odd
-  pub line_first : (o : Odds) → o ≡ odds_of vs → o ≡ odds_of (line_from (odd? b ps) l (n - 0) vs)
-  line_first o e =
-      let z : n - 0 ≡ n = omega arith in
-      rw (z, line_none b ps l n all) e
+  pub line_first : (n : ℕ) → n ≡ columns_of b l → (r : Option Odds) → r ≡ odds_of vs → r ≡ odds_of (line_from (odd? b ps) l n vs)
+  line_first n all r e = rw (line_none b ps l n all) e
 
-  -- turn k: the vertex at column n - 1 - k is put in front where u says that it is odd
-  pub line-turn : (k : ℕ) → k < n → (o r : Odds) (u : Bool) → u ≡ odd? b ps (at l (n - 1 - k)) → r ≡ cond u (put_odd (at l (n - 1 - k)) o) o
-      → o ≡ odds_of (line_from (odd? b ps) l (n - k) vs) → r ≡ odds_of (line_from (odd? b ps) l (n - (k + 1)) vs)
-  line-turn k h o r u e f g =
-      let c = n - 1 - k in let p : n - (k + 1) ≡ c = omega arith in let q : n - k ≡ c + 1 = omega arith in
-      let d : o ≡ odds_of (line_from (odd? b ps) l (c + 1) vs) = rw q at g in
-      f
-      ∙ ap (λ (t : Bool). cond t (put_odd (at l c) o) o) e
-      ∙ ap (λ (x : Odds). cond (odd? b ps (at l c)) (put_odd (at l c) x) x) d
-      ∙ odds_step (odd? b ps (at l c)) (at l c) (line_from (odd? b ps) l (c + 1) vs)
-      ∙ ap odds_of (sym (ap (λ (m : ℕ). line_from (odd? b ps) l m vs) p ∙ line_step (odd? b ps) l c vs (omega arith)))
+  -- the turn of column c: its vertex is put in front where it is odd
+  pub line-odd : (c : ℕ) → c < 32 → odd? b ps (at l c) ≡ true → (r : Option Odds)
+      → r ≡ odds_of (line_from (odd? b ps) l (c + 1) vs) → put_odd (at l c) r ≡ odds_of (line_from (odd? b ps) l c vs)
+  line-odd c h t r e = rw (line_step (odd? b ps) l c vs h, t) (ap (put_odd (at l c)) e)
 
-  pub line-last : (k : ℕ) → k ≤ n → n ≤ k → (o : Odds) → o ≡ odds_of (line_from (odd? b ps) l (n - k) vs) → o ≡ odds_of (line_from (odd? b ps) l 0 vs)
-  line-last k h g o e =
-      let z : n - k ≡ 0 = omega arith in
-      rw z at e
+  pub line-even : (c : ℕ) → c < 32 → odd? b ps (at l c) ≡ false → (r : Option Odds)
+      → r ≡ odds_of (line_from (odd? b ps) l (c + 1) vs) → r ≡ odds_of (line_from (odd? b ps) l c vs)
+  line-even c h t r e = rw (line_step (odd? b ps) l c vs h, t) e
+
+  pub line-many : (c : ℕ) → c ≤ 32 → None ≡ odds_of (line_from (odd? b ps) l c vs) → None ≡ odds_of (line_from (odd? b ps) l 0 vs)
+  line-many zero h e = e
+  line-many (suc c) h e = line-many c (omega arith) (go (odd? b ps (at l c)) (line_step (odd? b ps) l c vs (omega arith)))
+    where
+      rest : List Vertex
+      rest = line_from (odd? b ps) l (c + 1) vs
+
+      go : (t : Bool) → line_from (odd? b ps) l c vs ≡ cond t (at l c ∷ rest) rest → None ≡ odds_of (line_from (odd? b ps) l c vs)
+      go true f = rw (f, add-one c) (ap (put_odd (at l c)) e)
+      go false f = rw (f, add-one c) e
 
 -- ── all lines from l on, and one line more ──
-module _ (b : Board) (ps : List Pair) (n : ℕ) (all : n ≡ lines_of b) where
-  pub lines-first : (o : Odds) → o ≡ no_odds → o ≡ odds_of (select (odd? b ps) (lines_from (n - 0)))
-  lines-first o e =
-      let z : n - 0 ≡ n = omega arith in
-      rw (z, lines_none b ps n all) e
+module _ (b : Board) (ps : List Pair) where
+  pub lines-first : (n : ℕ) → n ≡ lines_of b → Some no_odds ≡ odds_of (select (odd? b ps) (lines_from n))
+  lines-first n all = rw (lines_none b ps n all) refl
 
-  -- turn k: `with_line` puts the odd vertices of line n - 1 - k in front
-  pub lines-turn : (k : ℕ) → k < n → (o r : Odds)
-      → ((vs : List Vertex) → o ≡ odds_of vs → r ≡ odds_of (line_from (odd? b ps) (n - 1 - k) 0 vs))
-      → o ≡ odds_of (select (odd? b ps) (lines_from (n - k))) → r ≡ odds_of (select (odd? b ps) (lines_from (n - (k + 1))))
-  lines-turn k h o r W e =
-      let l = n - 1 - k in let p : n - (k + 1) ≡ l = omega arith in let q : n - k ≡ l + 1 = omega arith in
-      rw (p, lines_more l (omega arith), select-append (odd? b ps) (map (at l) (rising 0 (32 - 0))) (lines_from (l + 1)))
-      (W (select (odd? b ps) (lines_from (l + 1))) (rw q at e))
+  -- `with_line` puts the odd vertices of line l in front
+  pub lines-turn : (l : ℕ) → l < 32 → (o r : Option Odds) → ((vs : List Vertex) → o ≡ odds_of vs → r ≡ odds_of (line_from (odd? b ps) l 0 vs))
+      → o ≡ odds_of (select (odd? b ps) (lines_from (l + 1))) → r ≡ odds_of (select (odd? b ps) (lines_from l))
+  lines-turn l h o r W e =
+      rw (lines_more l h, select-append (odd? b ps) (map (at l) (rising 0 (32 - 0))) (lines_from (l + 1)))
+      (W (select (odd? b ps) (lines_from (l + 1))) e)
 
-  pub lines_last : (k : ℕ) → k ≤ n → n ≤ k → (o : Odds) → o ≡ odds_of (select (odd? b ps) (lines_from (n - k))) → o ≡ odds_of (odd_vertices b ps)
+  lines-many : (l : ℕ) → l ≤ 32 → None ≡ odds_of (select (odd? b ps) (lines_from l)) → None ≡ odds_of (select (odd? b ps) (lines_from 0))
+  lines-many zero h e = e
+  lines-many (suc l) h e =
+      lines-many l (omega arith)
+      (lines-turn l (omega arith) None None (λ vs. many_more (select (odd? b ps) (map (at l) (up_to 32))) vs) (rw (add-one l) e))
+
+  pub lines_last : (r : Option Odds) → r ≡ odds_of (select (odd? b ps) (lines_from 0)) → r ≡ odds_of (odd_vertices b ps)
   unfolding odd_vertices
-  lines_last k h g o e =
-      let z : n - k ≡ 0 = omega arith in
-      rw (z, lines_all) at e
+  lines_last r e = rw lines_all at e
+
+  pub lines_many : (l : ℕ) → l ≤ 32 → None ≡ odds_of (select (odd? b ps) (lines_from l)) → None ≡ odds_of (odd_vertices b ps)
+  lines_many l h e = lines_last None (lines-many l h e)

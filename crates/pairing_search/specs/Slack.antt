@@ -1,10 +1,10 @@
 -- What is left at the cuts: how one pair more lowers it, and that it tells whether a cut is overfull.
 -- Assumes nothing.
-use Rattle.std.specs.Prelude.{◌≡◌, refl, true, false, List, [], ◌∷◌, ℕ, ◌+◌, ◌-◌, ◌≤◌, ◌<◌, length, get_or, set, replicate}
+use Rattle.std.specs.Prelude.{◌≡◌, refl, true, false, List, [], ◌∷◌, ℕ, ◌+◌, ◌-◌, ◌≤◌, ◌<◌, length, get_or, set, replicate, Option, None, Some}
 use Rattle.std.proofs.Common.{ap, sym, subst, ◌∙◌, inl, inr, arith, lt-ltb, le-ltb, length-set, get_or-set_same, get_or-set_other}
 use Rattle.std.proofs.lemmas.List.{length-replicate}
 use Rattle.count.specs.Truth.{one}
-use Rattle.count.specs.TruthLaws.{clash, not_true, le_or_lt, eq_or_ne}
+use Rattle.count.specs.TruthLaws.{not_true, le_or_lt, eq_or_ne}
 use Rattle.board.specs.Board.{Board, height}
 use Rattle.net.specs.declared.Pair.{Pair}
 use Rattle.cut.specs.declared.Cut.{Cut}
@@ -16,7 +16,6 @@ use Rattle.cut.specs.Laws.{overfull_more}
 use Rattle.pairing.specs.Search.{open?}
 use Rattle.pairing.proofs.Test.{open_exact}
 use Rattle.pairing_search.specs.View.{cut_at, Left, Lowers}
-use Rattle.pairing_search.specs.declared.Slack.{Slack}
 
 -- ── the cuts by number ──
 pub cut_column : (j : ℕ) → j < 31 → cut_at j ≡ Column j
@@ -49,12 +48,12 @@ module _ (b : Board) (qs : List Pair) (m : ℕ) (a : List ℕ) (L : Left b qs m 
   pub left_open : open? b qs ≡ true
   left_open = open_counts b qs (λ i h. omega (arith, L.here i (omega (arith, L.all))))
 
-  module _ (p : Pair) (r : Slack) (K : Lowers p m a r) where
-    pub left_more : r.fits ≡ true → Left b (p ∷ qs) m r.left
+  module _ (p : Pair) (r : Option (List ℕ)) (K : Lowers p m a r) where
+    pub left_more : (rest : List ℕ) → r ≡ Some rest → Left b (p ∷ qs) m rest
     unfolding crossing
-    left_more e = record { all = L.all; here = λ i h. omega (arith, L.here i h, K.fit e i h) }
+    left_more rest e = record { all = L.all; here = λ i h. omega (arith, L.here i h, K.fit rest e i h) }
 
-    pub left-full : r.fits ≡ false → open? b (p ∷ qs) ≡ false
+    pub left-full : r ≡ None → open? b (p ∷ qs) ≡ false
     unfolding crossing
     left-full e = let f = K.full e in shut_counts b (p ∷ qs) f.0 (omega (arith, f.1, L.all)) (omega (arith, f.2, L.here f.0 f.1))
 
@@ -80,14 +79,17 @@ module _ (p : Pair) (a r : List ℕ) (i w u : ℕ) (L : Lowering p a r i) (e : w
     rest = λ k q. get_or-set_other r w k v 0 (λ g. omega arith) ∙ L.rest k (omega arith);
   }
 
-  pub lowering-full : (m : ℕ) (s : List ℕ) → i < m → get_or r w 0 < u → Lowers p m a (record { fits = false; left = s })
-  lowering-full m s l h = record {
-    fit = λ t. absurd (clash t refl);
+  pub lowering-full : (m : ℕ) → i < m → get_or r w 0 < u → Lowers p m a None
+  lowering-full m l h = record {
+    fit = λ t g. absurd (cc);
     full = λ t. (i, l, omega (arith, L.rest i (omega arith), ap (λ n. get_or r n 0) e));
   }
 
-pub lowering_done : (p : Pair) (m : ℕ) (a r : List ℕ) (i : ℕ) → Lowering p a r i → m ≤ i → Lowers p m a (record { fits = true; left = r })
-lowering_done p m a r i L e = record { fit = λ t k h. L.done k (omega arith); full = λ t. absurd (clash refl t) }
+pub lowering_done : (p : Pair) (m : ℕ) (a r : List ℕ) (i : ℕ) → Lowering p a r i → m ≤ i → Lowers p m a (Some r)
+lowering_done p m a r i L e = record {
+  fit = λ t g k h. let same : t ≡ r = cc in rw same (L.done k (omega arith));
+  full = λ t. absurd (cc);
+}
 
 -- ── what the nets leave ──
 -- where no cut is overfull, no more nets cross a cut than it has edges

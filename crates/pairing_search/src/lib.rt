@@ -1,7 +1,7 @@
 // Helper pairs for boards with odd vertices: the search for a pairing of these vertices that leaves no cut overfull.
 #![tactic(auto)]
 
-ghost use Rattle.std.specs.Prelude.{◌≡◌, true, false, cond, List, [], ◌++◌, map, ◌+◌, ◌≤◌, ◌<◌, length, get_or, set};
+ghost use Rattle.std.specs.Prelude.{◌≡◌, Some, List, [], ◌++◌, map, ◌+◌, ◌≤◌, ◌<◌, length, get_or, set};
 ghost use Rattle.std.proofs.Math.Option.{some};
 ghost use Rattle.count.specs.Lists.{up_to, select};
 ghost use Rattle.board.specs.Board.{at};
@@ -12,13 +12,11 @@ ghost use Rattle.net.specs.declared.Pair as pair;
 ghost use Rattle.net_terminals.specs.Counts.{Counts};
 ghost use Rattle.cut.specs.Cut.{overfull_cuts};
 ghost use Rattle.cut.specs.Odd.{odd?, odd_vertices};
-ghost use Rattle.pairing.specs.Search.{with_pair};
 ghost use Rattle.pairing_search.specs.View.{
   cut_at,
   Left,
   Lowers,
-  pairs_found,
-  no_pairs,
+  put_pair,
   found_of,
   Pairs,
   no_odds,
@@ -31,27 +29,19 @@ ghost use Rattle.pairing_search.specs.View.{
 use board::{Board, Vertex};
 use cut::Cut;
 use net::{Pair, Place};
-use numbers::wide;
 
-// The edges that are left at each cut, that of cut i at place i; or some cut is overfull.
+// Helper pairs, the first `count` of six.
+// Kept: an array with its count, since the library has no heap.
 #[derive(Clone, Copy)]
-pub struct Slack {
-    pub fits: bool,
-    pub left: [u8; 62],
-}
-
-// Helper pairs, the first `count` of six; or there are none.
-#[derive(Clone, Copy)]
-pub struct FoundPairs {
-    pub found: bool,
+pub struct HelperPairs {
     pub count: usize,
     pub pairs: [Pair; 6],
 }
 
-// Odd vertices in reading order, in the last `count` places; or there are more than twelve.
+// Odd vertices in reading order, in the last `count` of twelve places.
+// Kept: an array with its count, since the library has no heap.
 #[derive(Clone, Copy)]
 pub struct Odds {
-    pub many: bool,
     pub count: usize,
     pub list: [Vertex; 12],
 }
@@ -67,64 +57,44 @@ fn cut_at(i: u8) -> Cut
     }
 }
 
-// What is left at the first m cuts with one pair more.
-fn slack_with(left: [u8; 62], m: u8, p: Pair) -> Slack
+// What is left at the first m cuts with one pair more; none where the pair crosses a cut with no edge left.
+fn slack_with(left: [u8; 62], m: u8, p: Pair) -> Option<[u8; 62]>
     requires { m ≤ 62 }
     ensures { Lowers p m left result }
 {
     let mut rest = left;
     for i in 0..m {
-        let used = board::bit(cut::is_crossing(cut_at(i), p));
-        let at = wide(i);
-        let n = rest[at];
-        if n < used {
-            return Slack {
-                fits: false,
-                left: rest,
-            };
-        }
-        rest[at] = n - used;
+        let used = u8::from(cut::is_crossing(cut_at(i), p));
+        let at = usize::from(i);
+        rest[at] = rest[at].checked_sub(used)?;
     }
-    Slack {
-        fits: true,
-        left: rest,
-    }
-}
-
-fn no_pairs() -> [Pair; 6]
-    ensures { result ≡ no_pairs }
-{
-    let nowhere = Vertex { line: 0, column: 0 };
-    [Pair {
-        first: nowhere,
-        second: nowhere,
-    }; 6]
+    Some(rest)
 }
 
 // No pairs, where there is nothing to pair.
-fn no_helpers() -> FoundPairs
-    ensures { (result.found ≡ true) × (result.count ≡ 0) × (length result.pairs ≡ 6) × (result ≡ found_of (some [])) }
+fn no_helpers() -> HelperPairs
+    ensures { Some result ≡ found_of (some []) }
 {
-    FoundPairs {
-        found: true,
+    let nowhere = Vertex { line: 0, column: 0 };
+    let none = Pair {
+        first: nowhere,
+        second: nowhere,
+    };
+    HelperPairs {
         count: 0,
-        pairs: no_pairs(),
+        pairs: [none; 6],
     }
 }
 
 // One pair more behind those found.
-fn with_pair(r: FoundPairs, p: Pair) -> FoundPairs
-    requires { (r.found ≡ true) × (r.count < 6) }
-    ensures { (result.count ≡ r.count + 1) × (pairs_found result ≡ with_pair p (pairs_found r)) × (length result.pairs ≡ 6)
-        × (r ≡ found_of (pairs_found r) → result ≡ found_of (pairs_found result)) }
+fn with_pair(found: HelperPairs, p: Pair) -> HelperPairs
+    requires { found.count < 6 }
+    ensures { result ≡ put_pair p found }
 {
-    let at = r.count;
-    let mut pairs = r.pairs;
-    pairs[at] = p;
-    let count = at + 1;
-    FoundPairs {
-        found: true,
-        count,
+    let mut pairs = found.pairs;
+    pairs[found.count] = p;
+    HelperPairs {
+        count: found.count + 1,
         pairs,
     }
 }
@@ -139,35 +109,28 @@ fn others(vs: [Vertex; 12], from: usize, k: usize) -> [Vertex; 12]
     rest
 }
 
-// Pairs for the last n of the vertices, where so much is left at the m cuts.
-fn pair_up(n: usize, vs: [Vertex; 12], m: u8, left: [u8; 62]) -> FoundPairs
+// Pairs for the last n of the vertices, where so much is left at the m cuts; none where the search finds none.
+// Kept: n and the vertices, m and what is left apart, as the clauses Pairs and Lowers name them.
+fn pair_up(n: usize, vs: [Vertex; 12], m: u8, left: [u8; 62]) -> Option<HelperPairs>
     requires { (n ≤ 12) × (m ≤ 62) }
     ensures { Pairs n vs m left result }
 {
     if n == 0 {
-        return no_helpers();
+        return Some(no_helpers());
     }
     let from = 12 - n;
-    let first = vs[from];
-    let later = n - 1;
-    for j in 0..later {
-        let k = from + 1 + j;
-        let second = vs[k];
-        let p = Pair { first, second };
-        let slack = slack_with(left, m, p);
-        if slack.fits {
-            let rest = slack.left;
-            let found = pair_up(n - 2, others(vs, from + 1, k), m, rest);
-            if found.found {
-                return with_pair(found, p);
+    for k in from + 1..12 {
+        let p = Pair {
+            first: vs[from],
+            second: vs[k],
+        };
+        if let Some(rest) = slack_with(left, m, p) {
+            if let Some(found) = pair_up(n - 2, others(vs, from + 1, k), m, rest) {
+                return Some(with_pair(found, p));
             }
         }
     }
-    FoundPairs {
-        found: false,
-        count: 0,
-        pairs: no_pairs(),
-    }
+    None
 }
 
 // What the nets leave at each cut of the board, where no cut is overfull.
@@ -176,56 +139,11 @@ fn slack_of(b: Board, nets: [Place; 64]) -> [u8; 62]
     ensures { Left (board_of b) (pairs_of nets) (31 + b.count) result }
 {
     let mut left = [0u8; 62];
-    let m = 31 + b.count;
-    for i in 0..m {
-        let t = cut::tally_of(b, nets, cut_at(i));
-        left[wide(i)] = t.edges - t.nets;
+    for i in 0..31 + b.count {
+        let tally = cut::tally_of(b, nets, cut_at(i));
+        left[usize::from(i)] = tally.edges - tally.nets;
     }
     left
-}
-
-// The vertices with one more in front, where it is odd.
-fn with_vertex(o: Odds, odd: bool, v: Vertex) -> Odds
-    ensures { result ≡ cond odd (put_odd v o) o }
-{
-    let n = o.count;
-    let mut list = o.list;
-    if odd {
-        if n < 12 {
-            list[11 - n] = v;
-            let count = n + 1;
-            Odds {
-                many: o.many,
-                count,
-                list,
-            }
-        } else {
-            Odds {
-                many: true,
-                count: n,
-                list,
-            }
-        }
-    } else {
-        o
-    }
-}
-
-// The vertices with the odd ones of a line in front, from its last column back.
-fn with_line(b: Board, counts: [u8; 1024], line: u8, o: Odds) -> Odds
-    requires { line < 32 }
-    ensures { (ps : List pair.Pair) (vs : List vertex.Vertex) → Counts ps counts → o ≡ odds_of vs
-        → result ≡ odds_of (select (odd? (board_of b) ps) (map (at line) (up_to 32)) ++ vs) }
-{
-    let mut odds = o;
-    let columns = cut::columns_of(b, line);
-    for k in 0..columns {
-        let column = columns - 1 - k;
-        let v = Vertex { line, column };
-        let terminals = counts[wide(line) * 32 + wide(column)];
-        odds = with_vertex(odds, cut_search::is_odd(b, terminals, v), v);
-    }
-    odds
 }
 
 // No odd vertices.
@@ -234,36 +152,66 @@ pub fn no_odds() -> Odds
 {
     let nowhere = Vertex { line: 0, column: 0 };
     Odds {
-        many: false,
         count: 0,
         list: [nowhere; 12],
     }
 }
 
-// The odd vertices, from the last line up, on the lines and columns that the board has.
-pub fn odd_vertices(b: Board, nets: [Place; 64]) -> Odds
+// The vertices with one more in front; none where they are twelve.
+fn with_vertex(o: Odds, v: Vertex) -> Option<Odds>
+    ensures { result ≡ put_odd v (Some o) }
+{
+    let mut list = o.list;
+    if o.count < 12 {
+        list[11 - o.count] = v;
+        Some(Odds {
+            count: o.count + 1,
+            list,
+        })
+    } else {
+        None
+    }
+}
+
+// The vertices with the odd ones of a line in front, from its last column back; none where they are more than twelve.
+fn with_line(b: Board, counts: [u8; 1024], line: u8, o: Odds) -> Option<Odds>
+    requires { line < 32 }
+    ensures { (ps : List pair.Pair) (vs : List vertex.Vertex) → Counts ps counts → Some o ≡ odds_of vs
+        → result ≡ odds_of (select (odd? (board_of b) ps) (map (at line) (up_to 32)) ++ vs) }
+{
+    let mut odds = o;
+    for column in (0..cut::columns_of(b, line)).rev() {
+        let v = Vertex { line, column };
+        let terminals = counts[usize::from(line) * 32 + usize::from(column)];
+        if cut_search::is_odd(b, terminals, v) {
+            odds = with_vertex(odds, v)?;
+        }
+    }
+    Some(odds)
+}
+
+// The odd vertices, from the last line up, on the lines and columns that the board has; none where they are more than twelve.
+pub fn odd_vertices(b: Board, nets: [Place; 64]) -> Option<Odds>
     ensures { result ≡ odds_of (odd_vertices (board_of b) (pairs_of nets)) }
 {
     let counts = net_terminals::count_terminals(nets);
     let mut odds = no_odds();
-    let lines = cut::lines_of(b);
-    for k in 0..lines {
-        odds = with_line(b, counts, lines - 1 - k, odds);
+    for line in (0..cut::lines_of(b)).rev() {
+        odds = with_line(b, counts, line, odds)?;
     }
-    odds
+    Some(odds)
 }
 
-// Helper pairs for the odd vertices of a board with no overfull cut. Where no vertex is odd, nothing is counted.
-pub fn helpers_of(b: Board, nets: [Place; 64], odds: Odds) -> FoundPairs
+// Helper pairs for the odd vertices of a board with no overfull cut, if there are any that leave no cut overfull. Where no vertex is odd,
+// nothing is counted.
+pub fn helpers_of(b: Board, nets: [Place; 64], odds: Odds) -> Option<HelperPairs>
     requires count_bound { (b.count ≤ 31) × (overfull_cuts (board_of b) (pairs_of nets) ≡ []) }
     requires few { Few (odd_vertices (board_of b) (pairs_of nets)) odds }
     ensures { Helps (board_of b) (pairs_of nets) result }
 {
-    let n = odds.count;
-    if n == 0 {
-        return no_helpers();
+    if odds.count == 0 {
+        return Some(no_helpers());
     }
-    let list = odds.list;
     let left = slack_of(b, nets);
-    pair_up(n, list, 31 + b.count, left)
+    pair_up(odds.count, odds.list, 31 + b.count, left)
 }

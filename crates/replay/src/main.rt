@@ -29,239 +29,63 @@
 
 ghost use Rattle.std.specs.Prelude.{◌≤◌, length};
 
-use board::{Board, Row, Vertex};
+mod call;
+
+use board::{Board, Row};
 use board_block::{Block, Book, TakenPins};
-use net::{Change, Held, Net, Pair, Place};
-use numbers::wide;
+use call::{Call, NetList};
+use net::{Change, Net, Pair, Place};
 use session::Session;
-use session_answers::{AddAllAnswer, MoveAnswer, Told};
-use session_list::LISTED;
+use session_answers::{AddAllAnswer, MoveRefusal, Told};
 use session_names::{LAST_NAME, Layout, NAMES};
 use session_pile::Pile;
-use wire_call::WireAnswer;
-
-// A number that was read, and where it ended.
-#[derive(Clone, Copy)]
-struct Read {
-    value: u8,
-    next: usize,
-}
-
-// ── reading ──
-
-fn byte_at(s: &[u8], at: usize) -> u8 {
-    if at < s.len() { s[at] } else { b'\n' }
-}
-
-fn is_digit(b: u8) -> bool {
-    (b'0' <= b) & (b <= b'9')
-}
-
-// Does this word, whole, stand at the index? A word ends at a space, at the line's end or at the end of the text.
-fn is_word(s: &[u8], from: usize, word: &[u8]) -> bool {
-    let mut at = from;
-    for i in 0..word.len() {
-        if s.len() <= at {
-            return false;
-        }
-        if s[at] != word[i] {
-            return false;
-        }
-        at += 1;
-    }
-    let b = byte_at(s, at);
-    (b == b' ') | (b == b'\n')
-}
-
-// The value of a digit, 0 of any other byte.
-fn digit(b: u8) -> u8
-    ensures { result ≤ 9 }
-{
-    if b < b'0' {
-        0
-    } else if b'9' < b {
-        0
-    } else {
-        b - b'0'
-    }
-}
-
-// The value with one more digit.
-fn longer(value: u8, b: u8) -> u8 {
-    if value < 25 {
-        value * 10 + digit(b)
-    } else {
-        255
-    }
-}
-
-// Where the next digit or the line's end stands.
-fn skip(s: &[u8], from: usize) -> usize {
-    let mut at = from;
-    while at < s.len() {
-        let b = s[at];
-        if is_digit(b) | (b == b'\n') {
-            return at;
-        }
-        at += 1;
-    }
-    at
-}
-
-fn number(s: &[u8], from: usize) -> Read {
-    let mut at = skip(s, from);
-    let mut value: u8 = 0;
-    while at < s.len() {
-        let b = s[at];
-        if !is_digit(b) {
-            return Read { value, next: at };
-        }
-        value = longer(value, b);
-        at += 1;
-    }
-    Read { value, next: at }
-}
-
-// Where the next line begins.
-fn next_line(s: &[u8], from: usize) -> usize {
-    let mut at = from;
-    while at < s.len() {
-        if s[at] == b'\n' {
-            return at + 1;
-        }
-        at += 1;
-    }
-    at
-}
-
-// A terminal that was read, and where it ended.
-#[derive(Clone, Copy)]
-struct ReadVertex {
-    vertex: Vertex,
-    next: usize,
-}
-
-fn vertex(s: &[u8], from: usize) -> ReadVertex {
-    let line = number(s, from);
-    let column = number(s, line.next);
-    ReadVertex {
-        vertex: Vertex {
-            line: line.value,
-            column: column.value,
-        },
-        next: column.next,
-    }
-}
-
-// A net that was read, and where it ended.
-#[derive(Clone, Copy)]
-struct ReadNet {
-    net: Net,
-    next: usize,
-}
-
-fn net(s: &[u8], from: usize) -> ReadNet {
-    let n = number(s, from);
-    let first = vertex(s, n.next);
-    let second = vertex(s, first.next);
-    let u = first.vertex;
-    let v = second.vertex;
-    ReadNet {
-        net: Net {
-            number: n.value,
-            ends: Pair {
-                first: u,
-                second: v,
-            },
-        },
-        next: second.next,
-    }
-}
-
-// A list of nets: the first of the array, so many.
-#[derive(Clone, Copy)]
-struct NetList {
-    nets: [Net; LISTED],
-    count: usize,
-}
-
-// The nets that begin on the line. Of a longer list the first 65 are taken: a board can hold 64, so the list has stopped at one of them (law
-// `enough`).
-fn net_list(s: &[u8], from: usize) -> NetList {
-    let no_vertex = Vertex { line: 0, column: 0 };
-    let no_net = Net {
-        number: 0,
-        ends: Pair {
-            first: no_vertex,
-            second: no_vertex,
-        },
-    };
-    let mut nets = [no_net; LISTED];
-    let mut count: usize = 0;
-    let mut at = skip(s, from);
-    while count < LISTED {
-        if !is_digit(byte_at(s, at)) {
-            return NetList { nets, count };
-        }
-        let read = net(s, at);
-        let n = read.net;
-        nets[count] = n;
-        count += 1;
-        at = skip(s, read.next);
-    }
-    NetList { nets, count }
-}
+use wire_call::{Figures, Unsound};
 
 // ── writing ──
 
-fn print_told(told: Told) {
+// Prints the line that is written into a buffer.
+// Kept: `io::write_all` and not `println!`, which reports a write that fails: the program goes on, and its exit status stays 0.
+fn print<F: FnOnce(&mut [u8; 128]) -> usize>(line: F)
+    requires { F.IsAlwaysCallable line }
+{
     let mut out = [0u8; 128];
-    let n = session_text::told_line(told, &mut out);
-    io::write_all(1, &out[..n]);
+    let n = line(&mut out);
+    if let Some(text) = out.get(..n) {
+        io::write_all(1, text);
+    }
+}
+
+fn print_told(told: Told) {
+    print(|out| session_text::told_line(told, out));
 }
 
 fn print_list_answer(answer: AddAllAnswer) {
-    let mut out = [0u8; 128];
-    let n = session_text::list_line(answer, &mut out);
-    io::write_all(1, &out[..n]);
+    print(|out| session_text::list_line(answer, out));
 }
 
-fn print_move_answer(answer: MoveAnswer) {
-    let mut out = [0u8; 128];
-    let n = session_text::move_line(answer, &mut out);
-    io::write_all(1, &out[..n]);
+fn print_move_answer(answer: Result<(), MoveRefusal>) {
+    print(|out| session_text::move_line(answer, out));
 }
 
-fn print_wire_answer(answer: WireAnswer) {
-    let mut out = [0u8; 128];
-    let n = wire_text::wire_line(answer, &mut out);
-    io::write_all(1, &out[..n]);
+fn print_wire_answer(answer: Result<Figures, Unsound>) {
+    print(|out| wire_text::wire_line(answer, out));
 }
 
 // A net with what add was given.
 fn print_net(name: &[u8], n: Net)
     requires { length name.now ≤ 16 }
 {
-    let ends = n.ends;
-    let u = ends.first;
-    let v = ends.second;
-    text::print_line(
-        name,
-        &[
-            wide(n.number),
-            wide(u.line),
-            wide(u.column),
-            wide(v.line),
-            wide(v.column),
-        ],
-    )
+    let Pair {
+        first: u,
+        second: v,
+    } = n.ends;
+    let numbers = [n.number, u.line, u.column, v.line, v.column];
+    text::print_line(name, &numbers.map(usize::from))
 }
 
 fn print_place(number: u8, place: Place) {
-    let held = place.held;
-    match held {
-        Held::Nothing => {}
-        Held::Ends(ends) => print_net(b"net", Net { number, ends }),
+    if let Some(ends) = place {
+        print_net(b"net", Net { number, ends });
     }
 }
 
@@ -273,45 +97,44 @@ fn print_change(change: Change) {
 }
 
 fn print_nets(nets: [Place; 64]) {
-    let mut number: u8 = 1;
-    while number <= 64 {
-        print_place(number, net_places::place_of(nets, number));
-        number += 1;
+    for (number, place) in (1..=64).zip(&nets) {
+        print_place(number, *place);
     }
 }
 
 fn print_pile(pile: Pile) {
     let mut rest = pile;
-    let mut left = pile.depth;
-    while 0 < left {
+    for _ in 0..pile.depth {
         print_change(rest.top());
         rest = rest.lift();
-        left -= 1;
     }
 }
 
 // What is kept under one name: how many nets, and the nets.
 fn print_layout(number: u8, layout: Layout) {
-    if layout.kept {
-        let nets = layout.nets;
-        text::print_line(b"kept", &[wide(number), wide(net_places::count_nets(nets))]);
+    if let Some(nets) = layout {
+        text::print_line(
+            b"kept",
+            &[
+                usize::from(number),
+                usize::from(net_places::count_nets(nets)),
+            ],
+        );
         print_nets(nets);
     }
 }
 
 fn print_names(names: [Layout; NAMES]) {
-    let mut number: u8 = 0;
-    while number <= LAST_NAME {
+    for number in 0..=LAST_NAME {
         print_layout(number, session_names::layout_of(names, number));
-        number += 1;
     }
 }
 
 // A board under the old rule, which is 0, prints nothing.
 fn print_book(book: Book) {
-    let number = board_block::book_number(book);
+    let number = u8::from(book);
     if 0 < number {
-        text::print_line(b"book", &[wide(number)]);
+        text::print_line(b"book", &[usize::from(number)]);
     }
 }
 
@@ -319,96 +142,74 @@ fn print_book(book: Book) {
 
 // The board with one more row. More than 31 are counted and not kept.
 fn with_row(b: Board, row: Row) -> Board {
-    let count = b.count;
     let mut rows = b.rows;
-    if count < 31 {
-        rows[count as usize] = row;
+    if let Some(place) = rows.get_mut(usize::from(b.count)) {
+        *place = row;
     }
     Board {
-        count: if count < 255 { count + 1 } else { 255 },
+        count: b.count.saturating_add(1),
         rows,
     }
 }
 
-fn row_line(session: Session, s: &[u8], at: usize) -> Session {
-    let left = number(s, at);
-    let right = number(s, left.next);
-    let row = Row {
-        left: left.value,
-        right: right.value,
-    };
+fn row_line(session: Session, row: Row) -> Session {
     let block = session.block;
-    let board = with_row(block.board, row);
-    let book = block.book;
-    let taken = block.taken;
-    session::fresh(Block { board, book, taken })
+    session::fresh(Block {
+        board: with_row(block.board, row),
+        ..block
+    })
 }
 
-fn taken_line(session: Session, s: &[u8], at: usize) -> Session {
-    let read = vertex(s, at);
-    let count = number(s, read.next);
-    let vertex = read.vertex;
-    let pins = TakenPins {
-        vertex,
-        count: count.value,
-    };
+fn taken_line(session: Session, pins: TakenPins) -> Session {
     session::fresh(board_block::with_taken(session.block, pins))
 }
 
-fn book_line(session: Session, s: &[u8], at: usize) -> Session {
-    let read = number(s, at);
-    if 1 < read.value {
+fn book_line(session: Session, number: u8) -> Session {
+    if 1 < number {
         return session;
     }
-    let book = board_block::book_of(read.value);
-    session::fresh(board_block::with_book(session.block, book))
+    session::fresh(board_block::with_book(session.block, Book::from(number)))
 }
 
-fn add_line(session: Session, s: &[u8], at: usize) -> Session {
-    let read = net(s, at);
-    let after = session.add(read.net);
+fn add_line(session: Session, net: Net) -> Session {
+    let after = session.add(net);
     let answer = after.answer;
-    print_told(session_answers::add_told(answer));
+    print_told(Told::of(answer));
     after.session
 }
 
-fn adds_line(session: Session, s: &[u8], at: usize) -> Session {
-    let list = net_list(s, at);
-    let nets = list.nets;
-    let after = session_list::add_first(session, nets, list.count);
+fn adds_line(session: Session, list: NetList) -> Session {
+    let after = session_list::add_first(session, list.nets, list.count);
     let answer = after.answer;
     print_list_answer(answer);
     after.session
 }
 
-fn withdraw_line(session: Session, s: &[u8], at: usize) -> Session {
-    let n = number(s, at);
-    let after = session.withdraw(n.value);
+fn withdraw_line(session: Session, number: u8) -> Session {
+    let after = session.withdraw(number);
     let answer = after.answer;
-    print_told(session_answers::withdraw_told(answer));
+    print_told(Told::of(answer));
     after.session
 }
 
 fn back_line(session: Session) -> Session {
     let after = session.take_back();
     let answer = after.answer;
-    print_told(session_answers::take_back_told(answer));
+    print_told(Told::of(answer));
     after.session
 }
 
-fn keep_line(session: Session, s: &[u8], at: usize) -> Session {
-    let name = number(s, at);
-    let after = session.keep(name.value);
+fn keep_line(session: Session, name: u8) -> Session {
+    let after = session.keep(name);
     let answer = after.answer;
-    print_told(session_answers::keep_told(answer));
+    print_told(Told::of(answer));
     after.session
 }
 
-fn return_line(session: Session, s: &[u8], at: usize) -> Session {
-    let name = number(s, at);
-    let after = session.return_to(name.value);
+fn return_line(session: Session, name: u8) -> Session {
+    let after = session.return_to(name);
     let answer = after.answer;
-    print_told(session_answers::return_told(answer));
+    print_told(Told::of(answer));
     after.session
 }
 
@@ -425,63 +226,38 @@ fn paths_line(session: Session) {
     io::write_all(1, &out[..n]);
 }
 
-// The calls that change nothing.
-fn asking_line(session: Session, s: &[u8], at: usize) {
-    if is_word(s, at, b"paths") {
-        paths_line(session);
-    }
-    if is_word(s, at, b"wire") {
-        print_wire_answer(wire_call::wire(session));
+// The session after the call.
+fn run(session: Session, call: Call) -> Session {
+    match call {
+        Call::Row(row) => row_line(session, row),
+        Call::Taken(pins) => taken_line(session, pins),
+        Call::Book(number) => book_line(session, number),
+        Call::Add(net) => add_line(session, net),
+        Call::Adds(list) => adds_line(session, list),
+        Call::Withdraw(number) => withdraw_line(session, number),
+        Call::Back => back_line(session),
+        Call::Keep(name) => keep_line(session, name),
+        Call::Return(name) => return_line(session, name),
+        Call::Move => move_line(session),
+        Call::Paths => {
+            paths_line(session);
+            session
+        }
+        Call::Wire => {
+            print_wire_answer(wire_call::wire(session));
+            session
+        }
     }
 }
 
-fn line(session: Session, s: &[u8], at: usize) -> Session {
-    if is_word(s, at, b"row") {
-        return row_line(session, s, at);
-    }
-    if is_word(s, at, b"taken") {
-        return taken_line(session, s, at);
-    }
-    if is_word(s, at, b"book") {
-        return book_line(session, s, at);
-    }
-    if is_word(s, at, b"add") {
-        return add_line(session, s, at);
-    }
-    if is_word(s, at, b"adds") {
-        return adds_line(session, s, at);
-    }
-    if is_word(s, at, b"withdraw") {
-        return withdraw_line(session, s, at);
-    }
-    if is_word(s, at, b"back") {
-        return back_line(session);
-    }
-    if is_word(s, at, b"keep") {
-        return keep_line(session, s, at);
-    }
-    if is_word(s, at, b"return") {
-        return return_line(session, s, at);
-    }
-    if is_word(s, at, b"move") {
-        return move_line(session);
-    }
-    asking_line(session, s, at);
-    session
-}
-
-fn replay(s: &[u8]) -> Session {
+fn replay(text: &[u8]) -> Session {
     let none = Row { left: 0, right: 0 };
     let mut session = session::fresh(board_block::plain(Board {
         count: 0,
         rows: [none; 31],
     }));
-    let mut at: usize = 0;
-    let mut turns = s.len();
-    while 0 < turns {
-        session = line(session, s, at);
-        at = next_line(s, at);
-        turns -= 1;
+    for call in text.split(|b| *b == b'\n').filter_map(call::call_of) {
+        session = run(session, call);
     }
     session
 }
@@ -490,13 +266,8 @@ fn main() {
     let mut text = io::large_buffer();
     let n = io::read_full(0, &mut text);
     let last = replay(&text[..n]);
-    let nets = last.nets;
-    let pile = last.pile;
-    let names = last.names;
-    let block = last.block;
-    let book = block.book;
-    print_nets(nets);
-    print_pile(pile);
-    print_names(names);
-    print_book(book);
+    print_nets(last.nets);
+    print_pile(last.pile);
+    print_names(last.names);
+    print_book(last.block.book);
 }

@@ -1,25 +1,25 @@
 -- What reading answers, as the text of the board.
 -- Assumes what reading and routing promise.
-use Rattle.std.specs.Prelude.{◌≡◌, List, [], ◌∷◌, ℕ, ◌%◌, ◌≤◌, length}
+use Rattle.std.specs.Prelude.{◌≡◌, List, [], ◌∷◌, ℕ, ◌%◌, ◌≤◌, length, Ok, Err}
 use Rattle.std.proofs.Common.{sym, ◌∙◌, arith}
 use Rattle.text.specs.Line.{refused_line}
 use Rattle.words_bytes.specs.WordsLaws.{words_length, uneven_bytes, even_bytes}
 use Rattle.session_rules.specs.Refusal.{refusal}
 use Rattle.session.specs.View.{session_of}
 use Rattle.call_rules.specs.Reading.{read_bytes}
-use Rattle.board_reading.specs.Promise.{ReadPromise}
+use Rattle.board_reading.specs.Promise.{AfterRead, ReadPromise}
 use Rattle.board_reading.proofs.ReadAs.{read_refused, read_accepted}
 use Rattle.board_reading.proofs.PromiseLaws.{bytes-uneven, bytes-long}
-use Rattle.board_reading.specs.declared.AfterRead.{AfterRead}
-use Rattle.board_reading.specs.declared.ReadAnswer.TheVariants as answer
+use Rattle.board_reading.specs.Refused.{read_number, read_place, read_refusal}
+use Rattle.board_reading.specs.declared.ReadRefusal.{ReadRefusal}
 use Rattle.route_text.specs.Text.{RouteText}
 use Rattle.route.specs.Text.{BoardText, unread, read}
 
-pub refused_text : {board : List ℕ} {r : AfterRead} (n p : ℕ) → ReadPromise (read_bytes board) r → r.answer ≡ answer.Refused n p
-    → BoardText board (refused_line n (p ∷ []))
-refused_text n p P e = unread {r = refusal n p} (read_refused P n p e)
+pub refused_text : {board : List ℕ} {r : AfterRead} (e : ReadRefusal) → ReadPromise (read_bytes board) r → r.answer ≡ Err e
+    → BoardText board (refused_line (read_number e) (read_place e ∷ []))
+refused_text e P h = unread {r = read_refusal e} (read_refused P e h)
 
-pub read_text : {board text : List ℕ} {r : AfterRead} → ReadPromise (read_bytes board) r → r.answer ≡ answer.Accepted
+pub read_text : {board text : List ℕ} {r : AfterRead} → ReadPromise (read_bytes board) r → r.answer ≡ Ok tt
     → RouteText (session_of r.session) text → BoardText board text
 read_text P e T = read (read_accepted P e) T
 

@@ -8,19 +8,15 @@ ghost use Rattle.std.specs.Prelude.{◌≡◌, List, ℕ, ◌%◌, ◌≤◌, le
 ghost use Rattle.io.specs.Counts.{IsPrefixLen};
 ghost use Rattle.route.specs.Text.{BoardText};
 
-use board_reading::ReadAnswer;
-use numbers::wide;
-
 // The text for a board's bytes, at the start of the buffer; how many bytes it is.
 fn board_text(bytes: &[u8], out: &mut [u8; 18441]) -> usize
     ensures prefix_len { IsPrefixLen result out.new }
     ensures board_text { BoardText bytes.now (take result out.new) }
 {
     let after = board_reading::read_bytes(bytes);
-    let answer = after.answer;
-    match answer {
-        ReadAnswer::Refused(number, place) => text::refused(wide(number), place, out),
-        ReadAnswer::Accepted => route_text::session_text(after.session, out),
+    match after.answer {
+        Ok(()) => route_text::session_text(after.session, out),
+        Err(refusal) => text::refused(usize::from(refusal.number()), refusal.place(), out),
     }
 }
 
@@ -39,13 +35,11 @@ fn long_text(n: usize, out: &mut [u8; 18441]) -> usize
 // Reads on to the end; how many bytes the last buffer took. (A million buffers are read at most.)
 fn read_on() -> usize {
     let mut bytes = io::large_buffer();
-    let mut left: usize = 1000000;
-    while 0 < left {
+    for _ in 0..1000000 {
         let n = io::read_full(0, &mut bytes);
         if n < 65536 {
             return n;
         }
-        left -= 1;
     }
     0
 }

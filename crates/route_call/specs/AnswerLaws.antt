@@ -1,10 +1,12 @@
 -- Each answer of `route` is the one that the definition gives.
 -- Assumes what the searches answer; that what the search for helper pairs answers is right rests on the theorem for odd boards.
-use Rattle.std.specs.Prelude.{◌≡◌, refl, true, false, ℕ, ◌≤◌, ◌<◌, ltb, length}
+use Rattle.std.specs.Prelude.{◌≡◌, refl, true, false, ℕ, ◌≤◌, ◌<◌, length, Option, None, Some, Err}
+use Rattle.std.specs.Prelude.{MatchResult}
+use Rattle.std.specs.Option.{ok_or}
 use Rattle.std.proofs.Common.{ap, ◌∙◌, arith}
 use mathlib.Core.List.{List, [], head?}
 use Rattle.std.proofs.Math.Option.{some}
-use borrow.Author.Tests.{le-ltb}
+use borrow.Author.Tests.{lt-ltb, le-ltb}
 use Rattle.count.specs.Lists.{head-none}
 use Rattle.board.specs.declared.Vertex.{Vertex}
 use Rattle.net.specs.declared.Pair.{Pair}
@@ -13,8 +15,6 @@ use Rattle.cut.specs.Odd.{odd_vertices}
 use Rattle.cut_search.specs.Found.{found_cut, found_vertex}
 use Rattle.cut_search.specs.Laws.{found_some, found_none, vertex_some, vertex_none}
 use Rattle.cut.specs.declared.Cut.{Cut}
-use Rattle.cut_search.specs.declared.FoundCut as code-cut
-use Rattle.cut_search.specs.declared.FoundVertex as code-vertex
 use Rattle.session_rules.specs.Refusal.{refusal}
 use Rattle.session_rules.specs.Session.{Session, pairs}
 use Rattle.session_rules.specs.Sound.{sound?}
@@ -41,8 +41,10 @@ use Rattle.pairing_search.specs.View.{no_odds, Few, Collects, Helps}
 use Rattle.pairing_search.specs.Collect.{few_none}
 use Rattle.pairing_search.specs.Answer.{answer-helpers, answer-none}
 use Rattle.pairing_search.specs.declared.Odds.{Odds}
-use Rattle.pairing_search.specs.declared.FoundPairs.{FoundPairs}
-use Rattle.route_call.specs.Answers.{FirstOddKnown, OddsKnown, Roomy, Helped}
+use Rattle.pairing_search.specs.declared.HelperPairs.{HelperPairs}
+use Rattle.route_call.specs.Answers.{FirstOddKnown, ManyOdd, OddsKnown, Roomy, Helped, route_answer}
+use Rattle.route_call.specs.declared.RouteRefusal.{RouteRefusal}
+use Rattle.route_call.specs.declared.RouteRefusal.TheVariants as why
 use Rattle.route_call.specs.Sessions.{problem_of}
 
 module _ (s : Session) (before : List ℕ) where
@@ -54,12 +56,11 @@ module _ (s : Session) (before : List ℕ) where
   route-short e h = refused {r = refusal 31 0} (by_line {r = refusal 31 0} (short_31 s (length before) e h))
 
   -- v is the first of too many
-  pub route-odd : (v : Vertex) → FirstOddKnown s v → route_room s ≤ length before
-      → ltb odd_limit (length (odd_vertices s.block.board (pairs s.nets))) ≡ true
-      → Routes s before (no (odd_refusal v)) before
+  pub route-odd : (e : RouteRefusal) → ManyOdd s e → route_room s ≤ length before → Routes s before (route_answer (Err e)) before
   unfolding route_refused
-  route-odd v F h e = refused {r = odd_refusal v} (by_line {r = odd_refusal v}
-      (rw (F.sound, le-ltb (length before) (route_room s) h, e, F.first) refl))
+  route-odd e M h = let v = M.v in let F = M.first_odd in rw M.named (refused {r = odd_refusal v} (by_line {r = odd_refusal v}
+      (rw (F.sound, le-ltb (length before) (route_room s) h, lt-ltb odd_limit (length (odd_vertices s.block.board (pairs s.nets))) M.many, F.first)
+      refl)))
 
   module _ (odds : Odds) (F : OddsKnown s odds) (h : route_room s ≤ length before) where
     few : length (odd_vertices s.block.board (pairs s.nets)) ≤ odd_limit
@@ -77,46 +78,52 @@ module _ (s : Session) (before : List ℕ) where
     route-none R n = refused {r = refusal 34 0} (none_exists (passed s (length before) F.sound h few R) n)
 
 -- ── the helper pairs that were found, or not ──
-module _ (s : Session) (sound : sound? s ≡ true) (r : FoundPairs) (H : Helps s.block.board (pairs s.nets) r) where
-  pub found-helped : r.found ≡ true → Helped s r
-  found-helped e = let k = answer-helpers s.block.board (pairs s.nets) (problem_of s ((sound_exact s).0 sound)) r H e in
+module _ (s : Session) (sound : sound? s ≡ true) where
+  pub found-helped : (r : HelperPairs) → Helps s.block.board (pairs s.nets) (Some r) → Helped s r
+  found-helped r H = let k = answer-helpers s.block.board (pairs s.nets) (problem_of s ((sound_exact s).0 sound)) r H in
       record { sound = sound; most = H.few; long = H.long; helpers = k.0; roomy = k.1 }
 
-  pub found-none-exists : r.found ≡ false → NoRouting s
-  found-none-exists e paths R =
-      answer-none s.block.board (pairs s.nets) (problem_of s ((sound_exact s).0 sound)) r H e
+  pub found-none-exists : Helps s.block.board (pairs s.nets) None → NoRouting s
+  found-none-exists H paths R =
+      answer-none s.block.board (pairs s.nets) (problem_of s ((sound_exact s).0 sound)) H
       (routing_routable s.block.board (pairs s.nets) paths R)
 
 -- where no vertex is odd there are few
 pub even_few : (s : Session) → sound? s ≡ true → odd_vertices s.block.board (pairs s.nets) ≡ [] → (o : Odds) → o ≡ no_odds → OddsKnown s o
 even_few s sound e o f = record { sound = sound; few = rw (e, f) few_none }
 
+-- where v is the first odd vertex there are few, or v is named
+pub odd_named : (s : Session) (v : Vertex) → FirstOddKnown s v → (r : Option Odds) → Collects (odd_vertices s.block.board (pairs s.nets)) r
+    → MatchResult (ok_or r (why.Odd v)) (λ odds. OddsKnown s odds) (λ e. ManyOdd s e)
+odd_named s v F None C = record { v = v; named = refl; first_odd = F; many = C.many refl }
+odd_named s v F (Some odds) C = record { sound = F.sound; few = C.few odds refl }
+
 -- ── what the searches ask and answer, of the session's own list of pairs ──
 module _ (s : Session) (ps : List Pair) (same : pairs s.nets ≡ ps) where
   pub few-of : (o : Odds) → Few (odd_vertices s.block.board (pairs s.nets)) o → Few (odd_vertices s.block.board ps) o
   few-of o F = rw same at F
 
-  pub collects-of : (o : Odds) → Collects (odd_vertices s.block.board ps) o → Collects (odd_vertices s.block.board (pairs s.nets)) o
+  pub collects-of : (o : Option Odds) → Collects (odd_vertices s.block.board ps) o → Collects (odd_vertices s.block.board (pairs s.nets)) o
   collects-of o C = rw same C
 
   pub roomy_of : Roomy s → overfull_cuts s.block.board ps ≡ []
   roomy_of R = rw same at R
 
-  pub helps-of : (r : FoundPairs) → Helps s.block.board ps r → Helps s.block.board (pairs s.nets) r
+  pub helps-of : (r : Option HelperPairs) → Helps s.block.board ps r → Helps s.block.board (pairs s.nets) r
   helps-of r H = rw same H
 
-  pub odd-at : (v : Vertex) → code-vertex.TheVariants.At v ≡ found_vertex (head? (odd_vertices s.block.board ps))
+  pub odd-at : (v : Vertex) → Some v ≡ found_vertex (head? (odd_vertices s.block.board ps))
       → head? (odd_vertices s.block.board (pairs s.nets)) ≡ some v
   odd-at v e = rw same (vertex_some _ v e)
 
-  pub none_odd : code-vertex.TheVariants.Nothing ≡ found_vertex (head? (odd_vertices s.block.board ps))
+  pub none_odd : None ≡ found_vertex (head? (odd_vertices s.block.board ps))
       → odd_vertices s.block.board (pairs s.nets) ≡ []
   none_odd e = rw same ((head-none (odd_vertices s.block.board ps)).0 (vertex_none _ e))
 
-  pub overfull-at : (x : Cut) → code-cut.TheVariants.At x ≡ found_cut (head? (overfull_cuts s.block.board ps))
+  pub overfull-at : (x : Cut) → Some x ≡ found_cut (head? (overfull_cuts s.block.board ps))
       → head? (overfull_cuts s.block.board (pairs s.nets)) ≡ some x
   overfull-at x e = rw same (found_some _ x e)
 
-  pub none_overfull : code-cut.TheVariants.Nothing ≡ found_cut (head? (overfull_cuts s.block.board ps))
+  pub none_overfull : None ≡ found_cut (head? (overfull_cuts s.block.board ps))
       → overfull_cuts s.block.board (pairs s.nets) ≡ []
   none_overfull e = rw same ((head-none (overfull_cuts s.block.board ps)).0 (found_none _ e))

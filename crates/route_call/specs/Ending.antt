@@ -22,12 +22,15 @@ use Rattle.corner.specs.Trails.{Link, hor, ver, lo, hi, joined}
 use Rattle.corner.specs.Links.{on_board}
 use Rattle.corner.proofs.Lines.{lines_of, joined-board}
 use Rattle.router_notes.specs.Limits.{pair_limit}
+use Rattle.router_notes.specs.declared.Table as code
+use Rattle.router_notes.specs.declared.Notes.{Notes}
+use Rattle.router_notes.specs.declared.Lines.{Lines}
 use Rattle.router_notes.specs.Notes.{Item, Routed}
 use Rattle.router_notes.specs.Lift.{lift_fewer}
 use Rattle.router_notes.specs.State.{room as edgesLeft}
 use Rattle.router_notes.specs.Alike.{Alike, present-alike}
 use Rattle.router_notes.specs.Arrays.{left_of, notesOf}
-use Rattle.router_trace.specs.Traces.{path_d}
+use Rattle.router_trace.specs.Traces.{path_of}
 use Rattle.router_invariant.specs.Run.{Run, state_r, shape_r, row_r}
 use Rattle.router_ends.specs.declared.Work.{Work}
 use Rattle.router_loop.specs.Promise.{CutAll}
@@ -39,7 +42,7 @@ use Rattle.router_start.specs.Lines.{Lined}
 use Rattle.router_start.specs.LineLaws.{lined_alike}
 use Rattle.router_start.specs.Table.{no_pair}
 use Rattle.route_call.specs.Filled.{first_work, Filled}
-use Rattle.route_call.specs.Starting.{pair_zeros, vertex_zeros, R0, row_is, starts, sized}
+use Rattle.route_call.specs.Starting.{R0, row_is, starts, sized}
 
 -- ── a unit edge between two vertices of the shape is an edge of the board ──
 left_present : (S S' : Shape) → Alike S S' → (v : Vertex) → left_of S' false v ≡ true → present S v.line v.column ≡ true
@@ -60,11 +63,10 @@ room_edge b W C S' A e = elim (bool (left_of S' false (lo e) && left_of S' false
       omega (arith, ap one j, one_le (left_of S' false (lo e) && left_of S' false (hi e)))
 ]
 
-module _ (s : Session) (S : Sound s) {first second : List ℕ} {h : ℕ} (tall : h ≡ height s.block.board)
-    (L : Lined s.block.board (h + 1) (replicate 32 0) (replicate 32 0) first second) {la lb ids s1 s2 : List ℕ} {n : ℕ}
-    (F : Filled s n la lb ids s1 s2) where
+module _ (s : Session) (S : Sound s) {h : ℕ} (tall : h ≡ height s.block.board) (l : Lines)
+    (L : Lined s.block.board (h + 1) (replicate 32 0) (replicate 32 0) l.first l.last) (t : code.Table) (m : Notes) {n : ℕ} (F : Filled s n t m) where
   abbrev R : Run
-  R = R0 s.block.board F.ps F.good S.within.some tall L F.table
+  R = R0 s.block.board F.ps F.good S.within.some tall l L t m F.table F.blank
 
   nets : length (pairs s.nets) ≡ length s.nets
   nets = length-map s.nets (λ m. m.ends)
@@ -74,10 +76,10 @@ module _ (s : Session) (S : Sound s) {first second : List ℕ} {h : ℕ} (tall :
 
   -- net k is pair k
   net-pair : (i : ℕ) → i < length (pairs s.nets) → pair (row_r R i).a (row_r R i).b ≡ get_or (pairs s.nets) i no_pair
-  net-pair i l =
-      let e = row_is s.block.board F.ps F.good S.within.some tall L F.table i (omega (arith, fewer, nets)) in
+  net-pair i b =
+      let e = row_is s.block.board F.ps F.good S.within.some tall l L t m F.table F.blank i (omega (arith, fewer, nets)) in
       ap (λ (x : Item). pair x.a x.b) e
-      ∙ (ap (λ (ps : List Pair). get_or ps i no_pair) (sym F.nets_first) ∙ get_or-append (pairs s.nets) F.helpers no_pair i l)
+      ∙ (ap (λ (ps : List Pair). get_or ps i no_pair) (sym F.nets_first) ∙ get_or-append (pairs s.nets) F.helpers no_pair i b)
 
   ends : pairs s.nets ≡ pairs_from (row_r R) 0 (length s.nets)
   ends =
@@ -87,33 +89,31 @@ module _ (s : Session) (S : Sound s) {first second : List ℕ} {h : ℕ} (tall :
       subst (λ (k : ℕ). pairs s.nets ≡ pairs_from (row_r R) 0 k) nets f
 
   -- the router has run
-  module _ (w : Work) (start : w ≡ first_work h n) {la' lb' ids' side' vert' half' s1' s2' d1' d2' lo' : List ℕ} {r : Bool}
-      (C : CutAll la lb ids vertex_zeros vertex_zeros pair_zeros s1 s2 pair_zeros pair_zeros first second w
-      la' lb' ids' side' vert' half' s1' s2' d1' d2' lo' r) where
-    K : ended.Routed (state_r R) side' vert' half' s1' s2' d1' d2'
-    K = (ended.routed la lb ids vertex_zeros vertex_zeros pair_zeros s1 s2 pair_zeros pair_zeros first second
-        (first_work h n)
-        la' lb' ids' side' vert' half' s1' s2' d1' d2' lo' r
-        (subst (λ (v : Work). CutAll la lb ids vertex_zeros vertex_zeros pair_zeros s1 s2 pair_zeros pair_zeros first second v
-        la' lb' ids' side' vert' half' s1' s2' d1' d2' lo' r) start C)
-        (starts s.block.board F.ps F.good S.within.some tall L F.table)
-        (sized s.block.board F.ps F.good S.within.some tall L F.table (omega (arith, tall, S.within.few)))).1
+  module _ (w : Work) (start : w ≡ first_work h n) (t' : code.Table) (m' : Notes) (l' : Lines) {r : Bool} (C : CutAll t m l w t' m' l' r) where
+    K : ended.Routed (state_r R) m'.side m'.vert m'.half m'.start m'.end m'.to_corner m'.from_corner
+    K = (ended.routed t m l (first_work h n) t' m' l' r (subst (λ (v : Work). CutAll t m l v t' m' l' r) start C)
+        (starts s.block.board F.ps F.good S.within.some tall l L t m F.table F.blank)
+        (sized s.block.board F.ps F.good S.within.some tall l L t m F.table F.blank (omega (arith, tall, S.within.few)))).1
 
     abbrev P : ℕ → List ℕ
-    P = path_d side' vert' half' s1' s2' d1' d2' pair_limit
+    P = path_of m' pair_limit
 
     edges : (e : Link) → edgesLeft (left_of (shape_r R) false) e ≤ one (on_board s.block.board e)
     edges = room_edge s.block.board S.within S.convex (shape_r R) (lined_alike s.block.board h S.within.some tall L)
 
-    nets-routed : Routed (notesOf side' vert' half' s1' s2' d1' d2') (edgesLeft (left_of (shape_r R) false)) (length s.nets) (row_r R)
-    nets-routed = lift_fewer (notesOf side' vert' half' s1' s2' d1' d2') (edgesLeft (left_of (shape_r R) false)) (length s.nets) n (row_r R) fewer
+    nets-routed : Routed (notesOf m'.side m'.vert m'.half m'.start m'.end m'.to_corner m'.from_corner) (edgesLeft (left_of (shape_r R) false))
+        (length s.nets) (row_r R)
+    nets-routed = lift_fewer (notesOf m'.side m'.vert m'.half m'.start m'.end m'.to_corner m'.from_corner) (edgesLeft (left_of (shape_r R) false))
+        (length s.nets) n (row_r R) fewer
         K.routes
 
     pub fits-buffer : {before : List ℕ} → route_room s ≤ length before → Fits P s.nets before
-    fits-buffer room = fits side' vert' half' s1' s2' d1' d2' K.ordered s S.within (edgesLeft (left_of (shape_r R) false)) edges (row_r R)
+    fits-buffer room = fits m'.side m'.vert m'.half m'.start m'.end m'.to_corner m'.from_corner K.ordered s
+        S.within (edgesLeft (left_of (shape_r R) false)) edges (row_r R)
         nets-routed (λ i l. K.made i (omega (arith, fewer))) ends (omega (arith, fewer, F.most)) room
 
     pub handed-back : {before after : List ℕ} {answer : ℕ} → answer ≡ length (words_of P s.nets) → after ≡ written_into before (words_of P s.nets)
         → HandsBack s before after answer
-    handed-back counted words = handed side' vert' half' s1' s2' d1' d2' K.ordered s S.within (edgesLeft (left_of (shape_r R) false)) edges
+    handed-back counted words = handed m'.side m'.vert m'.half m'.start m'.end m'.to_corner m'.from_corner K.ordered s
+        S.within (edgesLeft (left_of (shape_r R) false)) edges
         (row_r R) nets-routed (λ i l. K.made i (omega (arith, fewer))) ends (omega (arith, fewer, F.most)) counted words

@@ -16,6 +16,9 @@ use Rattle.corner.proofs.Order.{good_same}
 use Rattle.corner.proofs.OddBoards.{helped-good}
 use Rattle.corner_pins.proofs.Few.{few-pairs}
 use Rattle.router_notes.specs.Limits.{pair_limit, vertex_limit}
+use Rattle.router_notes.specs.declared.Table as code
+use Rattle.router_notes.specs.declared.Notes.{Notes}
+use Rattle.router_notes.specs.declared.Lines.{Lines}
 use Rattle.router_notes.specs.Notes.{Item, item}
 use Rattle.router_notes.specs.Inv.{turn_i}
 use Rattle.router_notes.specs.Table.{tally-of}
@@ -28,13 +31,13 @@ use Rattle.router_ends.specs.declared.Work.{Work}
 use Rattle.router_ends.specs.View.{run}
 use Rattle.router_start.specs.Lines.{Lined}
 use Rattle.router_start.specs.LineLaws.{lined-lo, lined-hi, lined_alike}
-use Rattle.router_start.specs.Table.{word_of, no_pair, Clear, Table, Fills}
+use Rattle.router_start.specs.Table.{word_of, no_pair, Emptied, Table, FillsIn, StartsKept}
 use Rattle.router_start.specs.TableLaws.{fills-table}
 use Rattle.session_rules.specs.Sound.{Sound}
 use Rattle.session_laws.proofs.Exact.{sound_exact}
-use Rattle.pairing_search.specs.declared.FoundPairs.{FoundPairs}
+use Rattle.pairing_search.specs.declared.HelperPairs.{HelperPairs}
 use Rattle.route_call.specs.Answers.{Helped}
-use Rattle.route_call.specs.Filled.{first_work, Filled}
+use Rattle.route_call.specs.Filled.{blank_notes, blank_table, first_work, Filled}
 use Rattle.route_call.specs.Sessions.{problem_of}
 
 -- ── pairs by their place in the list ──
@@ -67,14 +70,7 @@ zeros zero p = refl
 zeros (suc m) zero = refl
 zeros (suc m) (suc p) = zeros m p
 
--- notes of pairs and notes of vertices before anything is written
-abbrev pub pair_zeros : List ℕ
-pair_zeros = replicate pair_limit 0
-
-abbrev pub vertex_zeros : List ℕ
-vertex_zeros = replicate vertex_limit 0
-
-pub clear_zeros : Clear pair_zeros pair_zeros pair_zeros pair_zeros pair_zeros
+pub clear_zeros : Emptied blank_table blank_notes
 clear_zeros = record {
   low = λ k. omega (arith, zeros pair_limit k);
   la_size = length-replicate {A = ℕ} pair_limit 0;
@@ -89,10 +85,11 @@ pub first_low : (w : Work) (bottom n : ℕ) → w ≡ first_work bottom n → bo
     → (w.top ≤ 31) × (w.bottom ≤ 31) × (w.n ≤ 64) × (w.next ≤ 64)
 first_low w bottom n e h k = rw e (omega arith, h, k, k)
 
-module _ (b : Board) (ps : List Pair) (G : Good (lines_of b) ps) (some : 1 ≤ height b) {lo hi : List ℕ} {h : ℕ} (tall : h ≡ height b)
-    (L : Lined b (h + 1) (replicate 32 0) (replicate 32 0) lo hi) {la lb ids s1 s2 : List ℕ} {n : ℕ} (T : Table ps n la lb ids s1 s2) where
+module _ (b : Board) (ps : List Pair) (G : Good (lines_of b) ps) (some : 1 ≤ height b) {h : ℕ} (tall : h ≡ height b) (l : Lines)
+    (L : Lined b (h + 1) (replicate 32 0) (replicate 32 0) l.first l.last) (t : code.Table) (m : Notes) {n : ℕ}
+    (T : Table ps n t.first t.second t.number m.start m.end) (blank : StartsKept blank_notes m) where
   abbrev pub R0 : Run
-  R0 = run la lb ids vertex_zeros vertex_zeros pair_zeros s1 s2 pair_zeros pair_zeros lo hi (first_work h n)
+  R0 = run t m l (first_work h n)
 
   low : (v : Vertex) → Here (lines_of b) v → (v.line ≤ last) × (v.column < 32)
   low v k = let S = G.shaped in let t = S.thin v.line (k.low, k.high) in
@@ -103,11 +100,11 @@ module _ (b : Board) (ps : List Pair) (G : Good (lines_of b) ps) (some : 1 ≤ h
 
   pub row_is : (i : ℕ) → i < n → row_r R0 i ≡ item i (get_or ps i no_pair).first (get_or ps i no_pair).second
   row_is i l =
-      let a : vtx (get_or la i 0) ≡ (get_or ps i no_pair).first =
+      let a : vtx (get_or t.first i 0) ≡ (get_or ps i no_pair).first =
       ap vtx (T.first i l) ∙ vtx_word (get_or ps i no_pair).first (low (get_or ps i no_pair).first (ends i l).0).1 in
-      let c : vtx (get_or lb i 0) ≡ (get_or ps i no_pair).second =
+      let c : vtx (get_or t.second i 0) ≡ (get_or ps i no_pair).second =
       ap vtx (T.second i l) ∙ vtx_word (get_or ps i no_pair).second (low (get_or ps i no_pair).second (ends i l).1).1 in
-      ap (λ (k : ℕ). item k (vtx (get_or la i 0)) (vtx (get_or lb i 0))) (T.number i l) ∙ ap₂ (λ (u v : Vertex). item i u v) a c
+      ap (λ (k : ℕ). item k (vtx (get_or t.first i 0)) (vtx (get_or t.second i 0))) (T.number i l) ∙ ap₂ (λ (u v : Vertex). item i u v) a c
 
   same-pairs : SamePairs ps (pairs_r R0)
   same-pairs f s =
@@ -124,11 +121,11 @@ module _ (b : Board) (ps : List Pair) (G : Good (lines_of b) ps) (some : 1 ≤ h
 
   pub starts : Starts R0
   starts = record {
-    side = zeros vertex_limit;
-    vert = zeros vertex_limit;
-    half = zeros pair_limit;
-    d1 = zeros pair_limit;
-    d2 = zeros pair_limit;
+    side = λ p. rw blank.0 (zeros vertex_limit p);
+    vert = λ p. rw blank.1 (zeros vertex_limit p);
+    half = λ p. rw blank.2 (zeros pair_limit p);
+    d1 = λ p. rw blank.3 (zeros pair_limit p);
+    d2 = λ p. rw blank.4 (zeros pair_limit p);
     number = T.number;
     first = T.made_first;
     second = T.made_second;
@@ -148,19 +145,19 @@ module _ (b : Board) (ps : List Pair) (G : Good (lines_of b) ps) (some : 1 ≤ h
     la = T.clear.la_size;
     lb = T.clear.lb_size;
     ids = T.clear.ids_size;
-    side = length-replicate {A = ℕ} vertex_limit 0;
-    vert = length-replicate {A = ℕ} vertex_limit 0;
-    half = length-replicate {A = ℕ} pair_limit 0;
+    side = rw blank.0 (length-replicate {A = ℕ} vertex_limit 0);
+    vert = rw blank.1 (length-replicate {A = ℕ} vertex_limit 0);
+    half = rw blank.2 (length-replicate {A = ℕ} pair_limit 0);
     s1 = T.clear.s1_size;
     s2 = T.clear.s2_size;
-    d1 = length-replicate {A = ℕ} pair_limit 0;
-    d2 = length-replicate {A = ℕ} pair_limit 0;
+    d1 = rw blank.3 (length-replicate {A = ℕ} pair_limit 0);
+    d2 = rw blank.4 (length-replicate {A = ℕ} pair_limit 0);
     lo = lined-lo b L (room few) ∙ length-replicate {A = ℕ} 32 0;
     hi = lined-hi b L (room few) ∙ length-replicate {A = ℕ} 32 0;
   }
 
 -- ── the nets, and helper pairs after them ──
-module _ (s : Session) (r : FoundPairs) (H : Helped s r) where
+module _ (s : Session) (r : HelperPairs) (H : Helped s r) where
   S : Sound s
   S = (sound_exact s).0 H.sound
 
@@ -173,13 +170,17 @@ module _ (s : Session) (r : FoundPairs) (H : Helped s r) where
     ap length e,
   )
 
-  pub helped-filled : (ps : List Pair) → pairs s.nets ≡ ps → {n : ℕ} {la lb ids s1 s2 : List ℕ} → n ≤ 64
-      → Fills (ps ++ take r.count r.pairs) n pair_zeros pair_zeros pair_zeros pair_zeros pair_zeros la lb ids s1 s2 → Filled s n la lb ids s1 s2
-  helped-filled ps e most F = record {
+  pub helped-rows : (ps : List Pair) → pairs s.nets ≡ ps → (n : ℕ) → n ≡ length ps → n + length (take r.count r.pairs) ≤ 64
+  helped-rows ps e n k = omega (arith, helped-room ps e n k, length-take-le r.count r.pairs (omega (arith, H.most, H.long)))
+
+  pub helped-filled : (ps : List Pair) → pairs s.nets ≡ ps → {n : ℕ} (t : code.Table) (m : Notes) → n ≤ 64
+      → FillsIn (ps ++ take r.count r.pairs) n blank_table blank_notes t m → Filled s n t m
+  helped-filled ps e t m most F = record {
     ps = ps ++ take r.count r.pairs;
     helpers = take r.count r.pairs;
     nets_first = ap (λ (qs : List Pair). qs ++ take r.count r.pairs) e;
-    table = fills-table clear_zeros most F;
+    table = fills-table clear_zeros most F.0;
+    blank = F.1;
     most = most;
     good = subst (λ (qs : List Pair). Good (lines_of s.block.board) (qs ++ take r.count r.pairs)) e
         (helped-good s.block.board (pairs s.nets) (problem_of s S) (take r.count r.pairs) H.helpers H.roomy);

@@ -10,8 +10,7 @@ ghost use Rattle.route_call.specs.Answers.{route_answer};
 ghost use Rattle.route_text.specs.Text.{refusal_text, answer_text, RouteText};
 
 use cut::Cut;
-use numbers::wide;
-use route_call::RouteAnswer;
+use route_call::RouteRefusal;
 use session::Session;
 use words::ROUTING_WORDS;
 
@@ -20,22 +19,31 @@ fn cut_text(x: Cut, out: &mut [u8; 18441]) -> usize
     ensures { Holds (refusal_text (overfull_refusal x)) result out.new }
 {
     match x {
-        Cut::Row(i) => text::refused_at(33, 0, wide(i), out),
-        Cut::Column(j) => text::refused_at(33, 1, wide(j), out),
+        Cut::Row(i) => text::refused_at(33, 0, usize::from(i), out),
+        Cut::Column(j) => text::refused_at(33, 1, usize::from(j), out),
     }
 }
 
 // What routing answered: its words, or the refusal. There is room for the longest routing.
-fn answer_text(answer: RouteAnswer, words: &[u32; ROUTING_WORDS], out: &mut [u8; 18441]) -> usize
+fn answer_text(
+    answer: Result<usize, RouteRefusal>,
+    words: &[u32; ROUTING_WORDS],
+    out: &mut [u8; 18441],
+) -> usize
     ensures { Holds (answer_text (route_answer answer) words.now) result out.new }
 {
     match answer {
-        RouteAnswer::Routed(count) => text::word_lines(words, count, out),
-        RouteAnswer::Unsound => text::refused(20, 0, out),
-        RouteAnswer::ShortBuffer => text::refused(31, 0, out),
-        RouteAnswer::Odd(v) => text::refused_at(32, wide(v.line), wide(v.column), out),
-        RouteAnswer::Overfull(x) => cut_text(x, out),
-        RouteAnswer::NoRouting => text::refused(34, 0, out),
+        Ok(count) => text::word_lines(words, count, out),
+        Err(RouteRefusal::Unsound) => text::refused(20, 0, out),
+        Err(RouteRefusal::ShortBuffer) => text::refused(31, 0, out),
+        Err(RouteRefusal::Odd(v)) => text::refused_at(
+            32,
+            usize::from(v.line),
+            usize::from(v.column),
+            out,
+        ),
+        Err(RouteRefusal::Overfull(x)) => cut_text(x, out),
+        Err(RouteRefusal::NoRouting) => text::refused(34, 0, out),
     }
 }
 

@@ -1,131 +1,94 @@
 // Corners where no pair ends: a pair is divided there, or a helper pair is added.
 #![tactic(auto)]
 
-ghost use Rattle.std.specs.Prelude.{◌≡◌, cond, ◌≤◌, ◌<◌};
+ghost use Rattle.std.specs.Prelude.{◌≡◌, ◌≤◌, ◌<◌};
 ghost use Rattle.router_notes.specs.Limits.{pair_limit, last_pair};
 ghost use Rattle.router_invariant.specs.Divide.{dir1, dir2};
 ghost use Rattle.router_ends.specs.View.{Low, Near};
-ghost use Rattle.router_bare.specs.Promise.{CutRow, NoEnds};
+ghost use Rattle.router_bare.specs.Promise.{CutRow, NoEnds, VerticesKept};
 
-use numbers::long;
 use router_ends::Work;
-use router_notes::PAIRS;
-
-fn pick(first: bool, a: u16, b: u16) -> u16
-    ensures { result ≡ cond first a b }
-{
-    if first { a } else { b }
-}
+use router_notes::{Lines, Notes, Table};
 
 // The direction from the first half's end to the corner, and from the corner to the second half's start.
-fn first_dir(first: bool, up: bool) -> u8
-    ensures { result ≡ dir1 first up }
+fn corner_moves(first: bool, up: bool) -> (u8, u8)
+    ensures { (result.0 ≡ dir1 first up) × (result.1 ≡ dir2 first up) }
 {
-    if first { 3 } else { if up { 2 } else { 0 } }
-}
-
-fn second_dir(first: bool, up: bool) -> u8
-    ensures { result ≡ dir2 first up }
-{
-    if first { if up { 0 } else { 2 } } else { 1 }
+    match (first, up) {
+        (true, false) => (3, 2),
+        (true, true) => (3, 0),
+        (false, false) => (0, 1),
+        (false, true) => (2, 1),
+    }
 }
 
 // Row i is divided; its first half ends at nul if its first end is the right one, else at bul.
 fn cut_row(
-    la: &mut [u16; PAIRS],
-    lb: &mut [u16; PAIRS],
-    ids: &mut [u16; PAIRS],
-    half: &mut [u16; PAIRS],
-    s1: &mut [u16; PAIRS],
-    s2: &mut [u16; PAIRS],
-    d1: &mut [u8; PAIRS],
-    d2: &mut [u8; PAIRS],
+    table: &mut Table,
+    notes: &mut Notes,
     w: Work,
     i: usize,
     first: bool,
     nul: u16,
     bul: u16,
 ) -> Work
-    requires { (i < w.n) × (w.n < pair_limit) × (w.next < last_pair) × Low ids.old × (w.top ≤ 31) × (w.bottom ≤ 31) }
-    ensures { CutRow la.old lb.old ids.old half.old s1.old s2.old
-        d1.old d2.old w i first nul bul
-        la.new lb.new ids.new half.new s1.new s2.new d1.new
-        d2.new result }
+    requires { (i < w.n) × (w.n < pair_limit) × (w.next < last_pair) × Low table.old.number × (w.top ≤ 31) × (w.bottom ≤ 31) }
+    ensures { CutRow table.old notes.old w i first nul bul table.new notes.new result }
 {
-    let n = w.n;
-    let next = w.next;
-    let a = la[i];
-    let b = lb[i];
-    let k = long(ids[i]);
-    let x = pick(first, nul, bul);
-    let y = pick(first, bul, nul);
-    router_table::part(
-        half,
-        s1,
-        s2,
-        d1,
-        d2,
-        k,
-        next,
-        a,
-        b,
-        x,
-        y,
-        first_dir(first, w.up),
-        second_dir(first, w.up),
-    );
-    router_table::divide(la, lb, ids, i, n, next, x, y);
-    router_ends::counted(w, n + 1, next + 2)
+    let a = table.first[i];
+    let b = table.second[i];
+    let k = usize::from(table.number[i]);
+    let (x, y) = if first { (nul, bul) } else { (bul, nul) };
+    let (dx, dy) = corner_moves(first, w.up);
+    router_table::part(notes, k, w.next, a, b, x, y, dx, dy);
+    router_table::divide(table, i, w.n, w.next, x, y);
+    Work {
+        n: w.n + 1,
+        next: w.next + 2,
+        ..w
+    }
 }
 
 // Two edges and no end at the corner: a pair is divided there, or a helper pair is added.
 pub fn no_end(
-    la: &mut [u16; PAIRS],
-    lb: &mut [u16; PAIRS],
-    ids: &mut [u16; PAIRS],
-    half: &mut [u16; PAIRS],
-    s1: &mut [u16; PAIRS],
-    s2: &mut [u16; PAIRS],
-    d1: &mut [u8; PAIRS],
-    d2: &mut [u8; PAIRS],
-    lo: &mut [u8; 32],
+    table: &mut Table,
+    notes: &mut Notes,
+    lines: &mut Lines,
     w: Work,
     line: usize,
     x: usize,
-    end: usize,
-) -> Work
-    requires { (w.n < pair_limit) × (w.next < last_pair) × (line < 32) × (x < 32) × (end < 256) × Low ids.old × (w.top < w.bottom)
-        × (w.bottom ≤ 31) }
-    ensures no_ends { NoEnds la.old lb.old ids.old half.old s1.old s2.old
-        d1.old d2.old lo.old w line x end
-        la.new lb.new ids.new half.new s1.new s2.new d1.new d2.new
-        lo.new result }
+) -> Option<Work>
+    requires { (w.n < pair_limit) × (w.next < last_pair) × (line < 32) × (x < 32) × Low table.old.number × (w.top < w.bottom) × (w.bottom ≤ 31) }
+    ensures no_ends { NoEnds table.old notes.old lines.old w line x
+        table.new notes.new lines.new result }
     ensures near { Near w result }
-    ensures low { Low ids.new }
+    ensures low { Low table.new.number }
+    ensures kept { VerticesKept notes.old lines.old notes.new lines.new }
 {
-    let n = w.n;
     let from = router_ends::word(line, x);
     let nul = from + 1;
     let bul = router_ends::below(from, w.up);
-    router_ends::shorten(lo, line, x);
-    let d = router_table::crossing(la, lb, n, x);
-    if d == w.bottom - w.top + 1 {
-        let i = router_table::least(la, lb, n, x, w.up);
-        if i == n {
-            return router_ends::halted(w);
+    router_ends::shorten(lines, line, x);
+    if router_table::crossing(table, w.n, x) == w.bottom - w.top + 1 {
+        let i = router_table::least(table, w.n, x, w.up);
+        if i == w.n {
+            return None;
         }
-        let c = long(la[i]) % 32;
-        return cut_row(la, lb, ids, half, s1, s2, d1, d2, w, i, x < c, nul, bul);
+        let c = usize::from(table.first[i]) % 32;
+        return Some(cut_row(table, notes, w, i, x < c, nul, bul));
     }
-    let e = router_table::leaving(la, lb, n, line);
-    if e + x == end + 1 {
-        let i = router_table::first_at(la, lb, nul, 0, n);
-        if i == n {
-            return router_ends::halted(w);
+    if router_table::leaving(table, w.n, line) + x == usize::from(lines.last[line]) + 1 {
+        let i = router_table::first_at(table, nul, 0, w.n);
+        if i == w.n {
+            return None;
         }
-        let a = la[i];
-        return cut_row(la, lb, ids, half, s1, s2, d1, d2, w, i, a == nul, nul, bul);
+        let a = table.first[i];
+        return Some(cut_row(table, notes, w, i, a == nul, nul, bul));
     }
-    router_table::add(la, lb, ids, n, w.next, nul, bul);
-    router_ends::counted(w, n + 1, w.next + 1)
+    router_table::add(table, w.n, w.next, nul, bul);
+    Some(Work {
+        n: w.n + 1,
+        next: w.next + 1,
+        ..w
+    })
 }

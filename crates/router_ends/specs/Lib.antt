@@ -1,4 +1,3 @@
 pub mod View
-pub mod Near
 pub mod Went
 pub mod Moved

@@ -1,54 +1,46 @@
--- The writes of each part of a step make the step.
+-- The writes of a step at a corner with two edges and two ends make the step.
 -- Assumes what the parts promise.
-use Rattle.std.specs.Prelude.{◌≡◌, Bool, true, false, cond, List, ℕ, ◌+◌, ◌*◌, ◌<◌, get_or, set, eqb}
+use Rattle.std.specs.Prelude.{◌≡◌, Bool, true, false, Some, None, ◌⊎◌, ℕ, ◌+◌, ◌*◌, ◌<◌}
 use Rattle.std.proofs.Common.{ap, ◌∙◌, sym, subst, inl, inr, arith}
-use Rattle.count.specs.TruthLaws.{bool}
+use mir.Val.{bool_byte}
+use Rattle.router_notes.specs.declared.Table.{Table}
+use Rattle.router_notes.specs.declared.Notes.{Notes}
+use Rattle.router_notes.specs.declared.Lines.{Lines}
 use Rattle.router_table.specs.Scans.{First, swap_d}
-use Rattle.router_table.specs.Writes.{Split}
+use Rattle.router_table.specs.Writes.{far_end, Split}
 use Rattle.router_invariant.specs.Run.{Run, line_r, col_r, ul_r, bul_w}
-use Rattle.router_invariant.specs.Ready.{up_n}
 use Rattle.router_invariant.proofs.Choice.{far_w}
 use Rattle.router_invariant.proofs.Step.{FirstR, split_two, no_second}
 use Rattle.router_ends.specs.declared.Work.{Work}
-use Rattle.router_ends.specs.View.{run, TwoEndsR, halted, counted}
+use Rattle.router_ends.specs.View.{run, shorter, TwoEnds}
+use Rattle.router_ends.specs.Moved.{up_is}
 
--- whichever of two rows is picked, it is one of the table
-pub picked_row : (b : Bool) (p i j n : ℕ) → p ≡ cond b i j → i < n → j < n → p < n
-picked_row true p i j n e hi hj = omega arith
-picked_row false p i j n e hi hj = omega arith
-
--- ── two ends ──
-module _ (la lb ids side vert half s1 s2 d1 d2 lo hi : List ℕ) (w : Work) (i line x from : ℕ) (li : i < w.n) (word : from ≡ line * 32 + x) where
+module _ (t : Table) (m : Notes) (l : Lines) (w : Work) (i line x from j : ℕ) (li : i < w.n) (word : from ≡ line * 32 + x)
+    (E : First t.first t.second from (i + 1) w.n j) where
   abbrev R : Run
-  R = run la lb ids side vert half s1 s2 d1 d2 lo hi w
+  R = run t m l w
 
-  found : (j : ℕ) → First la lb from (i + 1) w.n j → line ≡ line_r R → x ≡ col_r R → FirstR R (ul_r R) (i + 1) j
-  found j E el ex = subst (λ v. First la lb v (i + 1) w.n j) (word ∙ ap (λ l. l * 32 + x) el ∙ ap (λ c. line_r R * 32 + c) ex) E
+  found : line ≡ line_r R → x ≡ col_r R → FirstR R (ul_r R) (i + 1) j
+  found el ex = subst (λ v. First t.first t.second v (i + 1) w.n j) (word ∙ ap (λ l. l * 32 + x) el ∙ ap (λ c. line_r R * 32 + c) ex) E
 
-  pub two-stuck : (R' : Run) (r : Work) (j : ℕ) → r ≡ halted w → First la lb from (i + 1) w.n j → j ≡ w.n → TwoEndsR R R' line x i r.stuck
-  two-stuck R' r j er E e el ex wide deep F = inr (ap (λ (z : Work). z.stuck) er, no_second i j wide deep F li (found j E el ex) (omega arith))
+  pub no-second : j ≡ w.n → TwoEnds t m l w i line x t m l None
+  no-second e el ex wide deep F = no_second i j wide deep F li (found el ex) (omega arith)
 
-  module _ (j bul up s t : ℕ) (E : First la lb from (i + 1) w.n j) (ne : j ≡ w.n → ⊥) (eb : bul ≡ bul_w w.up from) (eu : up ≡ up_n w.up)
-      (es : s ≡ cond (eqb (get_or la i 0) from) (get_or lb i 0) (get_or la i 0)) (et : t ≡ cond (eqb (get_or la j 0) from) (get_or lb j 0) (get_or la j 0))
-      (la' lb' side' vert' lo' : List ℕ)
-      (elo : lo' ≡ set lo line (x + 1)) (r : Work) (er : r ≡ counted w w.n w.next) where
-    swap_is : (b : Bool) → swap_d s t line x ≡ b → line ≡ line_r R → x ≡ col_r R → swap_d (far_w R i) (far_w R j) (line_r R) (col_r R) ≡ b
-    swap_is b e el ex = rw (es, et, word, ex, el) at e
+  module _ (ne : j ≡ w.n → ⊥) (bul a b : ℕ) (eb : bul ≡ bul_w w.up from) (es : a ≡ far_end t i from) (et : b ≡ far_end t j from) where
+    swap_is : {o : Bool} → o ≡ swap_d a b line x → line ≡ line_r R → x ≡ col_r R → swap_d (far_w R i) (far_w R j) (line_r R) (col_r R) ≡ o
+    swap_is e el ex = rw (es, et, word, ex, el) at (sym e)
 
     -- row p goes right, and row q down
-    pub two-part : (b : Bool) → b ≡ swap_d s t line x → (p q : ℕ) → p ≡ cond b j i → q ≡ cond b i j
-        → Split la lb ids side vert p q (line * 32 + x) from (from + 1) bul up la' lb' side' vert'
-        → TwoEndsR R (run la' lb' ids side' vert' half s1 s2 d1 d2 lo' hi r) line x i r.stuck
-    two-part b sw p q ep eq P el ex wide deep F = inl (
-      ap (λ (z : Work). z.stuck) er,
-      split_two i j wide deep F li (found j E el ex) (omega (arith, E.most, ne)) (elim (bool b) [
-        | inl h ↦ inr (
-          swap_is true (sym sw ∙ h) el ex,
-          rw (er, P.a_is, P.b_is, P.side_is, P.vert_is, ep, eq, h, elo, eb, eu, word, ex, el),
-        )
-        | inr h ↦ inl (
-          swap_is false (sym sw ∙ h) el ex,
-          rw (er, P.a_is, P.b_is, P.side_is, P.vert_is, ep, eq, h, elo, eb, eu, word, ex, el),
-        )
-      ]),
-    )
+    pub parts : (o : Bool) (p q : ℕ) → o ≡ swap_d a b line x → ((o ≡ true) × (p ≡ j) × (q ≡ i)) ⊎ ((o ≡ false) × (p ≡ i) × (q ≡ j))
+        → {t' : Table} {m' : Notes} {l' : Lines} → Split t m p q (line * 32 + x) from (from + 1) bul (bool_byte w.up) t' m' → l' ≡ shorter l line x
+        → TwoEnds t m l w i line x t' m' l' (Some w)
+    parts o p q sw (inl h) P elo el ex wide deep F =
+        split_two i j wide deep F li (found el ex) (omega (arith, E.most, ne)) (inr (
+          swap_is sw el ex ∙ h.0,
+          rw (P.table_is, P.notes_are, h.1, h.2, elo, eb, up_is w.up, word, ex, el),
+        ))
+    parts o p q sw (inr h) P elo el ex wide deep F =
+        split_two i j wide deep F li (found el ex) (omega (arith, E.most, ne)) (inl (
+          swap_is sw el ex ∙ h.0,
+          rw (P.table_is, P.notes_are, h.1, h.2, elo, eb, up_is w.up, word, ex, el),
+        ))

@@ -4,6 +4,9 @@ use Rattle.std.specs.Prelude.{◌≡◌, Bool, true, List, ℕ, ◌<◌}
 use Rattle.std.proofs.Common.{inl, inr}
 use Rattle.router_notes.specs.State.{State, Routes}
 use Rattle.router_notes.specs.Arrays.{notesOf, born}
+use Rattle.router_notes.specs.declared.Table.{Table}
+use Rattle.router_notes.specs.declared.Notes.{Notes}
+use Rattle.router_notes.specs.declared.Lines.{Lines}
 use Rattle.router_trace.specs.Directions.{Ordered}
 use Rattle.router_invariant.specs.Run.{Run, Holds, Sized, state_r}
 use Rattle.router_tidy.specs.Start.{Starts, start_holds, routed_end}
@@ -26,17 +29,16 @@ ordered_of s0 R H = record {
   second = H.second;
 }
 
-pub routed : (la lb ids side vert half s1 s2 d1 d2 lo hi : List ℕ) (w : Work) (la' lb' ids' side' vert' half' s1' s2' d1' d2' lo' : List ℕ) (r : Bool)
-    → CutAll la lb ids side vert half s1 s2 d1 d2 lo hi w la' lb' ids' side' vert' half' s1' s2' d1' d2' lo' r
-    → Starts (run la lb ids side vert half s1 s2 d1 d2 lo hi w) → Sized (run la lb ids side vert half s1 s2 d1 d2 lo hi w)
-    → (r ≡ true) × Routed (state_r (run la lb ids side vert half s1 s2 d1 d2 lo hi w)) side' vert' half' s1' s2' d1' d2'
-routed la lb ids side vert half s1 s2 d1 d2 lo hi w la' lb' ids' side' vert' half' s1' s2' d1' d2' lo' r C S Z =
-    let R = run la lb ids side vert half s1 s2 d1 d2 lo hi w in
+pub routed : (t : Table) (m : Notes) (l : Lines) (w : Work) (t' : Table) (m' : Notes) (l' : Lines) (r : Bool) → CutAll t m l w t' m' l' r
+    → Starts (run t m l w) → Sized (run t m l w)
+    → (r ≡ true) × Routed (state_r (run t m l w)) m'.side m'.vert m'.half m'.start m'.end m'.to_corner m'.from_corner
+routed t m l w t' m' l' r C S Z =
+    let R = run t m l w in
     let k = C (state_r R) (start_holds R S) Z in (
       k.0,
       record {
-        routes = routed_end (state_r R) (run la' lb' ids' side' vert' half' s1' s2' d1' d2' lo' hi k.1) k.3 k.2;
+        routes = routed_end (state_r R) (run t' m' l' k.1) k.3 k.2;
         made = k.3.made;
-        ordered = ordered_of (state_r R) (run la' lb' ids' side' vert' half' s1' s2' d1' d2' lo' hi k.1) k.3;
+        ordered = ordered_of (state_r R) (run t' m' l' k.1) k.3;
       },
     )

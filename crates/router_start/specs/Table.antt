@@ -1,15 +1,16 @@
 -- Definitions only: the table of pairs. Row i has the ends of pair i as words, and the number i; each pair is noted with the ends that it was made
 -- with. Nothing is proved here.
-use Rattle.std.specs.Prelude.{◌≡◌, List, map, ℕ, ◌+◌, ◌*◌, ◌<◌, length, get_or, set}
+use Rattle.std.specs.Prelude.{◌≡◌, List, map, ℕ, ◌+◌, ◌*◌, ◌<◌, length, get_or, set, None, Some}
 use Rattle.count.specs.Lists.{rising, up_to}
 use Rattle.board.specs.Board.{at}
 use Rattle.board.specs.declared.Vertex.{Vertex}
 use Rattle.net.specs.declared.Pair.{Pair}
-use Rattle.net.specs.declared.Held.{Held}
-use Rattle.net.specs.declared.Held.TheVariants.{Nothing, Ends}
+use Rattle.router_notes.specs.declared.Table as code
+use Rattle.router_notes.specs.declared.Notes.{Notes}
 use Rattle.router_notes.specs.Limits.{pair_limit}
 use Rattle.router_ends.specs.View.{Low}
 use Rattle.router_start.specs.Front.{in_front, put_from}
+use Rattle.net.specs.View.{Held}
 
 abbrev pub word_of : Vertex → ℕ
 word_of v = v.line * 32 + v.column
@@ -71,5 +72,26 @@ pub record Row (p : Pair) (k : ℕ) (la lb ids s1 s2 la' lb' ids' s1' s2' : List
 
 -- what a place holds comes in as row k, and r is the next row
 abbrev pub TakesIn : Held → (k : ℕ) (la lb ids s1 s2 : List ℕ) (r : ℕ) (la' lb' ids' s1' s2' : List ℕ) → Type 0
-TakesIn Nothing k la lb ids s1 s2 r la' lb' ids' s1' s2' = (r ≡ k) × (la' ≡ la) × (lb' ≡ lb) × (ids' ≡ ids) × (s1' ≡ s1) × (s2' ≡ s2)
-TakesIn (Ends p) k la lb ids s1 s2 r la' lb' ids' s1' s2' = (r ≡ k + 1) × Row p k la lb ids s1 s2 la' lb' ids' s1' s2'
+TakesIn None k la lb ids s1 s2 r la' lb' ids' s1' s2' = (r ≡ k) × (la' ≡ la) × (lb' ≡ lb) × (ids' ≡ ids) × (s1' ≡ s1) × (s2' ≡ s2)
+TakesIn (Some p) k la lb ids s1 s2 r la' lb' ids' s1' s2' = (r ≡ k + 1) × Row p k la lb ids s1 s2 la' lb' ids' s1' s2'
+
+-- ── the same in the router's table and notes, whose other notes are as they were ──
+abbrev pub StartsKept : (m m' : Notes) → Type 0
+StartsKept m m' = (m'.side ≡ m.side) × (m'.vert ≡ m.vert) × (m'.half ≡ m.half) × (m'.to_corner ≡ m.to_corner) × (m'.from_corner ≡ m.from_corner)
+
+abbrev pub Emptied : (t : code.Table) (m : Notes) → Type 0
+Emptied t m = Clear t.first t.second t.number m.start m.end
+
+abbrev pub RowIn : Pair → (k : ℕ) (t : code.Table) (m : Notes) (t' : code.Table) (m' : Notes) → Type 0
+RowIn p k t m t' m' = Row p k t.first t.second t.number m.start m.end t'.first t'.second t'.number m'.start m'.end × StartsKept m m'
+
+abbrev pub PlaceIn : Held → (k : ℕ) (t : code.Table) (m : Notes) (r : ℕ) (t' : code.Table) (m' : Notes) → Type 0
+PlaceIn h k t m r t' m' =
+    TakesIn h k t.first t.second t.number m.start m.end r t'.first t'.second t'.number m'.start m'.end × StartsKept m m'
+
+abbrev pub FillsIn : List Pair → (n : ℕ) (t : code.Table) (m : Notes) (t' : code.Table) (m' : Notes) → Type 0
+FillsIn ps n t m t' m' = Fills ps n t.first t.second t.number m.start m.end t'.first t'.second t'.number m'.start m'.end × StartsKept m m'
+
+abbrev pub PutsIn : List Pair → (k : ℕ) (t : code.Table) (m : Notes) (r : ℕ) (t' : code.Table) (m' : Notes) → Type 0
+PutsIn hs k t m r t' m' =
+    PutsOn hs k t.first t.second t.number m.start m.end r t'.first t'.second t'.number m'.start m'.end × StartsKept m m'

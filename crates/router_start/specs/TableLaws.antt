@@ -1,21 +1,23 @@
 -- The table of pairs is filled row by row from what the places hold; and a table that is filled has the pairs' rows.
 -- Assumes arrays with room.
-use Rattle.std.specs.Prelude.{◌≡◌, refl, List, [], ◌∷◌, ◌++◌, map, ℕ, zero, suc, ◌+◌, ◌≤◌, ◌<◌, length, get_or, set, take}
+use Rattle.std.specs.Prelude.{◌≡◌, refl, List, [], ◌∷◌, ◌++◌, map, ℕ, zero, suc, ◌+◌, ◌≤◌, ◌<◌, length, get_or, set, take, None, Some}
 use Rattle.std.proofs.Common.{ap, ◌∙◌, sym, subst, append-nil, append_assoc, inl, inr, arith, add-one, length-append, length-take-le, take-suc}
 use Rattle.std.proofs.lemmas.List.{map-append, length-map}
 use Rattle.std.proofs.Math.ListN.{get_or-map}
 use Rattle.count.specs.TruthLaws.{le_or_lt}
 use Rattle.count.specs.Lists.{rising, up_to}
-use Rattle.net.specs.View.{nothing, held_then, pairs_of}
+use Rattle.net.specs.View.{Held, nothing, held_then, pairs_of}
 use Rattle.net.specs.declared.Pair.{Pair}
-use Rattle.net.specs.declared.Held.{Held}
-use Rattle.net.specs.declared.Held.TheVariants.{Nothing, Ends}
-use Rattle.net.specs.declared.Place.{Place}
+use Rattle.router_notes.specs.declared.Notes.{Notes}
 use Rattle.router_notes.specs.Limits.{pair_limit}
 use Rattle.router_ends.specs.View.{Low}
 use Rattle.router_start.specs.Front.{in_front, put_from}
 use Rattle.router_start.specs.FrontLaws.{front-size, front-get, front-past, front-more}
-use Rattle.router_start.specs.Table.{first_word, second_word, no_pair, Clear, Table, Fills, PutsOn, Row, TakesIn}
+use Rattle.router_start.specs.Table.{first_word, second_word, no_pair, Clear, Table, Fills, PutsOn, Row, TakesIn, StartsKept}
+
+-- what two writers keep, both keep
+pub kept_on : (m m' m'' : Notes) → StartsKept m m' → StartsKept m' m'' → StartsKept m m''
+kept_on m m' m'' a b = (b.0 ∙ a.0, b.1 ∙ a.1, b.2 ∙ a.2, b.3 ∙ a.3, b.4 ∙ a.4)
 
 -- ── the columns of a table ──
 -- the next pair's word
@@ -62,7 +64,7 @@ module _ {la₀ lb₀ ids₀ s1₀ s2₀ : List ℕ} (C : Clear la₀ lb₀ ids�
 
   pub fills-place : (h : Held) {r : ℕ} → TakesIn h k la lb ids s1 s2 r la' lb' ids' s1' s2'
       → Fills (ps ++ held_then h []) r la₀ lb₀ ids₀ s1₀ s2₀ la' lb' ids' s1' s2'
-  fills-place Nothing t = rw (append-nil ps, t.0) (record {
+  fills-place None t = rw (append-nil ps, t.0) (record {
     count = F.count;
     la_is = t.1 ∙ F.la_is;
     lb_is = t.2 ∙ F.lb_is;
@@ -70,32 +72,32 @@ module _ {la₀ lb₀ ids₀ s1₀ s2₀ : List ℕ} (C : Clear la₀ lb₀ ids�
     s1_is = t.4 ∙ F.s1_is;
     s2_is = t.5 ∙ F.s2_is;
   })
-  fills-place (Ends p) t = rw t.0 (fills-row p t.1)
+  fills-place (Some p) t = rw t.0 (fills-row p t.1)
 
 -- ── a loop over the places ──
 then_append : (h : Held) (ps qs : List Pair) → held_then h (ps ++ qs) ≡ held_then h ps ++ qs
-then_append Nothing ps qs = refl
-then_append (Ends p) ps qs = refl
+then_append None ps qs = refl
+then_append (Some p) ps qs = refl
 
-pub pairs_more : (nets : List Place) (i : ℕ) → i < length nets
-    → pairs_of (take (i + 1) nets) ≡ pairs_of (take i nets) ++ held_then (get_or nets i nothing).held []
+pub pairs_more : (nets : List Held) (i : ℕ) → i < length nets
+    → pairs_of (take (i + 1) nets) ≡ pairs_of (take i nets) ++ held_then (get_or nets i nothing) []
 unfolding pairs_of
 pairs_more [] i h = absurd (omega arith)
 pairs_more (p ∷ nets) zero h = refl
-pairs_more (p ∷ nets) (suc i) h = rw add-one (ap (held_then p.held) (rw add-one at (pairs_more nets i (omega arith)))
-    ∙ then_append p.held (pairs_of (take i nets)) (held_then (get_or nets i nothing).held []))
+pairs_more (p ∷ nets) (suc i) h = rw add-one (ap (held_then p) (rw add-one at (pairs_more nets i (omega arith)))
+    ∙ then_append p (pairs_of (take i nets)) (held_then (get_or nets i nothing) []))
 
 then_few : (h : Held) (ps : List Pair) (i : ℕ) → length ps ≤ i → length (held_then h ps) ≤ suc i
-then_few Nothing ps i l = omega arith
-then_few (Ends e) ps i l = omega arith
+then_few None ps i l = omega arith
+then_few (Some e) ps i l = omega arith
 
-pub pairs_few : (nets : List Place) (i : ℕ) → length (pairs_of (take i nets)) ≤ i
+pub pairs_few : (nets : List Held) (i : ℕ) → length (pairs_of (take i nets)) ≤ i
 unfolding pairs_of
 pairs_few nets zero = omega arith
 pairs_few [] (suc i) = omega arith
-pairs_few (p ∷ nets) (suc i) = then_few p.held (pairs_of (take i nets)) i (pairs_few nets i)
+pairs_few (p ∷ nets) (suc i) = then_few p (pairs_of (take i nets)) i (pairs_few nets i)
 
-pub fills_none : (nets : List Place) (la lb ids s1 s2 : List ℕ) → Fills (pairs_of (take 0 nets)) 0 la lb ids s1 s2 la lb ids s1 s2
+pub fills_none : (nets : List Held) (la lb ids s1 s2 : List ℕ) → Fills (pairs_of (take 0 nets)) 0 la lb ids s1 s2 la lb ids s1 s2
 unfolding pairs_of
 fills_none nets la lb ids s1 s2 = record { count = refl; la_is = refl; lb_is = refl; ids_is = refl; s1_is = refl; s2_is = refl }
 

@@ -1,2 +1,1 @@
 pub mod Stepped
-pub mod Stepping

@@ -1,4 +1,3 @@
 pub mod Scans
 pub mod ScanLaws
 pub mod Writes
-pub mod WriteLaws

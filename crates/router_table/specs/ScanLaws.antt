@@ -1,7 +1,9 @@
 -- One row more: what each scan knows after the next row.
 -- Assumes nothing.
-use Rattle.std.specs.Prelude.{◌≡◌, refl, Bool, List, ◌⊎◌, ℕ, ◌+◌, ◌/◌, ◌%◌, ◌≤◌, ◌<◌, get_or, eqb, leb}
+use Rattle.std.specs.Prelude.{◌≡◌, refl, Bool, true, false, List, ◌⊎◌, ℕ, ◌+◌, ◌/◌, ◌%◌, ◌≤◌, ◌<◌, get_or, eqb, leb}
 use Rattle.std.proofs.Common.{ap, ◌∙◌, sym, inl, inr, arith, add-one}
+use mathlib.Core.Bool.{not, beq}
+use mir.Val.{bool_byte}
 use Rattle.count.specs.Bits.{eq_case}
 use Rattle.count.specs.Sum.{sum_suc, sum_zero}
 use Rattle.corner.specs.Pairs.{apart}
@@ -12,6 +14,13 @@ clear_more la lb v from i h a b k l m = elim (eq_case k i) [
   | inl e ↦ rw e.2 (a, b)
   | inr e ↦ h k l (omega (arith, e.2))
 ]
+
+-- two tests that answer differently
+pub apart_is : {r : ℕ} (a b : Bool) → r ≡ bool_byte (not (beq a b)) → (r ≡ apart a b) × (r ≤ 1)
+apart_is true true e = (e, omega arith)
+apart_is true false e = (e, omega arith)
+apart_is false true e = (e, omega arith)
+apart_is false false e = (e, omega arith)
 
 pub cross_none : (la lb : List ℕ) (x : ℕ) → cross_d la lb x 0 ≡ 0
 unfolding cross_d

@@ -1,15 +1,16 @@
 -- Definitions only: what dropping trivial pairs leaves. Nothing is proved here.
-use Rattle.std.specs.Prelude.{◌≡◌, List, ℕ, ◌<◌, get_or}
+use Rattle.std.specs.Prelude.{◌≡◌, ℕ, ◌<◌, get_or}
 use Rattle.router_notes.specs.Limits.{pair_limit}
 use Rattle.router_notes.specs.State.{State}
+use Rattle.router_notes.specs.declared.Table.{Table}
 use Rattle.router_invariant.specs.Run.{Run, Holds, Sized}
 
 -- the run with another table of n rows
-abbrev pub table_r : Run → (la lb ids : List ℕ) (n : ℕ) → Run
-table_r R la lb ids n = record {
-  la = la;
-  lb = lb;
-  ids = ids;
+abbrev pub table_r : Run → (t : Table) (n : ℕ) → Run
+table_r R t n = record {
+  la = t.first;
+  lb = t.second;
+  ids = t.number;
   side = R.side;
   vert = R.vert;
   half = R.half;
@@ -27,8 +28,7 @@ table_r R la lb ids n = record {
 }
 
 -- the invariant is kept, whatever the start was, numbers stay low, and no row of 0 .. i - 1 is trivial
-pub record Tidied (la lb ids : List ℕ) (n : ℕ) (la' lb' ids' : List ℕ) (m i : ℕ) : Type 0 where
-  pub keeps : (s0 : State) (R : Run) → Holds s0 (table_r R la lb ids n) × Sized (table_r R la lb ids n)
-      → Holds s0 (table_r R la' lb' ids' m) × Sized (table_r R la' lb' ids' m)
-  pub low : ((k : ℕ) → get_or ids k 0 < pair_limit) → (k : ℕ) → get_or ids' k 0 < pair_limit
-  pub proper : (k : ℕ) → k < i → get_or la' k 0 ≡ get_or lb' k 0 → ⊥
+pub record Tidied (t : Table) (n : ℕ) (t' : Table) (m i : ℕ) : Type 0 where
+  pub keeps : (s0 : State) (R : Run) → Holds s0 (table_r R t n) × Sized (table_r R t n) → Holds s0 (table_r R t' m) × Sized (table_r R t' m)
+  pub low : ((k : ℕ) → get_or t.number k 0 < pair_limit) → (k : ℕ) → get_or t'.number k 0 < pair_limit
+  pub proper : (k : ℕ) → k < i → get_or t'.first k 0 ≡ get_or t'.second k 0 → ⊥

@@ -1,24 +1,24 @@
 // Between two corner steps: trivial pairs are dropped.
 #![tactic(auto)]
 
-ghost use Rattle.std.specs.Prelude.{◌≡◌, ◌≤◌};
+ghost use Rattle.std.specs.Prelude.{◌≤◌};
 ghost use Rattle.router_notes.specs.Limits.{pair_limit};
 ghost use Rattle.router_tidy.specs.Tidy.{Tidied};
 
-use router_notes::PAIRS;
+use router_notes::Table;
 
 // Trivial pairs are dropped; the last row takes the place of one. The count of rows that are left.
-pub fn tidy(la: &mut [u16; PAIRS], lb: &mut [u16; PAIRS], ids: &mut [u16; PAIRS], n: usize) -> usize
+pub fn tidy(table: &mut Table, n: usize) -> usize
     requires { n ≤ pair_limit }
     ensures upper_bound { result ≤ n }
-    ensures tidied { Tidied la.old lb.old ids.old n la.new lb.new ids.new result result }
+    ensures tidied { Tidied table.old n table.new result result }
 {
     let mut i: usize = 0;
     let mut m = n;
     while i < m {
-        if la[i] == lb[i] {
+        if table.first[i] == table.second[i] {
             m -= 1;
-            router_table::drop_row(la, lb, ids, i, m);
+            router_table::drop_row(table, i, m);
         } else {
             i += 1;
         }

@@ -3,6 +3,7 @@
 use Rattle.std.specs.Prelude.{cond, List, [], ◌∷◌, ◌++◌, ℕ, zero, suc, ◌+◌, ◌/◌, ◌%◌, ltb, eqb, get_or}
 use Rattle.router_notes.specs.Limits.{last_pair, path_limit}
 use Rattle.router_notes.specs.Arrays.{hop_d}
+use Rattle.router_notes.specs.declared.Notes.{Notes}
 use Rattle.router_trace.specs.Hops.{line_d, column_d, opp_d}
 
 -- the moves of pair k's end that stands at line l and column c
@@ -31,3 +32,7 @@ path_d side vert half s1 s2 d1 d2 (suc f) k =
     ++ (get_or d1 k 0 ∷ get_or d2 k 0 ∷ path_d side vert half s1 s2 d1 d2 f (get_or half k 0 + 1)))
     [])
     ++ back_d side vert k path_limit (get_or s2 k 0 / 32) (get_or s2 k 0 % 32))
+
+-- the path of pair k
+abbrev pub path_of : Notes → (later : ℕ) → ℕ → List ℕ
+path_of m later = path_d m.side m.vert m.half m.start m.end m.to_corner m.from_corner later

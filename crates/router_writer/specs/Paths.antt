@@ -1,14 +1,13 @@
 -- Definitions only: the paths that bytes give to the nets in rising number, and the words of what a place holds. Nothing is proved here.
 -- P k are the bytes of the path of pair k; the nets are the pairs 0, 1, .. in rising number.
-use Rattle.std.specs.Prelude.{List, [], ◌∷◌, ℕ, zero, suc, ◌≤◌, ◌<◌, length}
+use Rattle.std.specs.Prelude.{List, [], ◌∷◌, ℕ, zero, suc, ◌≤◌, ◌<◌, length, None, Some}
 use Rattle.board.specs.declared.Direction.{Direction}
 use Rattle.net.specs.declared.Net.{Net}
-use Rattle.net.specs.declared.Held.{Held}
-use Rattle.net.specs.declared.Held.TheVariants.{Nothing, Ends}
 use Rattle.net_places.specs.Places.{net}
 use Rattle.words.specs.RoutingWord.{path_words, routing_words}
 use Rattle.router_notes.specs.Limits.{path_limit}
 use Rattle.router_writer.specs.Written.{directions}
+use Rattle.net.specs.View.{Held}
 
 -- the paths of n pairs from k on
 unfoldable pub paths_from : (P : ℕ → List ℕ) (k n : ℕ) → List (List Direction)
@@ -30,10 +29,10 @@ pub record Fits (P : ℕ → List ℕ) (nets : List Net) (out : List ℕ) : Type
 
 -- the words of the net that a place of this number holds, with the path w
 abbrev pub held_words : (number : ℕ) → Held → (w : List ℕ) → List ℕ
-held_words number Nothing w = []
-held_words number (Ends e) w = path_words (net number e) (directions w)
+held_words number None w = []
+held_words number (Some e) w = path_words (net number e) (directions w)
 
 -- and that path fits
 abbrev pub HeldShort : Held → (w : List ℕ) → Type 0
-HeldShort Nothing w = Unit {0}
-HeldShort (Ends e) w = length w ≤ path_limit
+HeldShort None w = Unit {0}
+HeldShort (Some e) w = length w ≤ path_limit

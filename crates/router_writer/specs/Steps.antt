@@ -1,12 +1,13 @@
 -- Runs of a path, step by step: steps in one direction before a step in another, or before the end, are one run.
 -- Assumes nothing.
-use Rattle.std.specs.Prelude.{◌≡◌, Bool, true, false, cond, eqb, get_or}
+use Rattle.std.specs.Prelude.{◌≡◌, Bool, true, false, cond, eqb, min, get_or}
 use Rattle.std.proofs.Math.Path.{refl}
-use Rattle.std.proofs.Common.{ap, sym, ◌∙◌, add-one, drop-cons, eq-eqb, ne_eqb}
+use Rattle.std.proofs.Common.{ap, inl, inr, sym, ◌∙◌, add-one, drop-cons, eq-eqb, ne_eqb}
 use mathlib.Core.List.{List, [], ◌∷◌}
 use Prim.Native.Nat.{ℕ, zero, suc, ◌+◌, ◌<◌, ◌≤◌}
 use native.Mathlib.Omega.{arith}
 use Rattle.std.proofs.Math.ListN.{drop, length, drop_of_length-le}
+use Rattle.count.specs.TruthLaws.{le_or_lt}
 use Rattle.board.specs.Path.{number}
 use Rattle.board.specs.declared.Direction.{Direction}
 use Rattle.board.specs.declared.Direction.TheVariants.{Up, Right, Down, Left}
@@ -15,14 +16,17 @@ use Rattle.words.specs.declared.Run.{Run}
 use Rattle.router_writer.specs.Written.{directions, RunAt}
 
 -- ── the number of a byte's direction ──
-pub code_small : (b : ℕ) → b < 3 → b ≡ number (direction b)
+code_small : (b : ℕ) → b < 3 → b ≡ number (direction b)
 code_small zero h = refl
 code_small (suc zero) h = refl
 code_small (suc (suc zero)) h = refl
 code_small (suc (suc (suc b))) h = absurd (omega arith)
 
-pub code_large : (b : ℕ) → 3 ≤ b → 3 ≡ number (direction b)
+code_large : (b : ℕ) → 3 ≤ b → 3 ≡ number (direction b)
 code_large b h = rw (ne_eqb b 0 (λ e. omega arith), ne_eqb b 1 (λ e. omega arith), ne_eqb b 2 (λ e. omega arith)) refl
+
+pub code_is : (b : ℕ) → min b 3 ≡ number (direction b)
+code_is b = elim (le_or_lt 3 b) [ inl h ↦ omega (arith, h, code_large b h) | inr h ↦ omega (arith, h, code_small b h) ]
 
 same_number : (d e : Direction) → number d ≡ number e → d ≡ e
 same_number Up Up h = refl

@@ -1,6 +1,6 @@
 -- The words of a routing, place by place: what the buffer holds after so many of the 64 places, and once the end word is there.
 -- Assumes nothing.
-use Rattle.std.specs.Prelude.{◌≡◌, ℕ, suc, ◌+◌, ◌-◌, ◌*◌, ◌<◌, ◌≤◌, get_or, set}
+use Rattle.std.specs.Prelude.{◌≡◌, ℕ, suc, ◌+◌, ◌-◌, ◌*◌, ◌<◌, ◌≤◌, get_or, set, None, Some}
 use Rattle.std.proofs.Math.Path.{refl, ap}
 use Rattle.std.proofs.Common.{sym, ◌∙◌, length-append, length-take, drop-cons, length-take-le}
 use mathlib.Core.List.{List, [], ◌∷◌, ◌++◌}
@@ -8,11 +8,8 @@ use native.Mathlib.Omega.{arith}
 use Rattle.std.proofs.Math.Numerals.{add-one}
 use Rattle.std.proofs.Math.ListN.{take, drop, length, length-drop, drop_of_length-le}
 use Rattle.std.proofs.Math.Seq.{take_all}
-use Rattle.net.specs.View.{nothing}
+use Rattle.net.specs.View.{Held, nothing}
 use Rattle.net.specs.declared.Net.{Net}
-use Rattle.net.specs.declared.Held.{Held}
-use Rattle.net.specs.declared.Held.TheVariants.{Nothing, Ends}
-use Rattle.net.specs.declared.Place.{Place}
 use Rattle.net_places.specs.Places.{held_net, nets_from, nets_of, held_one}
 use Rattle.words.specs.RoutingWord.{paths_words, routing_words, routing_end_word}
 use Rattle.router_notes.specs.Limits.{path_limit}
@@ -29,18 +26,18 @@ module _ (P : ℕ → List ℕ) where
   held-words : (number k : ℕ) (h : Held) (ns : List Net)
       → wordsFrom k (held_net number h ns) ≡ held_words number h (P k) ++ wordsFrom (k + held_one h) ns
   unfolding paths_words paths_from
-  held-words number k Nothing ns = let e : k + 0 ≡ k = omega arith in rw e refl
-  held-words number k (Ends p) ns = rw (add-one k) refl
+  held-words number k None ns = let e : k + 0 ≡ k = omega arith in rw e refl
+  held-words number k (Some p) ns = rw (add-one k) refl
 
   held-count : (number k : ℕ) (h : Held) (ns : List Net) → k + length (held_net number h ns) ≡ (k + held_one h) + length ns
-  held-count number k Nothing ns = omega arith
-  held-count number k (Ends p) ns = omega arith
+  held-count number k None ns = omega arith
+  held-count number k (Some p) ns = omega arith
 
   held-short : (number k total : ℕ) (h : Held) (ns : List Net) → k + length (held_net number h ns) ≡ total → Short P total → HeldShort h (P k)
-  held-short number k total Nothing ns e s = tt
-  held-short number k total (Ends p) ns e s = s k (omega arith)
+  held-short number k total None ns e s = tt
+  held-short number k total (Some p) ns e s = s k (omega arith)
 
-module _ (P : ℕ → List ℕ) (nets : List Place) where
+module _ (P : ℕ → List ℕ) (nets : List Held) where
   -- DEFINITION: the nets from place i on, and the words of them all
   abbrev pub Rest : ℕ → List Net
   Rest i = nets_from (i + 1) (drop i nets)
@@ -71,17 +68,17 @@ module _ (P : ℕ → List ℕ) (nets : List Place) where
     done = λ s. record { inside = omega arith; rest = refl; text = λ h. refl };
   }
 
-  rest-step : (i : ℕ) → i < length nets → Rest i ≡ held_net (i + 1) (get_or nets i nothing).held (Rest (i + 1))
+  rest-step : (i : ℕ) → i < length nets → Rest i ≡ held_net (i + 1) (get_or nets i nothing) (Rest (i + 1))
   unfolding nets_from
   rest-step i h = rw (drop-cons nets i nothing h, add-one i, add-one (suc i)) refl
 
   -- the next place: the part of the buffer from `start` on was lent, and `last` came back
   module _ (before out last : List ℕ) (at k i start r : ℕ) (there : i < length nets) (t : Through before at k i out) (low : start ≤ length out)
       (met : at ≤ length out → start ≡ at) (most : r ≤ path_limit + 1) (kept : length last ≡ length (take (length out - start) (drop start out)))
-      (wrote : HeldShort (get_or nets i nothing).held (P k)
-      → Written (held_words (i + 1) (get_or nets i nothing).held (P k)) (take (length out - start) (drop start out)) r last) where
+      (wrote : HeldShort (get_or nets i nothing) (P k)
+      → Written (held_words (i + 1) (get_or nets i nothing) (P k)) (take (length out - start) (drop start out)) r last) where
     abbrev h : Held
-    h = (get_or nets i nothing).held
+    h = (get_or nets i nothing)
 
     abbrev ws : List ℕ
     ws = held_words (i + 1) h (P k)
@@ -93,8 +90,8 @@ module _ (P : ℕ → List ℕ) (nets : List Place) where
     ids_next = sym (held-count P (i + 1) k h (Rest (i + 1))) ∙ (sym (ap (λ (ns : List Net). k + length ns) (rest-step i there)) ∙ t.ids)
 
     one_at_most : (x : Held) → held_one x ≤ 1
-    one_at_most Nothing = omega arith
-    one_at_most (Ends p) = omega arith
+    one_at_most None = omega arith
+    one_at_most (Some p) = omega arith
 
     length-after : length after ≡ length out
     length-after = simp (length-append, kept, length-take, length-drop) (omega arith)

@@ -5,22 +5,22 @@ ghost use Rattle.std.specs.Prelude.{◌≡◌, ◌+◌, ◌≤◌, ◌<◌, leng
 ghost use Rattle.board.specs.Path.{number};
 ghost use Rattle.words.specs.RoutingWord.{direction, path_words};
 ghost use Rattle.call_rules.specs.Writing.{written_into};
-ghost use Rattle.net_places.specs.Places.{nets_of, held_one};
+ghost use Rattle.net_places.specs.Places.{nets_of};
 ghost use Rattle.router_notes.specs.Limits.{pair_limit, path_limit};
-ghost use Rattle.router_trace.specs.Traces.{path_d};
+ghost use Rattle.router_trace.specs.Traces.{path_of};
 ghost use Rattle.router_writer.specs.Written.{directions, RunAt, Written};
 ghost use Rattle.router_writer.specs.Paths.{words_of, Fits, held_words, HeldShort};
 
-use net::{Held, Net, Place};
-use numbers::{as_word, least};
-use router_notes::{PAIRS, STEPS, VERTICES};
+use net::{Net, Place};
+use router_notes::{Notes, PAIRS, STEPS};
 use words::Path;
 
 // The number of the direction that a byte stands for: past 3 it is left.
+#[tactic(auto, using(crate::specs::Steps::code_is))]
 fn code_of(b: u8) -> u8
     ensures { result ≡ number (direction b) }
 {
-    if b < 3 { b } else { 3 }
+    b.min(3)
 }
 
 // Stores a word, where there is room.
@@ -38,14 +38,12 @@ fn run_length(dirs: &[u8], from: usize) -> usize
     ensures { RunAt dirs.now from result }
 {
     let d = code_of(dirs[from]);
-    let mut n: usize = 1;
-    while n < dirs.len() - from {
+    for n in 1..dirs.len() - from {
         if code_of(dirs[from + n]) != d {
             return n;
         }
-        n += 1;
     }
-    n
+    dirs.len() - from
 }
 
 // Writes a net's path word and the run words of its directions at the start of a buffer, and answers how many words that is.
@@ -57,7 +55,7 @@ fn write_path(out: &mut [u32], net: Net, dirs: &[u8]) -> usize
     let mut from: usize = 0;
     while from < dirs.len() {
         let n = run_length(dirs, from);
-        let d = words::direction_of(as_word(dirs[from]));
+        let d = words::direction_of(u32::from(dirs[from]));
         put(out, runs + 1, words::run_word(d, n as u16));
         runs += 1;
         from += n;
@@ -70,120 +68,49 @@ fn write_path(out: &mut [u32], net: Net, dirs: &[u8]) -> usize
     runs + 1
 }
 
-// The number of the net at place i.
-fn number_at(i: usize) -> u8
-    requires { i < 64 }
-    ensures { result ≡ i + 1 }
-{
-    (i + 1) as u8
-}
-
 // Writes the words of a net, whose path is that of pair k.
-fn write_net(
-    side: &[u16; VERTICES],
-    vert: &[u16; VERTICES],
-    half: &[u16; PAIRS],
-    s1: &[u16; PAIRS],
-    s2: &[u16; PAIRS],
-    d1: &[u8; PAIRS],
-    d2: &[u8; PAIRS],
-    k: usize,
-    net: Net,
-    out: &mut [u32],
-) -> usize
+fn write_net(notes: &Notes, k: usize, net: Net, out: &mut [u32]) -> usize
     requires { k < pair_limit }
     ensures upper_bound { result ≤ path_limit + 1 }
-    ensures written { length (path_d side.now vert.now half.now s1.now s2.now d1.now
-        d2.now pair_limit k) ≤ path_limit → Written (path_words net
-        (directions (path_d side.now vert.now half.now s1.now s2.now d1.now
-        d2.now pair_limit k))) out.old result out.new }
+    ensures written { length (path_of notes.now pair_limit k) ≤ path_limit
+        → Written (path_words net (directions (path_of notes.now pair_limit k))) out.old result out.new }
 {
     let mut dirs = [0u8; STEPS];
-    let end = router_trace::assemble(side, vert, half, s1, s2, d1, d2, k, PAIRS, &mut dirs, 0);
-    let n = least(end, STEPS);
+    let end = router_trace::assemble(notes, k, PAIRS, &mut dirs, 0);
+    let n = end.min(STEPS);
     write_path(out, net, &dirs[..n])
 }
 
 // Writes the words of what a place holds: a net whose path is that of pair k, or nothing.
-fn write_place(
-    side: &[u16; VERTICES],
-    vert: &[u16; VERTICES],
-    half: &[u16; PAIRS],
-    s1: &[u16; PAIRS],
-    s2: &[u16; PAIRS],
-    d1: &[u8; PAIRS],
-    d2: &[u8; PAIRS],
-    k: usize,
-    number: u8,
-    place: Place,
-    out: &mut [u32],
-) -> usize
+fn write_place(notes: &Notes, k: usize, number: u8, place: Place, out: &mut [u32]) -> usize
     requires { k < pair_limit }
     ensures upper_bound { result ≤ path_limit + 1 }
-    ensures written { HeldShort place.held (path_d side.now vert.now half.now s1.now s2.now
-        d1.now d2.now pair_limit k) → Written
-        (held_words number place.held (path_d side.now vert.now half.now s1.now s2.now
-        d1.now d2.now pair_limit k)) out.old result out.new }
+    ensures written { HeldShort place (path_of notes.now pair_limit k)
+        → Written (held_words number place (path_of notes.now pair_limit k)) out.old result out.new }
 {
-    let held = place.held;
-    match held {
-        Held::Nothing => 0,
-        Held::Ends(ends) => {
+    match place {
+        None => 0,
+        Some(ends) => {
             let net = Net { number, ends };
-            write_net(side, vert, half, s1, s2, d1, d2, k, net, out)
+            write_net(notes, k, net, out)
         }
-    }
-}
-
-// How many nets a place holds.
-fn held_count(place: Place) -> usize
-    ensures { (result ≡ held_one place.held) × (result ≤ 1) }
-{
-    let held = place.held;
-    match held {
-        Held::Nothing => 0,
-        Held::Ends(_) => 1,
     }
 }
 
 // Writes the words of the routing that the notes give to the nets: the paths in rising number, each into the part of the buffer after the
 // path before it, then the end word. Answers how many words that is.
-pub fn write_paths(
-    side: &[u16; VERTICES],
-    vert: &[u16; VERTICES],
-    half: &[u16; PAIRS],
-    s1: &[u16; PAIRS],
-    s2: &[u16; PAIRS],
-    d1: &[u8; PAIRS],
-    d2: &[u8; PAIRS],
-    nets: [Place; 64],
-    out: &mut [u32],
-) -> usize
-    requires { Fits (path_d side.now vert.now half.now s1.now s2.now d1.now d2.now pair_limit) (nets_of nets) out.old }
-    ensures value { result ≡ length (words_of (path_d side.now vert.now half.now s1.now s2.now
-        d1.now d2.now pair_limit) (nets_of nets)) }
-    ensures out_after { out.new ≡ written_into out.old (words_of (path_d side.now vert.now half.now
-        s1.now s2.now d1.now d2.now pair_limit) (nets_of nets)) }
+pub fn write_paths(notes: &Notes, nets: [Place; 64], out: &mut [u32]) -> usize
+    requires { Fits (path_of notes.now pair_limit) (nets_of nets) out.old }
+    ensures value { result ≡ length (words_of (path_of notes.now pair_limit) (nets_of nets)) }
+    ensures out_after { out.new ≡ written_into out.old (words_of (path_of notes.now pair_limit) (nets_of nets)) }
 {
     let mut at: usize = 0;
     let mut k: usize = 0;
-    for i in 0..64 {
-        let place = nets[i];
-        let start = least(at, out.len());
-        at += write_place(
-            side,
-            vert,
-            half,
-            s1,
-            s2,
-            d1,
-            d2,
-            k,
-            number_at(i),
-            place,
-            &mut out[start..],
-        );
-        k += held_count(place);
+    for (i, place) in nets.iter().enumerate() {
+        let start = at.min(out.len());
+        let number = (i + 1) as u8;
+        at += write_place(notes, k, number, *place, &mut out[start..]);
+        k += usize::from(place.is_some());
     }
     put(out, at, words::pack_routing_end(k as u8));
     at + 1

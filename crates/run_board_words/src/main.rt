@@ -17,36 +17,34 @@ ghost use Rattle.board_reading.specs.Promise.{ReadPromise};
 ghost use Rattle.board_writing.specs.Promise.{write_answer};
 ghost use Rattle.run_board_words.specs.Text.{written_line, read_line};
 
-use board_reading::{AfterRead, ReadAnswer};
-use board_writing::WriteAnswer;
-use numbers::wide;
+use board_reading::ReadRefusal;
+use board_writing::WriteRefusal;
+use session::After;
 use words::BOARD_WORDS;
 
 // The line of what writing answers, at the start of the buffer; how many bytes it is.
-fn written_line(name: &[u8], answer: WriteAnswer, out: &mut [u8; 128]) -> usize
+fn written_line(name: &[u8], answer: Result<usize, WriteRefusal>, out: &mut [u8; 128]) -> usize
     requires { length name.now ≤ 16 }
     ensures { Holds (written_line name.now (write_answer answer)) result out.new }
 {
     match answer {
-        WriteAnswer::Written(n) => text::line(name, &[n], out),
-        WriteAnswer::Unsound => text::refused(20, 0, out),
-        WriteAnswer::ShortBuffer => text::refused(18, 0, out),
+        Ok(n) => text::line(name, &[n], out),
+        Err(refusal) => text::refused(usize::from(refusal.number()), 0, out),
     }
 }
 
 // The line of what reading handed back.
-fn read_line(after: AfterRead, out: &mut [u8; 128]) -> usize
+fn read_line(after: After<Result<(), ReadRefusal>>, out: &mut [u8; 128]) -> usize
     ensures prefix_len { IsPrefixLen result out.new }
     ensures out_after { (x : Result machine.Session) → ReadPromise x after → take result out.new ≡ read_line x }
 {
-    let answer = after.answer;
-    match answer {
-        ReadAnswer::Accepted => {
+    match after.answer {
+        Ok(()) => {
             let mut back = [0u32; BOARD_WORDS];
             let answer = board_writing::write_board(after.session, &mut back);
             written_line(b"read", answer, out)
         }
-        ReadAnswer::Refused(number, place) => text::refused(wide(number), place, out),
+        Err(refusal) => text::refused(usize::from(refusal.number()), refusal.place(), out),
     }
 }
 
@@ -101,27 +99,21 @@ fn buffers() {
 // One list; where the next line begins.
 fn list(s: &[u8], at: usize) -> usize {
     let mut words = [0u32; 904];
-    let kind = vectors::letter(s, at);
     let listed = vectors::read_list(s, at, &mut words);
     let count = listed.count;
-    if kind == b'r' {
-        print_read(&words[..count]);
-    }
-    if kind == b'b' {
-        print_bytes(&words[..count]);
-    }
-    if kind == b'w' {
-        buffers();
+    match vectors::letter(s, at) {
+        b'r' => print_read(&words[..count]),
+        b'b' => print_bytes(&words[..count]),
+        b'w' => buffers(),
+        _ => {}
     }
     listed.next
 }
 
 fn lists(s: &[u8]) {
     let mut at: usize = 0;
-    let mut turns = s.len();
-    while 0 < turns {
+    for _ in 0..s.len() {
         at = list(s, at);
-        turns -= 1;
     }
 }
 

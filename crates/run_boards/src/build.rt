@@ -1,10 +1,9 @@
 // Boards and nets, made row by row and net by net.
-ghost use Rattle.std.specs.Prelude.{◌≡◌, ◌<◌, set};
+ghost use Rattle.std.specs.Prelude.{◌≡◌, ◌<◌};
 ghost use Rattle.run_boards.specs.Build.{empty, with_row, no_nets, with_net, pair_at};
 
 use board::{Board, Row, Vertex};
-use net::{Held, Pair, Place};
-use numbers::wide;
+use net::{Pair, Place};
 
 // A board of no rows.
 fn no_rows() -> Board
@@ -14,29 +13,19 @@ fn no_rows() -> Board
     Board { count: 0, rows }
 }
 
-// The rows with another one at place i.
-fn placed(old: [Row; 31], i: usize, row: Row) -> [Row; 31]
-    requires { i < 31 }
-    ensures { result ≡ set old i row }
-{
-    let mut rows = old;
-    rows[i] = row;
-    rows
-}
-
 // The board with one row more below its last one. A board of 31 rows stays as it is.
+#[tactic(auto, unfolding(crate::specs::Build::with_row))]
 pub fn with_row(b: Board, left: u8, right: u8) -> Board
     ensures { result ≡ with_row b left right }
 {
-    let n = b.count;
-    let rows = b.rows;
-    if n < 31 {
-        Board {
-            count: n + 1,
-            rows: placed(rows, wide(n), Row { left, right }),
-        }
-    } else {
-        b
+    if 31 <= b.count {
+        return b;
+    }
+    let mut rows = b.rows;
+    rows[usize::from(b.count)] = Row { left, right };
+    Board {
+        count: b.count + 1,
+        rows,
     }
 }
 
@@ -50,9 +39,7 @@ pub fn row(left: u8, right: u8) -> Board
 pub fn no_nets() -> [Place; 64]
     ensures { result ≡ no_nets }
 {
-    [Place {
-        held: Held::Nothing,
-    }; 64]
+    [None; 64]
 }
 
 // The nets with another one at place i, which is that of number i + 1.
@@ -61,9 +48,7 @@ pub fn with_net(old: [Place; 64], i: usize, ends: Pair) -> [Place; 64]
     ensures { result ≡ with_net old i ends }
 {
     let mut nets = old;
-    nets[i] = Place {
-        held: Held::Ends(ends),
-    };
+    nets[i] = Some(ends);
     nets
 }
 

@@ -1,11 +1,11 @@
 // What the library answers of a board, as text on standard output.
+// Kept: `io::write_all` and not `println!`, which reports a write that fails: the program goes on, and its exit status stays 0.
 use board::{Board, Vertex};
 use cut::{Cut, Tally};
-use cut_search::{FoundCut, FoundVertex};
 use net::Place;
 
 fn number(n: u8) {
-    io::print_decimal(1, n as u64);
+    io::print_decimal(1, u64::from(n));
 }
 
 fn vertex(v: Vertex) {
@@ -34,10 +34,8 @@ fn margin(t: Tally) {
     let m = cut::margin_of(t);
     if m < 0 {
         io::write_all(1, b"-");
-        io::print_decimal(1, (0 - m) as u64);
-    } else {
-        io::print_decimal(1, m as u64);
     }
+    io::print_decimal(1, u64::from(m.unsigned_abs()));
 }
 
 // A cut and its margin.
@@ -58,12 +56,11 @@ pub fn convexity(b: Board) {
 
 // The first odd vertex.
 pub fn first_odd(b: Board, nets: [Place; 64]) {
-    let found = cut_search::first_odd(b, nets);
-    match found {
-        FoundVertex::Nothing => {
+    match cut_search::first_odd(b, nets) {
+        None => {
             io::write_all(1, b"no odd vertex");
         }
-        FoundVertex::At(v) => {
+        Some(v) => {
             io::write_all(1, b"odd ");
             vertex(v);
         }
@@ -72,12 +69,11 @@ pub fn first_odd(b: Board, nets: [Place; 64]) {
 
 // The first overfull cut, and its margin.
 pub fn first_overfull(b: Board, nets: [Place; 64]) {
-    let found = cut_search::first_overfull(b, nets);
-    match found {
-        FoundCut::Nothing => {
+    match cut_search::first_overfull(b, nets) {
+        None => {
             io::write_all(1, b"no overfull cut");
         }
-        FoundCut::At(x) => {
+        Some(x) => {
             io::write_all(1, b"overfull ");
             cut_margin(b, nets, x);
         }

@@ -3,56 +3,55 @@
 #![tactic(auto)]
 
 use board::{Board, Row, Vertex};
-use judge_list::{Comparison, Verdict};
-use net::{Held, Pair, Place};
+use judge_list::ListRefusal;
+use judge_report::Report;
+use judge_shape::Refusal;
+use net::{Pair, Place};
 
-fn show(v: Verdict) {
+fn show(v: Result<Report, Refusal>) {
     let mut out = [0u8; 128];
     let n = judge_text::verdict_line(v, &mut out);
     io::write_all(1, &out[..n]);
 }
 
-fn show_comparison(c: Comparison) {
+fn show_comparison(c: Result<bool, ListRefusal>) {
     let mut out = [0u8; 128];
     let n = judge_text::comparison_line(c, &mut out);
     io::write_all(1, &out[..n]);
-}
-
-fn row(left: u8, right: u8) -> Row {
-    Row { left, right }
 }
 
 // A board of n rows, at most 31, from column 0 to column right.
 fn rectangle(n: u8, right: u8) -> Board {
     Board {
         count: n,
-        rows: [row(0, right); 31],
+        rows: [Row { left: 0, right }; 31],
     }
 }
 
-fn place(l: u8, c: u8, m: u8, d: u8) -> Place {
-    let first = Vertex { line: l, column: c };
-    let second = Vertex { line: m, column: d };
-    Place {
-        held: Held::Ends(Pair { first, second }),
+fn pair(l: u8, c: u8, m: u8, d: u8) -> Pair {
+    Pair {
+        first: Vertex { line: l, column: c },
+        second: Vertex { line: m, column: d },
     }
 }
 
-fn no_nets() -> [Place; 64] {
-    let empty = Place {
-        held: Held::Nothing,
-    };
-    [empty; 64]
+// The first nets, and none behind them.
+fn nets_of<const N: usize>(pairs: [Pair; N]) -> [Place; 64] {
+    let mut nets = [None; 64];
+    for (place, ends) in nets.iter_mut().zip(&pairs) {
+        *place = Some(*ends);
+    }
+    nets
 }
 
 // One cell, with a net along each of its sides.
 fn ring() -> [Place; 64] {
-    let mut nets = no_nets();
-    nets[0] = place(0, 0, 0, 1);
-    nets[1] = place(0, 1, 1, 1);
-    nets[2] = place(1, 1, 1, 0);
-    nets[3] = place(1, 0, 0, 0);
-    nets
+    nets_of([
+        pair(0, 0, 0, 1),
+        pair(0, 1, 1, 1),
+        pair(1, 1, 1, 0),
+        pair(1, 0, 0, 0),
+    ])
 }
 
 // The words of its routing.
@@ -70,21 +69,20 @@ fn judge_ring(words: &[u32]) {
 // The ring's words with the one at index k replaced, if there is one.
 fn changed(k: usize, word: u32) -> [u32; 9] {
     let mut words = ring_words();
-    if k < 9 {
-        words[k] = word;
+    if let Some(place) = words.get_mut(k) {
+        *place = word;
     }
     words
 }
 
 fn judge_changed(k: usize, word: u32) {
-    let words = changed(k, word);
-    judge_ring(&words);
+    judge_ring(&changed(k, word));
 }
 
 // The first n of the words.
 fn judge_first(words: &[u32], n: usize) {
-    if n <= words.len() {
-        judge_ring(&words[0..n]);
+    if let Some(first) = words.get(..n) {
+        judge_ring(first);
     }
 }
 
@@ -110,8 +108,7 @@ fn ring_lists() {
 
 // One cell, and a net from corner to corner: round one side of it, and round the other.
 fn other_side() {
-    let mut nets = no_nets();
-    nets[0] = place(0, 0, 1, 1);
+    let nets = nets_of([pair(0, 0, 1, 1)]);
     let first: [u32; 4] = [1074790402, 1409286145, 1476395009, 3758096385];
     let second: [u32; 4] = [1074790402, 1476395009, 1409286145, 3758096385];
     show_comparison(judge_list::compare(rectangle(1, 1), nets, &first, &second));
@@ -119,8 +116,7 @@ fn other_side() {
 
 // Two cells, and a net along the first that then goes round the second: right first, and down first.
 fn either_way() {
-    let mut nets = no_nets();
-    nets[0] = place(0, 0, 0, 1);
+    let nets = nets_of([pair(0, 0, 0, 1)]);
     let first: [u32; 6] = [
         1074790404, 1409286146, 1476395009, 1543503873, 1342177281, 3758096385,
     ];
@@ -132,9 +128,7 @@ fn either_way() {
 
 // Two nets that both turn at (1,1): down, left and left, down.
 fn knock_knee() {
-    let mut nets = no_nets();
-    nets[0] = place(0, 1, 1, 0);
-    nets[1] = place(1, 2, 2, 1);
+    let nets = nets_of([pair(0, 1, 1, 0), pair(1, 2, 2, 1)]);
     let words: [u32; 7] = [
         1074790402, 1476395009, 1543503873, 1075838978, 1543503873, 1476395009, 3758096386,
     ];
@@ -143,15 +137,14 @@ fn knock_knee() {
 
 // One net along all lines of the largest board, right and left in turn: 63 runs.
 fn longest_board() {
-    let mut nets = no_nets();
-    nets[0] = place(0, 0, 31, 0);
+    let nets = nets_of([pair(0, 0, 31, 0)]);
     let mut words = [1476395009u32; 65];
     words[0] = 1074790463;
-    words[64] = 3758096385;
-    for k in 0..16 {
-        words[4 * k + 1] = 1409286175;
-        words[4 * k + 3] = 1543503903;
+    for turn in words[1..].chunks_exact_mut(4) {
+        turn[0] = 1409286175;
+        turn[2] = 1543503903;
     }
+    words[64] = 3758096385;
     show(judge_list::judge(rectangle(31, 31), nets, &words));
 }
 

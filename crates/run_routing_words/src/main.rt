@@ -37,33 +37,27 @@ struct Lined {
 
 fn line(session: Session, s: &[u8], at: usize) -> Lined {
     let mut words = [0u32; 2050];
-    let kind = vectors::letter(s, at);
     let listed = vectors::read_list(s, at, &mut words);
     let count = listed.count;
-    let next = listed.next;
-    if kind == b'b' {
-        let read = board_reading::read_words(&words[..count]);
-        let other = read.session;
-        return Lined {
-            session: other,
-            next,
-        };
+    let mut lined = Lined {
+        session,
+        next: listed.next,
+    };
+    match vectors::letter(s, at) {
+        b'b' => lined.session = board_reading::read_words(&words[..count]).session,
+        b'l' => print_list(session, &words[..count]),
+        _ => {}
     }
-    if kind == b'l' {
-        print_list(session, &words[..count]);
-    }
-    Lined { session, next }
+    lined
 }
 
 fn lines(s: &[u8]) {
     let mut session = session::blank();
     let mut at: usize = 0;
-    let mut turns = s.len();
-    while 0 < turns {
+    for _ in 0..s.len() {
         let lined = line(session, s, at);
         session = lined.session;
         at = lined.next;
-        turns -= 1;
     }
 }
 

@@ -1,6 +1,6 @@
 -- A list of nets, added one by one as values of the code, is what the list machine makes of the list.
 -- Assumes nothing.
-use Rattle.std.specs.Prelude.{◌≡◌, refl, true, false, List, [], ◌∷◌, ℕ, zero, suc, ◌+◌, ◌≤◌, take}
+use Rattle.std.specs.Prelude.{◌≡◌, refl, true, false, List, [], ◌∷◌, ℕ, zero, suc, ◌+◌, ◌≤◌, take, Result, Ok, Err, is_ok}
 use Rattle.std.proofs.Common.{sym, ◌∙◌, inl, inr, arith}
 use Rattle.std.proofs.Math.Option.{Option, none, some}
 use Rattle.count.specs.TruthLaws.{bool}
@@ -16,12 +16,12 @@ use Rattle.session_laws.proofs.Stays.{stays_sound}
 use Rattle.net_places.proofs.NumberedLaws.{length-replaced}
 use Rattle.net_places.specs.Places.{nets_of, holding}
 use Rattle.session_pile.specs.Changes.{length_laid}
-use Rattle.session_answers.specs.declared.AddAnswer.{AddAnswer}
-use Rattle.session_answers.specs.declared.AddAnswer.TheVariants.{Accepted, Unsound, BadNumber, NumberTaken, NoVertex, SameVertex, PinsTaken}
-use Rattle.session_answers.specs.Answers.{add_answer, is_accepted, add_all_answer}
+use Rattle.session_answers.specs.Answers.{add_answer, add_all_answer}
 use Rattle.session_add.specs.Lines.{check_of}
 use Rattle.session.specs.declared.Session.{Session}
-use Rattle.session.specs.declared.AfterAddAll.{AfterAddAll}
+use Rattle.session.specs.declared.After.{After}
+use Rattle.session_answers.specs.declared.AddRefusal.{AddRefusal}
+use Rattle.session_answers.specs.declared.AddAllAnswer.{AddAllAnswer}
 use Rattle.session.specs.View.{session_of, Sized}
 use Rattle.session.specs.Value.{add_sound, none_added, with_net, with_each, add_all_of}
 use Rattle.session.specs.Promise.{CallPromise, AddAllPromise}
@@ -30,30 +30,25 @@ use Rattle.session.proofs.Kept.{told, add_kept}
 
 -- ── one net more ──
 -- an answer is accepted exactly where it stands for that
-told_accepted : (a : AddAnswer) → add_answer a ≡ accepted → is_accepted a ≡ true
-told_accepted Accepted e = refl
-told_accepted Unsound e = cc
-told_accepted BadNumber e = cc
-told_accepted NumberTaken e = cc
-told_accepted (NoVertex p) e = cc
-told_accepted SameVertex e = cc
-told_accepted (PinsTaken p) e = cc
+told_accepted : (a : Result Unit AddRefusal) → add_answer a ≡ accepted → is_ok a ≡ true
+told_accepted (Ok u) e = refl
+told_accepted (Err r) e = cc
 
-told_refused : (a : AddAnswer) (r : Refusal) → add_answer a ≡ refused r → is_accepted a ≡ false
-told_refused a r e = elim (bool (is_accepted a)) [
+told_refused : (a : Result Unit AddRefusal) (r : Refusal) → add_answer a ≡ refused r → is_ok a ≡ false
+told_refused a r e = elim (bool (is_ok a)) [
   | inl f ↦ absurd (let g : accepted ≡ refused r = sym (told a f) ∙ e in let z : ◌≡◌ {A = ℕ} 0 1 = cc in omega arith)
   | inr f ↦ f
 ]
 
 -- no more is tried after one that was refused
-pub each_refused : (ns : List Net) (a : AfterAddAll) → is_accepted a.answer.last ≡ false → with_each a ns ≡ a
+pub each_refused : (ns : List Net) (a : After AddAllAnswer) → is_ok a.answer.last ≡ false → with_each a ns ≡ a
 unfolding with_each
 each_refused [] a e = refl
 each_refused (n ∷ ns) a e = rw e refl
 
 sized_added : (s : Session) (n : Net) → Sized s → Sized (add_sound s n).session
 unfolding add_sound
-sized_added s n z = elim (bool (is_accepted (check_of (block_of s.block) (nets_of s.nets) n))) [
+sized_added s n z = elim (bool (is_ok (check_of (block_of s.block) (nets_of s.nets) n))) [
   | inl e ↦ rw e (record {
     nets64 = length-replaced s.nets n.number (holding n.ends) ∙ z.nets64;
     pile64 = length_laid s.pile (Added n) (let l = z.pile64 in omega arith) ∙ z.pile64;
@@ -63,12 +58,12 @@ sized_added s n z = elim (bool (is_accepted (check_of (block_of s.block) (nets_o
 
 -- ── the nets of the list ──
 -- DEFINITION: what a came to is what the machine hands back
-record AsStep (a : AfterAddAll) (x : Step) : Type 0 where
+record AsStep (a : After AddAllAnswer) (x : Step) : Type 0 where
   answers : add_all_answer a.answer ≡ x.answer
   next : session_of a.session ≡ x.next
 
 -- the net is refused, and the list stops there
-one_refused : (a : AfterAddAll) (n : Net) (ns : List Net) (r : Refusal) → Sized a.session → Sound (session_of a.session)
+one_refused : (a : After AddAllAnswer) (n : Net) (ns : List Net) (r : Refusal) → Sized a.session → Sound (session_of a.session)
     → add_refused (block_of a.session.block) (nets_of a.session.nets) n ≡ some r
     → AsStep (with_each (with_net a n) ns) (record { answer = went_on a.answer.count (some r); next = session_of a.session })
 unfolding with_net step
@@ -78,9 +73,9 @@ one_refused a n ns r z h e =
     rw (each_refused ns (with_net a n) g) (record { answers = rw (g, f) refl; next = add_next a.session n z h ∙ rw e refl })
 
 -- the net is accepted, and the list goes on from the session with it
-one_accepted : (a : AfterAddAll) (n : Net) → Sized a.session → Sound (session_of a.session)
+one_accepted : (a : After AddAllAnswer) (n : Net) → Sized a.session → Sound (session_of a.session)
     → add_refused (block_of a.session.block) (nets_of a.session.nets) n ≡ none
-    → (is_accepted (with_net a n).answer.last ≡ true) × ((with_net a n).answer.count ≡ a.answer.count + 1)
+    → (is_ok (with_net a n).answer.last ≡ true) × ((with_net a n).answer.count ≡ a.answer.count + 1)
     × (session_of (with_net a n).session ≡ added n (session_of a.session))
 unfolding with_net step
 one_accepted a n z h e =
@@ -89,12 +84,12 @@ one_accepted a n z h e =
     (g, rw g refl, add_next a.session n z h ∙ rw e refl)
 
 -- DEFINITION: nothing was refused so far
-record Underway (a : AfterAddAll) : Type 0 where
+record Underway (a : After AddAllAnswer) : Type 0 where
   sized : Sized a.session
   sound : Sound (session_of a.session)
-  well : is_accepted a.answer.last ≡ true
+  well : is_ok a.answer.last ≡ true
 
-underway_one : (a : AfterAddAll) (n : Net) → Underway a → add_refused (block_of a.session.block) (nets_of a.session.nets) n ≡ none
+underway_one : (a : After AddAllAnswer) (n : Net) → Underway a → add_refused (block_of a.session.block) (nets_of a.session.nets) n ≡ none
     → Underway (with_net a n)
 unfolding with_net step
 underway_one a n u e =
@@ -102,7 +97,7 @@ underway_one a n u e =
     let t : Sound (step (session_of a.session) (add n)).next = stays_sound (session_of a.session) (add n) u.sound in
     record { sized = sized_added a.session n u.sized; sound = rw o.2 (rw e at t); well = o.0 }
 
-one_as : (a : AfterAddAll) (n : Net) (ns : List Net) (r : Option Refusal) → Underway a
+one_as : (a : After AddAllAnswer) (n : Net) (ns : List Net) (r : Option Refusal) → Underway a
     → add_refused (block_of a.session.block) (nets_of a.session.nets) n ≡ r
     → (Underway (with_net a n) → AsStep (with_each (with_net a n) ns) (add_all_step (with_net a n).answer.count ns (session_of (with_net a n).session)))
     → AsStep (with_each (with_net a n) ns)
@@ -112,7 +107,7 @@ one_as a n ns none u e k =
     rw (← o.1, ← o.2) (k (underway_one a n u e))
 one_as a n ns (some r) u e k = one_refused a n ns r u.sized u.sound e
 
-all_as : (ns : List Net) (a : AfterAddAll) → Underway a → AsStep (with_each a ns) (add_all_step a.answer.count ns (session_of a.session))
+all_as : (ns : List Net) (a : After AddAllAnswer) → Underway a → AsStep (with_each a ns) (add_all_step a.answer.count ns (session_of a.session))
 unfolding with_each add_all_step
 all_as [] a u = record { answers = rw (told a.answer.last u.well) refl; next = refl }
 all_as (n ∷ ns) a u =
@@ -131,30 +126,30 @@ all_call s ns z = elim (bool (sound? (session_of s))) [
 ]
 
 -- ── a list of which none went on changes nothing ──
-count_one : (a : AfterAddAll) (n : Net) → a.answer.count ≤ (with_net a n).answer.count
+count_one : (a : After AddAllAnswer) (n : Net) → a.answer.count ≤ (with_net a n).answer.count
 unfolding with_net
-count_one a n = elim (bool (is_accepted (add_sound a.session n).answer)) [ inl e ↦ rw e (omega arith) | inr e ↦ rw e (omega arith) ]
+count_one a n = elim (bool (is_ok (add_sound a.session n).answer)) [ inl e ↦ rw e (omega arith) | inr e ↦ rw e (omega arith) ]
 
-count_each : (ns : List Net) (a : AfterAddAll) → a.answer.count ≤ (with_each a ns).answer.count
+count_each : (ns : List Net) (a : After AddAllAnswer) → a.answer.count ≤ (with_each a ns).answer.count
 unfolding with_each
 count_each [] a = omega arith
 count_each (n ∷ ns) a =
     let l = count_one a n in
     let m = count_each ns (with_net a n) in
-    elim (bool (is_accepted a.answer.last)) [ inl e ↦ rw e (omega arith) | inr e ↦ rw e (omega arith) ]
+    elim (bool (is_ok a.answer.last)) [ inl e ↦ rw e (omega arith) | inr e ↦ rw e (omega arith) ]
 
-one_kept : (a : AfterAddAll) (n : Net) → (with_net a n).answer.count ≡ a.answer.count → (with_net a n).session ≡ a.session
+one_kept : (a : After AddAllAnswer) (n : Net) → (with_net a n).answer.count ≡ a.answer.count → (with_net a n).session ≡ a.session
 unfolding with_net
-one_kept a n c = elim (bool (is_accepted (add_sound a.session n).answer)) [
+one_kept a n c = elim (bool (is_ok (add_sound a.session n).answer)) [
   | inl e ↦ absurd (let d : a.answer.count + 1 ≡ a.answer.count = rw e at c in omega arith)
   | inr e ↦ add_kept a.session n (λ f. let g : true ≡ false = sym (told_accepted (add_sound a.session n).answer f) ∙ e in
       absurd (let z : ◌≡◌ {A = ℕ} 0 1 = cc in omega arith))
 ]
 
-each_none : (ns : List Net) (a : AfterAddAll) → (with_each a ns).answer.count ≡ a.answer.count → (with_each a ns).session ≡ a.session
+each_none : (ns : List Net) (a : After AddAllAnswer) → (with_each a ns).answer.count ≡ a.answer.count → (with_each a ns).session ≡ a.session
 unfolding with_each
 each_none [] a c = refl
-each_none (n ∷ ns) a c = elim (bool (is_accepted a.answer.last)) [
+each_none (n ∷ ns) a c = elim (bool (is_ok a.answer.last)) [
   | inl e ↦
       let d : (with_each (with_net a n) ns).answer.count ≡ a.answer.count = rw e at c in
       let l = count_one a n in
@@ -164,20 +159,20 @@ each_none (n ∷ ns) a c = elim (bool (is_accepted a.answer.last)) [
 ]
 
 -- ── the nets that went on would have left the same by themselves ──
-one_counted : (a : AfterAddAll) (n : Net) → is_accepted (with_net a n).answer.last ≡ true → (with_net a n).answer.count ≡ a.answer.count + 1
+one_counted : (a : After AddAllAnswer) (n : Net) → is_ok (with_net a n).answer.last ≡ true → (with_net a n).answer.count ≡ a.answer.count + 1
 unfolding with_net
 one_counted a n e = rw e refl
 
-each_kept : (ns : List Net) (a : AfterAddAll) (k : ℕ) → (with_each a ns).answer.count ≡ a.answer.count + k
+each_kept : (ns : List Net) (a : After AddAllAnswer) (k : ℕ) → (with_each a ns).answer.count ≡ a.answer.count + k
     → (with_each a ns).session ≡ (with_each a (take k ns)).session
 unfolding with_each
 each_kept ns a zero c = each_none ns a (omega arith)
 each_kept [] a (suc k) c = refl
-each_kept (n ∷ ns) a (suc k) c = elim (bool (is_accepted a.answer.last)) [
+each_kept (n ∷ ns) a (suc k) c = elim (bool (is_ok a.answer.last)) [
   | inl e ↦
       let b = with_net a n in
       let d : (with_each b ns).answer.count ≡ a.answer.count + suc k = rw e at c in
-      rw e (elim (bool (is_accepted b.answer.last)) [
+      rw e (elim (bool (is_ok b.answer.last)) [
         | inl f ↦ let g = one_counted a n f in each_kept ns b k (omega arith)
         | inr f ↦ rw (each_refused ns b f, each_refused (take k ns) b f) refl
       ])
@@ -188,5 +183,5 @@ all_kept : (s : Session) (ns : List Net) → (add_all_of s ns).session ≡ (add_
 unfolding none_added
 all_kept s ns = each_kept ns (none_added s) (add_all_of s ns).answer.count (omega arith)
 
-pub add_all_promise : (s : Session) (ns : List Net) (r : AfterAddAll) → Sized s → r ≡ add_all_of s ns → AddAllPromise s ns r
+pub add_all_promise : (s : Session) (ns : List Net) (r : After AddAllAnswer) → Sized s → r ≡ add_all_of s ns → AddAllPromise s ns r
 add_all_promise s ns r z e = rw e (record { value = refl; call = all_call s ns z; kept = all_kept s ns })

@@ -1,6 +1,6 @@
 -- On a sound session each call hands back what the list machine's step gives.
 -- Assumes nothing.
-use Rattle.std.specs.Prelude.{◌≡◌, refl, true, cond, ℕ, ◌≤◌, ◌<◌, eqb}
+use Rattle.std.specs.Prelude.{◌≡◌, refl, true, cond, ℕ, ◌≤◌, ◌<◌, eqb, None, Some}
 use Rattle.std.proofs.Common.{◌∙◌, inl, inr, arith, eqb-true}
 use Rattle.std.proofs.Math.Option.{Option, none, some}
 use Rattle.std.proofs.lemmas.Bool.{eqb-false}
@@ -8,8 +8,6 @@ use Rattle.count.specs.TruthLaws.{bool, and_true}
 use Rattle.board_block.specs.View.{block_of}
 use Rattle.net.specs.declared.Net.{Net}
 use Rattle.net.specs.declared.Change.TheVariants.{Added, Withdrawn}
-use Rattle.net.specs.declared.Held.{Held}
-use Rattle.net.specs.declared.Held.TheVariants.{Nothing, Ends}
 use Rattle.session_rules.specs.Refusal.{Refusal}
 use Rattle.session_rules.specs.Session as machine
 use Rattle.session_rules.specs.Add.{add_refused, is_none, accepts}
@@ -28,6 +26,7 @@ use Rattle.session.specs.View.{session_of, Sized}
 use Rattle.session.specs.Value.{changed, add_sound, withdraw_held, withdraw_sound, take_back_sound}
 use Rattle.session_add.specs.Check.{answered, check_answer, check_accepts}
 use Rattle.session_sound.specs.Reverse.{insert_accepted, reversed_of}
+use Rattle.net.specs.View.{Held}
 
 depth_short : (s : Session) → Sound (session_of s) → s.pile.depth ≤ 64
 depth_short s h = omega (arith, length_pile s.pile, h.short)
@@ -58,23 +57,23 @@ add_next s n z h =
 -- ── withdraw ──
 withdraw_held_answer : (s : Session) (k : ℕ) (x : Held)
     → withdraw_answer (withdraw_held s k x).answer ≡ (withdraw_step (held_as k x) (session_of s)).answer
-withdraw_held_answer s k Nothing = refl
-withdraw_held_answer s k (Ends e) = refl
+withdraw_held_answer s k None = refl
+withdraw_held_answer s k (Some e) = refl
 
 pub withdraw-answer : (s : Session) (k : ℕ) → withdraw_answer (withdraw_sound s k).answer ≡ (step (session_of s) (withdraw k)).answer
 unfolding step withdraw_sound
-withdraw-answer s k = rw (net-of s.nets k) (withdraw_held_answer s k (place_at s.nets k).held)
+withdraw-answer s k = rw (net-of s.nets k) (withdraw_held_answer s k (place_at s.nets k))
 
 withdraw-held : (s : Session) (k : ℕ) (x : Held) → Sized s → Sound (session_of s)
     → session_of (withdraw_held s k x).session ≡ (withdraw_step (held_as k x) (session_of s)).next
 unfolding withdrawn
-withdraw-held s k Nothing z h = refl
-withdraw-held s k (Ends e) z h = rw (remove_of s.nets k, laid_pile s.pile (Withdrawn (net k e)) z.pile64 (depth_short s h)) refl
+withdraw-held s k None z h = refl
+withdraw-held s k (Some e) z h = rw (remove_of s.nets k, laid_pile s.pile (Withdrawn (net k e)) z.pile64 (depth_short s h)) refl
 
 pub withdraw_next : (s : Session) (k : ℕ) → Sized s → Sound (session_of s)
     → session_of (withdraw_sound s k).session ≡ (step (session_of s) (withdraw k)).next
 unfolding step withdraw_sound
-withdraw_next s k z h = rw (net-of s.nets k) (withdraw-held s k (place_at s.nets k).held z h)
+withdraw_next s k z h = rw (net-of s.nets k) (withdraw-held s k (place_at s.nets k) z h)
 
 -- ── take back ──
 pub take-back-answer : (s : Session) → take_back_answer (take_back_sound s).answer ≡ (step (session_of s) take_back).answer

@@ -3,21 +3,20 @@
 // nets before the refused one left.
 #![tactic(auto)]
 
-ghost use Rattle.std.specs.Prelude.{◌≡◌, ◌+◌, ◌<◌, ◌^◌};
+ghost use Rattle.std.specs.Prelude.{◌≡◌, ◌+◌, ◌<◌, ◌^◌, Ok, Err};
 ghost use Rattle.count.specs.Truth.{Decides};
 ghost use Rattle.session_rules.specs.Sound.{Sound, sound?};
-ghost use Rattle.session_answers.specs.Answers.{goes_on};
 ghost use Rattle.session.specs.View.{session_of, Sized};
-ghost use Rattle.session.specs.Value.{with_places, with_names, changed};
+ghost use Rattle.session.specs.Value.{after, with_places, changed};
 ghost use Rattle.session.specs.Value.{add_sound, withdraw_sound, take_back_sound, keep_sound, return_sound, none_added, with_net};
 ghost use Rattle.session.specs.Promise.{AddPromise, AddAllPromise, WithdrawPromise, TakeBackPromise, KeepPromise, ReturnPromise};
 ghost use Rattle.session.specs.Promise.{FreshPromise, BlankPromise};
 
 use board::{Board, Row};
 use board_block::Block;
-use net::{Change, Held, Net, Place};
+use net::{Change, Net, Place};
 use session_answers::{
-    AddAllAnswer, AddAnswer, KeepAnswer, ReturnAnswer, TakeBackAnswer, WithdrawAnswer,
+    AddAllAnswer, AddRefusal, KeepRefusal, ReturnRefusal, TakeBackRefusal, WithdrawRefusal,
 };
 use session_names::{Layout, NAMES};
 use session_pile::Pile;
@@ -33,38 +32,8 @@ pub struct Session {
 
 // What each call hands back: its answer and the next session.
 #[derive(Clone, Copy)]
-pub struct AfterAdd {
-    pub answer: AddAnswer,
-    pub session: Session,
-}
-
-#[derive(Clone, Copy)]
-pub struct AfterAddAll {
-    pub answer: AddAllAnswer,
-    pub session: Session,
-}
-
-#[derive(Clone, Copy)]
-pub struct AfterWithdraw {
-    pub answer: WithdrawAnswer,
-    pub session: Session,
-}
-
-#[derive(Clone, Copy)]
-pub struct AfterTakeBack {
-    pub answer: TakeBackAnswer,
-    pub session: Session,
-}
-
-#[derive(Clone, Copy)]
-pub struct AfterKeep {
-    pub answer: KeepAnswer,
-    pub session: Session,
-}
-
-#[derive(Clone, Copy)]
-pub struct AfterReturn {
-    pub answer: ReturnAnswer,
+pub struct After<A> {
+    pub answer: A,
     pub session: Session,
 }
 
@@ -72,15 +41,11 @@ pub struct AfterReturn {
 pub fn fresh(block: Block) -> Session
     ensures { FreshPromise block result }
 {
-    let pile = session_pile::empty();
-    let layout = session_names::no_layout();
     Session {
         block,
-        nets: [Place {
-            held: Held::Nothing,
-        }; 64],
-        pile,
-        names: [layout; NAMES],
+        nets: [None; 64],
+        pile: session_pile::empty(),
+        names: [None; NAMES],
     }
 }
 
@@ -100,13 +65,10 @@ impl Session {
         ensures { Decides result (sound? (session_of self)) (Sound (session_of self)) × Sized self }
     {
         let b = self.block;
-        let nets = self.nets;
-        let pile = self.pile;
-        let names = self.names;
         (board_convex::is_convex(b.board) & board_block::is_fine(b))
-            & (session_sound::is_addable(b, nets)
-                & ((pile.is_short() & session_sound::lifts(b, nets, pile))
-                    & session_sound::all_fine(b, names)))
+            & (session_sound::is_addable(b, self.nets)
+                & ((self.pile.is_short() & session_sound::lifts(b, self.nets, self.pile))
+                    & session_sound::all_fine(b, self.names)))
     }
 
     // Is the session sound?
@@ -116,272 +78,196 @@ impl Session {
         self.is_sound()
     }
 
+    // What an accepted call hands back, whose next session this is.
+    pub fn accepted<R>(self) -> After<Result<(), R>>
+        ensures { result ≡ after (Ok tt) self }
+    {
+        After {
+            answer: Ok(()),
+            session: self,
+        }
+    }
+
+    // What a refused call hands back, which was made on this session.
+    pub fn refused<R>(self, reason: R) -> After<Result<(), R>>
+        ensures { result ≡ after (Err reason) self }
+    {
+        After {
+            answer: Err(reason),
+            session: self,
+        }
+    }
+
     // The session with these places and this pile; all else that it holds stays.
     pub fn with_places(self, nets: [Place; 64], pile: Pile) -> Session
         ensures { result ≡ with_places self nets pile }
     {
-        let block = self.block;
-        let names = self.names;
-        Session {
-            block,
-            nets,
-            pile,
-            names,
-        }
-    }
-
-    // The session with these names; all else that it holds stays.
-    fn with_names(self, names: [Layout; NAMES]) -> Session
-        ensures { result ≡ with_names self names }
-    {
-        let block = self.block;
-        let nets = self.nets;
-        let pile = self.pile;
-        Session {
-            block,
-            nets,
-            pile,
-            names,
-        }
+        Session { nets, pile, ..self }
     }
 
     // The session with other places, and the change laid on the pile.
     fn changed(self, nets: [Place; 64], change: Change) -> Session
         ensures { result ≡ changed self nets change }
     {
-        let pile = self.pile;
-        self.with_places(nets, pile.lay(change))
+        self.with_places(nets, self.pile.lay(change))
     }
 
     // The single add, on a sound session: `add` calls it after its test, and `add_all` for each net after one test.
-    fn add_sound(self, net: Net) -> AfterAdd
+    #[tactic(auto, unfolding(crate::specs::Value::add_sound))]
+    fn add_sound(self, net: Net) -> After<Result<(), AddRefusal>>
         ensures { result ≡ add_sound self net }
     {
-        let nets = self.nets;
-        let answer = session_add::check(self.block, nets, net);
-        if !session_answers::is_accepted(answer) {
-            return AfterAdd {
-                answer,
-                session: self,
-            };
-        }
-        let ends = net.ends;
-        let next = net_places::stored(nets, net.number, net_places::holding(ends));
-        AfterAdd {
-            answer,
-            session: self.changed(next, Change::Added(net)),
-        }
-    }
-
-    fn withdraw_sound(self, number: u8) -> AfterWithdraw
-        ensures { result ≡ withdraw_sound self number }
-    {
-        let nets = self.nets;
-        let place = net_places::place_of(nets, number);
-        let held = place.held;
-        match held {
-            Held::Nothing => AfterWithdraw {
-                answer: WithdrawAnswer::NotOnBoard,
-                session: self,
-            },
-            Held::Ends(ends) => {
-                let next = net_places::stored(
-                    nets,
-                    number,
-                    Place {
-                        held: Held::Nothing,
-                    },
-                );
-                AfterWithdraw {
-                    answer: WithdrawAnswer::Accepted,
-                    session: self.changed(next, Change::Withdrawn(Net { number, ends })),
-                }
+        match session_add::check(self.block, self.nets, net) {
+            Err(reason) => self.refused(reason),
+            Ok(()) => {
+                let nets = net_places::stored(self.nets, net.number, Some(net.ends));
+                self.changed(nets, Change::Added(net)).accepted()
             }
         }
     }
 
-    fn take_back_sound(self) -> AfterTakeBack
-        ensures { result ≡ take_back_sound self }
+    #[tactic(auto, unfolding(crate::specs::Value::withdraw_sound))]
+    fn withdraw_sound(self, number: u8) -> After<Result<(), WithdrawRefusal>>
+        ensures { result ≡ withdraw_sound self number }
     {
-        let pile = self.pile;
-        if pile.depth == 0 {
-            return AfterTakeBack {
-                answer: TakeBackAnswer::PileEmpty,
-                session: self,
-            };
-        }
-        let nets = self.nets;
-        let before = net_places::reversed(nets, pile.top());
-        AfterTakeBack {
-            answer: TakeBackAnswer::Accepted,
-            session: self.with_places(before, pile.lift()),
+        match net_places::place_of(self.nets, number) {
+            None => self.refused(WithdrawRefusal::NotOnBoard),
+            Some(ends) => {
+                let nets = net_places::stored(self.nets, number, None);
+                self.changed(nets, Change::Withdrawn(Net { number, ends }))
+                    .accepted()
+            }
         }
     }
 
-    fn keep_sound(self, name: u8) -> AfterKeep
+    #[tactic(auto, unfolding(crate::specs::Value::take_back_sound))]
+    fn take_back_sound(self) -> After<Result<(), TakeBackRefusal>>
+        ensures { result ≡ take_back_sound self }
+    {
+        if self.pile.depth == 0 {
+            return self.refused(TakeBackRefusal::PileEmpty);
+        }
+        let nets = net_places::reversed(self.nets, self.pile.top());
+        self.with_places(nets, self.pile.lift()).accepted()
+    }
+
+    #[tactic(auto, unfolding(crate::specs::Value::keep_sound))]
+    fn keep_sound(self, name: u8) -> After<Result<(), KeepRefusal>>
         ensures { result ≡ keep_sound self name }
     {
         if !session_names::is_name(name) {
-            return AfterKeep {
-                answer: KeepAnswer::NoName,
-                session: self,
-            };
+            return self.refused(KeepRefusal::NoName);
         }
-        let nets = self.nets;
-        let names = self.names;
-        let next = session_names::stored(names, name, nets);
-        AfterKeep {
-            answer: KeepAnswer::Accepted,
-            session: self.with_names(next),
-        }
+        let names = session_names::stored(self.names, name, self.nets);
+        Session { names, ..self }.accepted()
     }
 
-    fn return_sound(self, name: u8) -> AfterReturn
+    #[tactic(auto, unfolding(crate::specs::Value::return_sound))]
+    fn return_sound(self, name: u8) -> After<Result<(), ReturnRefusal>>
         ensures { result ≡ return_sound self name }
     {
         if !session_names::is_name(name) {
-            return AfterReturn {
-                answer: ReturnAnswer::NoName,
-                session: self,
-            };
+            return self.refused(ReturnRefusal::NoName);
         }
-        let names = self.names;
-        let there = session_names::layout_of(names, name);
-        if !there.kept {
-            return AfterReturn {
-                answer: ReturnAnswer::NothingKept,
-                session: self,
-            };
-        }
-        let nets = there.nets;
-        let pile = session_pile::empty();
-        AfterReturn {
-            answer: ReturnAnswer::Accepted,
-            session: self.with_places(nets, pile),
+        match session_names::layout_of(self.names, name) {
+            None => self.refused(ReturnRefusal::NothingKept),
+            Some(nets) => self.with_places(nets, session_pile::empty()).accepted(),
         }
     }
 
     // Puts the net in and lays "added" with it on the pile.
-    pub fn add(self, net: Net) -> AfterAdd
+    pub fn add(self, net: Net) -> After<Result<(), AddRefusal>>
         ensures { AddPromise self net result }
     {
         if !self.is_sound() {
-            return AfterAdd {
-                answer: AddAnswer::Unsound,
-                session: self,
-            };
+            return self.refused(AddRefusal::Unsound);
         }
         self.add_sound(net)
     }
 
     // None of a list of nets is added so far; an unsound session is refused. That the arrays have 64 places is told to the walk of `add_all`.
-    fn none_added(self) -> AfterAddAll
+    #[tactic(auto, unfolding(crate::specs::Value::none_added))]
+    fn none_added(self) -> After<AddAllAnswer>
         ensures { (result ≡ none_added self) × Sized self }
     {
         let last = if self.is_sound() {
-            AddAnswer::Accepted
+            Ok(())
         } else {
-            AddAnswer::Unsound
+            Err(AddRefusal::Unsound)
         };
-        AfterAddAll {
+        After {
             answer: AddAllAnswer { count: 0, last },
             session: self,
         }
     }
 
     // Adds the nets one by one in list order, and stops at the first that is refused; the nets before it stay on.
-    pub fn add_all(self, nets: &[Net]) -> AfterAddAll
+    pub fn add_all(self, nets: &[Net]) -> After<AddAllAnswer>
         ensures { AddAllPromise self nets.now result }
     {
         let mut after = self.none_added();
-        while after.goes_on(nets.len()) {
-            after = after.with_net(nets[after.count()]);
+        for net in nets {
+            if after.answer.last.is_err() {
+                return after;
+            }
+            after = after.with_net(*net);
         }
         after
     }
 
     // Takes the net of that number out and lays "withdrawn" with it on the pile.
-    pub fn withdraw(self, number: u8) -> AfterWithdraw
+    pub fn withdraw(self, number: u8) -> After<Result<(), WithdrawRefusal>>
         ensures { WithdrawPromise self number result }
     {
         if !self.is_sound() {
-            return AfterWithdraw {
-                answer: WithdrawAnswer::Unsound,
-                session: self,
-            };
+            return self.refused(WithdrawRefusal::Unsound);
         }
         self.withdraw_sound(number)
     }
 
     // Lifts the top change and reverses it: the added net leaves, the withdrawn net returns with its terminals.
-    pub fn take_back(self) -> AfterTakeBack
+    #[tactic(auto, using(crate::proofs::Kept::take_back_promise), unfolding(crate::specs::Value::take_back_of))]
+    pub fn take_back(self) -> After<Result<(), TakeBackRefusal>>
         ensures { TakeBackPromise self result }
     {
         if !self.is_sound() {
-            return AfterTakeBack {
-                answer: TakeBackAnswer::Unsound,
-                session: self,
-            };
+            return self.refused(TakeBackRefusal::Unsound);
         }
         self.take_back_sound()
     }
 
     // Stores the nets on the board under a name, 0 to 7, over what it held. The pile stays as it is.
-    pub fn keep(self, name: u8) -> AfterKeep
+    pub fn keep(self, name: u8) -> After<Result<(), KeepRefusal>>
         ensures { KeepPromise self name result }
     {
         if !self.is_sound() {
-            return AfterKeep {
-                answer: KeepAnswer::Unsound,
-                session: self,
-            };
+            return self.refused(KeepRefusal::Unsound);
         }
         self.keep_sound(name)
     }
 
     // Puts the nets that are kept under a name on the board, in place of those that are on it, and empties the pile. The names stay as they are.
-    pub fn return_to(self, name: u8) -> AfterReturn
+    pub fn return_to(self, name: u8) -> After<Result<(), ReturnRefusal>>
         ensures { ReturnPromise self name result }
     {
         if !self.is_sound() {
-            return AfterReturn {
-                answer: ReturnAnswer::Unsound,
-                session: self,
-            };
+            return self.refused(ReturnRefusal::Unsound);
         }
         self.return_sound(name)
     }
 }
 
-impl AfterAddAll {
-    // How many nets went on.
-    fn count(self) -> usize
-        ensures { result ≡ self.answer.count }
-    {
-        self.answer.count
-    }
-
-    // Are more nets tried, of a list of so many?
-    fn goes_on(self, length: usize) -> bool
-        ensures { result ≡ goes_on self.answer length }
-    {
-        let answer = self.answer;
-        answer.goes_on(length)
-    }
-
+impl After<AddAllAnswer> {
     // One net more.
-    fn with_net(self, net: Net) -> AfterAddAll
+    #[tactic(auto, unfolding(crate::specs::Value::with_net))]
+    fn with_net(self, net: Net) -> After<AddAllAnswer>
         requires { self.answer.count + 1 < 2 ^ 64 }
         ensures { result ≡ with_net self net }
     {
-        let session = self.session;
-        let after = session.add_sound(net);
-        let last = after.answer;
-        let answer = self.answer;
-        let next = after.session;
-        AfterAddAll {
-            answer: answer.counting(last),
-            session: next,
+        let after = self.session.add_sound(net);
+        After {
+            answer: self.answer.counting(after.answer),
+            session: after.session,
         }
     }
 }

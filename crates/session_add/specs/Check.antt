@@ -1,6 +1,6 @@
 -- What adding answers is the first of the machine's lines 21 to 25 that holds.
 -- Assumes nothing.
-use Rattle.std.specs.Prelude.{◌≡◌, refl, Bool, true, false, not, List, [], ◌∷◌}
+use Rattle.std.specs.Prelude.{◌≡◌, refl, Bool, true, false, not, List, [], ◌∷◌, is_ok}
 use Rattle.std.proofs.Math.Option.{Option, none, some}
 use Rattle.board_block.specs.Block.{Block}
 use Rattle.board.specs.Degree.{vertex?}
@@ -10,7 +10,7 @@ use Rattle.session_rules.specs.Refusal.{Refusal, line, first_refusal}
 use Rattle.session_rules.specs.Session.{holds}
 use Rattle.session_rules.specs.Machine.{Answer, accepted, refused}
 use Rattle.session_rules.specs.Add.{good_number, full, add_lines, add_refused, is_none, accepts}
-use Rattle.session_answers.specs.Answers.{add_answer, is_accepted}
+use Rattle.session_answers.specs.Answers.{add_answer}
 use Rattle.session_add.specs.Lines.{first_of, check_of}
 
 -- DEFINITION: a refusal, if there is one, as the machine's answer
@@ -39,7 +39,7 @@ check_answer b ns n =
     (same n.ends.first n.ends.second) (full b ns n.ends.first) (full b ns n.ends.second)
 
 first_none : (a b c d e f g : Bool)
-    → is_accepted (first_of a b c d e f g)
+    → is_ok (first_of a b c d e f g)
     ≡ is_none (first_refusal (line a 21 0 ∷ line b 22 0 ∷ line c 23 0 ∷ line d 23 1 ∷ line e 24 0 ∷ line f 25 0 ∷ line g 25 1 ∷ []))
 unfolding first_of
 first_none true b c d e f g = refl
@@ -51,7 +51,7 @@ first_none false false false false false true g = refl
 first_none false false false false false false true = refl
 first_none false false false false false false false = refl
 
-pub check_accepts : (b : Block) (ns : List Net) (n : Net) → is_accepted (check_of b ns n) ≡ accepts b ns n
+pub check_accepts : (b : Block) (ns : List Net) (n : Net) → is_ok (check_of b ns n) ≡ accepts b ns n
 unfolding check_of accepts add_refused add_lines
 check_accepts b ns n =
     first_none (not (good_number n.number)) (holds n.number ns) (not (vertex? b.board n.ends.first))

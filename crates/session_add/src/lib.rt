@@ -9,8 +9,8 @@ ghost use Rattle.session_add.specs.Lines.{check_of};
 
 use board::Vertex;
 use board_block::Block;
-use net::{Net, Place};
-use session_answers::AddAnswer;
+use net::{Net, Pair, Place};
+use session_answers::{AddRefusal, Terminal};
 
 // Are the pins of v all taken?
 fn is_full(b: Block, nets: [Place; 64], v: Vertex) -> bool
@@ -20,39 +20,38 @@ fn is_full(b: Block, nets: [Place; 64], v: Vertex) -> bool
 }
 
 // What adding the net answers: the first condition that holds, in the order of the table.
-pub fn check(b: Block, nets: [Place; 64], net: Net) -> AddAnswer
+#[tactic(auto, unfolding(crate::specs::Lines::check_of, crate::specs::Lines::first_of))]
+pub fn check(b: Block, nets: [Place; 64], net: Net) -> Result<(), AddRefusal>
     ensures { result ≡ check_of (block_of b) (nets_of nets) net }
 {
-    let ends = net.ends;
-    let first = ends.first;
-    let second = ends.second;
+    let Pair { first, second } = net.ends;
     if !((1 <= net.number) & (net.number <= 64)) {
-        return AddAnswer::BadNumber;
+        return Err(AddRefusal::BadNumber);
     }
     if net_places::is_held(nets, net.number) {
-        return AddAnswer::NumberTaken;
+        return Err(AddRefusal::NumberTaken);
     }
     if !board::is_vertex(b.board, first) {
-        return AddAnswer::NoVertex(0);
+        return Err(AddRefusal::NoVertex(Terminal::First));
     }
     if !board::is_vertex(b.board, second) {
-        return AddAnswer::NoVertex(1);
+        return Err(AddRefusal::NoVertex(Terminal::Second));
     }
-    if net::same_vertex(first, second) {
-        return AddAnswer::SameVertex;
+    if first == second {
+        return Err(AddRefusal::SameVertex);
     }
     if is_full(b, nets, first) {
-        return AddAnswer::PinsTaken(0);
+        return Err(AddRefusal::PinsTaken(Terminal::First));
     }
     if is_full(b, nets, second) {
-        return AddAnswer::PinsTaken(1);
+        return Err(AddRefusal::PinsTaken(Terminal::Second));
     }
-    AddAnswer::Accepted
+    Ok(())
 }
 
 // Does add accept the net?
 pub fn is_free(b: Block, nets: [Place; 64], net: Net) -> bool
     ensures { result ≡ accepts (block_of b) (nets_of nets) net }
 {
-    session_answers::is_accepted(check(b, nets, net))
+    check(b, nets, net).is_ok()
 }

@@ -1,68 +1,83 @@
-// What the calls that change a session answer, and the number and place by which each answer is told; that of a move, which may have a place of two
+// Why each call that changes a session is refused, and the number and place by which that is told; that of a move, which may have a place of two
 // numbers, is told in crate session_text.
 #![tactic(auto)]
 
-ghost use Rattle.std.specs.Prelude.{◌≡◌, ◌+◌, ◌<◌, ◌^◌};
-ghost use Rattle.session_answers.specs.Answers.{is_accepted, goes_on, counting, add_answer, withdraw_answer, take_back_answer, told};
-ghost use Rattle.session_answers.specs.Answers.{keep_answer, return_answer};
+ghost use Rattle.std.specs.Prelude.{◌≡◌, ◌+◌, ◌<◌, ◌^◌, get_or};
+ghost use Rattle.session_rules.specs.Refusal.{Refusal};
+ghost use Rattle.session_answers.specs.Answers.{place_of, counting, answer_by, told};
+ghost use Rattle.session_answers.specs.Answers.{add_refusal, withdraw_refusal, take_back_refusal, keep_refusal, return_refusal};
 
 use board::Vertex;
 
-// What add answers. The number is that of the terminal: 0 the first, 1 the second.
-#[derive(Clone, Copy)]
-pub enum AddAnswer {
-    Accepted,
+// Which of a net's two terminals.
+#[derive(Clone, Copy, PartialEq, Eq)]
+pub enum Terminal {
+    First,
+    Second,
+}
+
+#[derive(Clone, Copy, PartialEq, Eq)]
+pub enum AddRefusal {
     Unsound,
     BadNumber,
     NumberTaken,
-    NoVertex(u8),
+    NoVertex(Terminal),
     SameVertex,
-    PinsTaken(u8),
+    PinsTaken(Terminal),
 }
 
-// What adding a list of nets answers: how many went on, and why no more did. That is Accepted where none was refused, Unsound where the session was
-// unsound, and else what the add of the next net answered.
-#[derive(Clone, Copy)]
-pub struct AddAllAnswer {
-    pub count: usize,
-    pub last: AddAnswer,
-}
-
-#[derive(Clone, Copy)]
-pub enum WithdrawAnswer {
-    Accepted,
+#[derive(Clone, Copy, PartialEq, Eq)]
+pub enum WithdrawRefusal {
     Unsound,
     NotOnBoard,
 }
 
-#[derive(Clone, Copy)]
-pub enum TakeBackAnswer {
-    Accepted,
+#[derive(Clone, Copy, PartialEq, Eq)]
+pub enum TakeBackRefusal {
     Unsound,
     PileEmpty,
 }
 
-#[derive(Clone, Copy)]
-pub enum KeepAnswer {
-    Accepted,
+#[derive(Clone, Copy, PartialEq, Eq)]
+pub enum KeepRefusal {
     Unsound,
     NoName,
 }
 
-#[derive(Clone, Copy)]
-pub enum ReturnAnswer {
-    Accepted,
+#[derive(Clone, Copy, PartialEq, Eq)]
+pub enum ReturnRefusal {
     Unsound,
     NoName,
     NothingKept,
 }
 
-// What a move to the new rule answers. The vertex is the first that the new rule gives too few pins for its terminals and taken pins.
-#[derive(Clone, Copy)]
-pub enum MoveAnswer {
-    Accepted,
+// Why a move to the new rule is refused. The vertex is the first that the new rule gives too few pins for its terminals and taken pins.
+#[derive(Clone, Copy, PartialEq, Eq)]
+pub enum MoveRefusal {
     Unsound,
     PinsMissing(Vertex),
+}
+
+// What adding a list of nets answers: how many went on, and why no more did. That is Ok where none was refused, Unsound where the session was
+// unsound, and else what the add of the next net answered.
+#[derive(Clone, Copy)]
+pub struct AddAllAnswer {
+    pub count: usize,
+    pub last: Result<(), AddRefusal>,
+}
+
+impl AddAllAnswer {
+    // The answer after one add more, which counts where it was accepted.
+    pub fn counting(self, last: Result<(), AddRefusal>) -> AddAllAnswer
+        requires { self.count + 1 < 2 ^ 64 }
+        ensures { result ≡ counting self last }
+    {
+        let mut next = AddAllAnswer { last, ..self };
+        if last.is_ok() {
+            next.count += 1;
+        }
+        next
+    }
 }
 
 // An answer by its number and place; both are 0 where the call is accepted.
@@ -72,149 +87,125 @@ pub struct Told {
     pub place: u8,
 }
 
-pub fn is_accepted(answer: AddAnswer) -> bool
-    ensures { result ≡ is_accepted answer }
-{
-    match answer {
-        AddAnswer::Accepted => true,
-        AddAnswer::Unsound => false,
-        AddAnswer::BadNumber => false,
-        AddAnswer::NumberTaken => false,
-        AddAnswer::NoVertex(_) => false,
-        AddAnswer::SameVertex => false,
-        AddAnswer::PinsTaken(_) => false,
-    }
+// A reason why a call is refused, which is told by one place number.
+pub trait Reason {
+    ghost refusal: { Self → Refusal };
+
+    fn number(self) -> u8
+        ensures { result ≡ (refusal self).number };
+
+    fn place(self) -> u8
+        ensures { result ≡ get_or (refusal self).place 0 0 };
 }
 
-impl AddAllAnswer {
-    // Are more nets tried, of a list of so many? None after one that was refused.
-    pub fn goes_on(self, length: usize) -> bool
-        ensures { result ≡ goes_on self length }
+impl Told {
+    pub fn of<R: Reason + Copy>(answer: Result<(), R>) -> Told
+        ensures { result ≡ told (answer_by R.refusal answer) }
     {
-        let last = self.last;
-        is_accepted(last) & (self.count < length)
-    }
-
-    // The answer after one add more, which counts where it was accepted.
-    pub fn counting(self, last: AddAnswer) -> AddAllAnswer
-        requires { self.count + 1 < 2 ^ 64 }
-        ensures { result ≡ counting self last }
-    {
-        let count = self.count;
-        let more = count + 1;
-        if is_accepted(last) {
-            AddAllAnswer { count: more, last }
-        } else {
-            AddAllAnswer { count, last }
+        match answer {
+            Ok(()) => Told {
+                number: 0,
+                place: 0,
+            },
+            Err(reason) => Told {
+                number: reason.number(),
+                place: reason.place(),
+            },
         }
     }
 }
 
-pub fn add_told(answer: AddAnswer) -> Told
-    ensures { result ≡ told (add_answer answer) }
-{
-    match answer {
-        AddAnswer::Accepted => Told {
-            number: 0,
-            place: 0,
-        },
-        AddAnswer::Unsound => Told {
-            number: 20,
-            place: 0,
-        },
-        AddAnswer::BadNumber => Told {
-            number: 21,
-            place: 0,
-        },
-        AddAnswer::NumberTaken => Told {
-            number: 22,
-            place: 0,
-        },
-        AddAnswer::NoVertex(place) => Told { number: 23, place },
-        AddAnswer::SameVertex => Told {
-            number: 24,
-            place: 0,
-        },
-        AddAnswer::PinsTaken(place) => Told { number: 25, place },
+impl Terminal {
+    fn place(self) -> u8
+        ensures { result ≡ place_of self }
+    {
+        match self {
+            Terminal::First => 0,
+            Terminal::Second => 1,
+        }
     }
 }
 
-pub fn withdraw_told(answer: WithdrawAnswer) -> Told
-    ensures { result ≡ told (withdraw_answer answer) }
-{
-    match answer {
-        WithdrawAnswer::Accepted => Told {
-            number: 0,
-            place: 0,
-        },
-        WithdrawAnswer::Unsound => Told {
-            number: 20,
-            place: 0,
-        },
-        WithdrawAnswer::NotOnBoard => Told {
-            number: 26,
-            place: 0,
-        },
+impl Reason for AddRefusal {
+    ghost refusal = { add_refusal };
+
+    fn number(self) -> u8 {
+        match self {
+            AddRefusal::Unsound => 20,
+            AddRefusal::BadNumber => 21,
+            AddRefusal::NumberTaken => 22,
+            AddRefusal::NoVertex(_) => 23,
+            AddRefusal::SameVertex => 24,
+            AddRefusal::PinsTaken(_) => 25,
+        }
+    }
+
+    fn place(self) -> u8 {
+        match self {
+            AddRefusal::NoVertex(terminal) => terminal.place(),
+            AddRefusal::PinsTaken(terminal) => terminal.place(),
+            _ => 0,
+        }
     }
 }
 
-pub fn take_back_told(answer: TakeBackAnswer) -> Told
-    ensures { result ≡ told (take_back_answer answer) }
-{
-    match answer {
-        TakeBackAnswer::Accepted => Told {
-            number: 0,
-            place: 0,
-        },
-        TakeBackAnswer::Unsound => Told {
-            number: 20,
-            place: 0,
-        },
-        TakeBackAnswer::PileEmpty => Told {
-            number: 27,
-            place: 0,
-        },
+impl Reason for WithdrawRefusal {
+    ghost refusal = { withdraw_refusal };
+
+    fn number(self) -> u8 {
+        match self {
+            WithdrawRefusal::Unsound => 20,
+            WithdrawRefusal::NotOnBoard => 26,
+        }
+    }
+
+    fn place(self) -> u8 {
+        0
     }
 }
 
-pub fn keep_told(answer: KeepAnswer) -> Told
-    ensures { result ≡ told (keep_answer answer) }
-{
-    match answer {
-        KeepAnswer::Accepted => Told {
-            number: 0,
-            place: 0,
-        },
-        KeepAnswer::Unsound => Told {
-            number: 20,
-            place: 0,
-        },
-        KeepAnswer::NoName => Told {
-            number: 35,
-            place: 0,
-        },
+impl Reason for TakeBackRefusal {
+    ghost refusal = { take_back_refusal };
+
+    fn number(self) -> u8 {
+        match self {
+            TakeBackRefusal::Unsound => 20,
+            TakeBackRefusal::PileEmpty => 27,
+        }
+    }
+
+    fn place(self) -> u8 {
+        0
     }
 }
 
-pub fn return_told(answer: ReturnAnswer) -> Told
-    ensures { result ≡ told (return_answer answer) }
-{
-    match answer {
-        ReturnAnswer::Accepted => Told {
-            number: 0,
-            place: 0,
-        },
-        ReturnAnswer::Unsound => Told {
-            number: 20,
-            place: 0,
-        },
-        ReturnAnswer::NoName => Told {
-            number: 35,
-            place: 0,
-        },
-        ReturnAnswer::NothingKept => Told {
-            number: 36,
-            place: 0,
-        },
+impl Reason for KeepRefusal {
+    ghost refusal = { keep_refusal };
+
+    fn number(self) -> u8 {
+        match self {
+            KeepRefusal::Unsound => 20,
+            KeepRefusal::NoName => 35,
+        }
+    }
+
+    fn place(self) -> u8 {
+        0
+    }
+}
+
+impl Reason for ReturnRefusal {
+    ghost refusal = { return_refusal };
+
+    fn number(self) -> u8 {
+        match self {
+            ReturnRefusal::Unsound => 20,
+            ReturnRefusal::NoName => 35,
+            ReturnRefusal::NothingKept => 36,
+        }
+    }
+
+    fn place(self) -> u8 {
+        0
     }
 }

@@ -22,7 +22,7 @@ use Rattle.session.specs.Promise.{CallPromise}
 use Rattle.call_rules.specs.Result.{Result, no, yes}
 use Rattle.call_rules.specs.Route.{route_refused, WhyRefused, Routes, RoutesBytes, refused, given}
 use Rattle.call_rules.proofs.RouteLaws.{same_refusal, not_given}
-use Rattle.route_call.specs.declared.RouteAnswer.{RouteAnswer}
+use Rattle.route_call.specs.Answers.{RouteAnswer}
 use Rattle.session_history.specs.Made.{Made, changed, routed, routed_bytes, Meets, Chain, last, calls_of}
 use Rattle.session_history.specs.Demand.{RefusedAlike}
 use Rattle.session_history.proofs.History.{from_sound}

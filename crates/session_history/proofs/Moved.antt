@@ -18,7 +18,7 @@ use Rattle.session_laws.proofs.Moves as laws
 use Rattle.session.specs.declared.Session.{Session}
 use Rattle.session.specs.Promise.{CallPromise}
 use Rattle.session.specs.View.{session_of}
-use Rattle.route_call.specs.declared.RouteAnswer.{RouteAnswer}
+use Rattle.route_call.specs.Answers.{RouteAnswer}
 use Rattle.session_history.specs.Made.{Made, routed, routed_bytes, Meets, Chain, last, calls_of, answers_of}
 use Rattle.session_history.specs.Demand.{RefusedAlike}
 use Rattle.session_history.proofs.History.{from_sound}

@@ -8,7 +8,7 @@ use Rattle.session.specs.View.{session_of}
 use Rattle.call_rules.specs.Result.{Result, no}
 use Rattle.call_rules.specs.Route.{route_room}
 use Rattle.call_rules.proofs.RouteLaws.{same_room, same_why}
-use Rattle.route_call.specs.declared.RouteAnswer.{RouteAnswer}
+use Rattle.route_call.specs.Answers.{RouteAnswer}
 use Rattle.session_history.specs.Made.{routed, routed_bytes, Meets}
 use Rattle.session_history.specs.Demand.{RefusedAlike}
 use Rattle.session_history.proofs.Listed.{Refuses, refuses, refuses_bytes}

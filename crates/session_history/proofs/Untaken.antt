@@ -9,7 +9,7 @@ use Rattle.session_rules.specs.Sound.{Sound}
 use Rattle.session_laws.proofs.Untaken.{sound_untaken}
 use Rattle.session.specs.declared.Session.{Session}
 use Rattle.session.specs.View.{session_of}
-use Rattle.route_call.specs.declared.RouteAnswer.{RouteAnswer}
+use Rattle.route_call.specs.Answers.{RouteAnswer}
 use Rattle.session_history.specs.Answered.{AnsweredAlike}
 use Rattle.session_history.specs.Made.{routed, routed_bytes, Meets}
 use Rattle.session_history.specs.Demand.{RefusedAlike}

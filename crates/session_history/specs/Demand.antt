@@ -17,8 +17,7 @@ use Rattle.session.specs.View.{session_of}
 use Rattle.call_rules.specs.Result.{Result, no, yes}
 use Rattle.call_rules.specs.Shape.{routing_limit}
 use Rattle.call_rules.specs.Route.{route_room, odd_limit, overfull_refusal, HandsBack, HandsBackBytes, Routes, RoutesBytes}
-use Rattle.route_call.specs.declared.RouteAnswer.{RouteAnswer}
-use Rattle.route_call.specs.Answers.{route_answer}
+use Rattle.route_call.specs.Answers.{RouteAnswer, route_answer}
 use Rattle.session_history.specs.Made.{Made, changed, routed, routed_bytes, last, calls_of, answers_of, Everywhere}
 
 -- "boards of up to 12 odd vertices" (document 02, §4)

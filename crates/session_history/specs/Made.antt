@@ -10,8 +10,7 @@ use Rattle.session.specs.declared.Session.{Session}
 use Rattle.session.specs.View.{session_of}
 use Rattle.session.specs.Promise.{CallPromise}
 use Rattle.call_rules.specs.Route.{Routes, RoutesBytes}
-use Rattle.route_call.specs.declared.RouteAnswer.{RouteAnswer}
-use Rattle.route_call.specs.Answers.{route_answer}
+use Rattle.route_call.specs.Answers.{RouteAnswer, route_answer}
 
 -- a call that was made, with its arguments, and what it handed back
 pub data Made : Type 0 where

@@ -1,6 +1,6 @@
 -- A move that hands back the value of its definition keeps its promise.
 -- Assumes nothing.
-use Rattle.std.specs.Prelude.{◌≡◌, refl}
+use Rattle.std.specs.Prelude.{◌≡◌, refl, Result}
 use Rattle.std.proofs.Common.{inl, inr}
 use Rattle.std.proofs.Math.Option.{Option, none, some}
 use Rattle.count.specs.TruthLaws.{bool}
@@ -22,12 +22,13 @@ use Rattle.session.specs.declared.Session.{Session}
 use Rattle.session.specs.Promise.{CallPromise}
 use Rattle.session.specs.Value.{fresh_of}
 use Rattle.session.specs.View.{session_of}
-use Rattle.session_move.specs.declared.AfterMove.{AfterMove}
+use Rattle.session.specs.declared.After.{After}
+use Rattle.session_answers.specs.declared.MoveRefusal.{MoveRefusal}
 use Rattle.session_move.specs.Value.{moved, move_found, move_old, move_by, move_sound, move_of}
 use Rattle.session_move.specs.Promise.{MovePromise}
 
 -- DEFINITION: what the code handed back is what the machine hands back
-record AsStep (r : AfterMove) (x : Step) : Type 0 where
+record AsStep (r : After (Result Unit MoveRefusal)) (x : Step) : Type 0 where
   answers : move_answer r.answer ≡ x.answer
   next : session_of r.session ≡ x.next
 
@@ -74,5 +75,5 @@ move_already : (s : Session) → s.block.book ≡ New → (move_of s).session �
 unfolding move_of move_sound
 move_already s k = elim (bool (sound? (session_of s))) [ inl e ↦ rw (e, k) refl | inr e ↦ rw e refl ]
 
-pub move_promise : (s : Session) (r : AfterMove) → r ≡ move_of s → MovePromise s r
+pub move_promise : (s : Session) (r : After (Result Unit MoveRefusal)) → r ≡ move_of s → MovePromise s r
 move_promise s r e = rw e (record { value = refl; call = move_call s; kept = move_kept s; already = move_already s })

@@ -16,8 +16,7 @@ use Rattle.board_block.specs.View.{vertex_at, taken_of, block_of}
 use Rattle.board_block.proofs.ViewLaws.{taken_here}
 use Rattle.board_block.specs.declared.Block as code
 use Rattle.net.specs.Terminals.{terminals}
-use Rattle.net.specs.View.{pairs_of}
-use Rattle.net.specs.declared.Place.{Place}
+use Rattle.net.specs.View.{Held, pairs_of}
 use Rattle.net_terminals.specs.Counts.{Counts}
 use Rattle.session_rules.specs.Session.{pairs}
 use Rattle.session_rules.specs.NewRule.{pins_used, over_new?}
@@ -36,7 +35,7 @@ none_next b counts taken i n e j h = elim (le_or_lt i j) [
   | inr l ↦ n j l
 ]
 
-module _ (b : code.Block) (nets : List Place) (counts : List ℕ) (C : Counts (pairs_of nets) counts) where
+module _ (b : code.Block) (nets : List Held) (counts : List ℕ) (C : Counts (pairs_of nets) counts) where
   -- terminals and taken pins of the vertex of a place, as the arrays have them
   used_at : (i : ℕ) → i < 1024 → pins_used (block_of b) (nets_of nets) (vertex_at i) ≡ get_or counts i 0 + get_or b.taken i 0
   used_at i h =

@@ -1,6 +1,6 @@
 -- Definitions only: what a move hands back, as a value of the code. Nothing is proved here: `move_promise` in Kept says that it is what the list
 -- machine gives.
-use Rattle.std.specs.Prelude.{Bool, cond, ◌&&◌, ℕ, ltb}
+use Rattle.std.specs.Prelude.{Bool, cond, ◌&&◌, ℕ, ltb, Option, None, Some, Result, Ok, Err}
 use Rattle.count.specs.Lists.{first}
 use Rattle.board.specs.Board.{Board}
 use Rattle.board.specs.Degree.{vertex?}
@@ -11,18 +11,16 @@ use Rattle.board_block.specs.View.{block_of, with_book}
 use Rattle.board_block.specs.declared.Book.{Book}
 use Rattle.board_block.specs.declared.Book.TheVariants.{Old, New}
 use Rattle.cut_search.specs.Found.{found_vertex}
-use Rattle.cut_search.specs.declared.FoundVertex.{FoundVertex}
-use Rattle.cut_search.specs.declared.FoundVertex.TheVariants.{Nothing, At}
 use Rattle.session_rules.specs.NewRule.{over_new?}
 use Rattle.session_rules.specs.Sound.{sound?}
 use Rattle.net_places.specs.Places.{nets_of}
 use Rattle.session_pile.specs.Pile.{empty_pile}
-use Rattle.session_answers.specs.declared.MoveAnswer.{MoveAnswer}
-use Rattle.session_answers.specs.declared.MoveAnswer.TheVariants.{Accepted, Unsound, PinsMissing}
 use Rattle.session.specs.declared.Session.{Session}
 use Rattle.session.specs.View.{session_of}
-use Rattle.session.specs.Value.{with_places, fresh_of}
-use Rattle.session_move.specs.declared.AfterMove.{AfterMove}
+use Rattle.session.specs.Value.{after, with_places, fresh_of}
+use Rattle.session.specs.declared.After.{After}
+use Rattle.session_answers.specs.declared.MoveRefusal.{MoveRefusal}
+use Rattle.session_answers.specs.declared.MoveRefusal.TheVariants.{Unsound, PinsMissing}
 
 -- a vertex that has fewer pins by the new rule, before any are taken, than so many
 abbrev pub over_with : Board → Vertex → (used : ℕ) → Bool
@@ -32,23 +30,20 @@ over_with b v used = vertex? b v && ltb (pins_by New b v) used
 unfoldable pub moved : Session → Session
 moved s = with_places (fresh_of (with_book s.block New)) s.nets empty_pile
 
-abbrev pub after : MoveAnswer → Session → AfterMove
-after a s = record { answer = a; session = s }
+abbrev pub move_found : Option Vertex → Session → After (Result Unit MoveRefusal)
+move_found None s = after (Ok tt) (moved s)
+move_found (Some v) s = after (Err (PinsMissing v)) s
 
-abbrev pub move_found : FoundVertex → Session → AfterMove
-move_found Nothing s = after Accepted (moved s)
-move_found (At v) s = after (PinsMissing v) s
-
-unfoldable pub move_old : Session → AfterMove
+unfoldable pub move_old : Session → After (Result Unit MoveRefusal)
 move_old s = move_found (found_vertex (first (over_new? (block_of s.block) (nets_of s.nets)) reading_order)) s
 
-abbrev pub move_by : Book → Session → AfterMove
+abbrev pub move_by : Book → Session → After (Result Unit MoveRefusal)
 move_by Old s = move_old s
-move_by New s = after Accepted s
+move_by New s = after (Ok tt) s
 
-unfoldable pub move_sound : Session → AfterMove
+unfoldable pub move_sound : Session → After (Result Unit MoveRefusal)
 move_sound s = move_by s.block.book s
 
 -- "Every call that takes a session refuses an unsound one first, with 20."
-unfoldable pub move_of : Session → AfterMove
-move_of s = cond (sound? (session_of s)) (move_sound s) (after Unsound s)
+unfoldable pub move_of : Session → After (Result Unit MoveRefusal)
+move_of s = cond (sound? (session_of s)) (move_sound s) (after (Err Unsound) s)

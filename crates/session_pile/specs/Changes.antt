@@ -8,11 +8,10 @@ use Rattle.count.specs.TruthLaws.{le_or_lt}
 use Rattle.net.specs.declared.Change.{Change}
 use Rattle.session_rules.specs.Machine.{lay}
 use Rattle.net_places.specs.Numbered.{entry}
-use Rattle.session_pile.specs.Pile.{no_slot, slot, changes_of, pile_of, top_of, lifted, laid}
-use Rattle.session_pile.specs.declared.Slot.{Slot}
+use Rattle.session_pile.specs.Pile.{past_end, changes_of, pile_of, top_of, lifted, laid}
 use Rattle.session_pile.specs.declared.Pile.{Pile}
 
-length_changes : (cs : List Slot) (d : ℕ) → length (changes_of cs d) ≡ d
+length_changes : (cs : List Change) (d : ℕ) → length (changes_of cs d) ≡ d
 unfolding changes_of
 length_changes cs zero = refl
 length_changes cs (suc d) = ap suc (length_changes cs d)
@@ -22,7 +21,7 @@ unfolding pile_of
 length_pile p = length_changes p.changes p.depth
 
 -- the pile is its top and what is left when that is lifted
-changes_top : (cs : List Slot) (d : ℕ) → 0 < d → changes_of cs d ≡ (entry cs d no_slot).change ∷ changes_of cs (d - 1)
+changes_top : (cs : List Change) (d : ℕ) → 0 < d → changes_of cs d ≡ entry cs d past_end ∷ changes_of cs (d - 1)
 unfolding changes_of
 changes_top cs zero h = absurd (omega arith)
 changes_top cs (suc d) h = let e : suc d - 1 ≡ d = omega arith in rw e refl
@@ -36,52 +35,52 @@ unfolding pile_of changes_of
 pile_empty p e = rw e refl
 
 -- ── a change is laid on ──
-changes_same : (cs ds : List Slot) (d : ℕ) → ((j : ℕ) → j < d → get_or cs j no_slot ≡ get_or ds j no_slot) → changes_of cs d ≡ changes_of ds d
+changes_same : (cs ds : List Change) (d : ℕ) → ((j : ℕ) → j < d → get_or cs j past_end ≡ get_or ds j past_end) → changes_of cs d ≡ changes_of ds d
 unfolding changes_of
 changes_same cs ds zero h = refl
 changes_same cs ds (suc d) h = rw (h d (omega arith), changes_same cs ds d (λ j k. h j (omega arith))) refl
 
 -- without the lowest
-changes_drop : (cs : List Slot) (d : ℕ) → take d (changes_of cs (suc d)) ≡ changes_of (drop 1 cs) d
+changes_drop : (cs : List Change) (d : ℕ) → take d (changes_of cs (suc d)) ≡ changes_of (drop 1 cs) d
 unfolding changes_of
 changes_drop cs zero = refl
 changes_drop cs (suc d) =
     let e : 1 + d ≡ suc d = omega arith in
-    let f : get_or (drop 1 cs) d no_slot ≡ get_or cs (suc d) no_slot = get_or-drop 1 cs d no_slot ∙ ap (λ (i : ℕ). get_or cs i no_slot) e in
+    let f : get_or (drop 1 cs) d past_end ≡ get_or cs (suc d) past_end = get_or-drop 1 cs d past_end ∙ ap (λ (i : ℕ). get_or cs i past_end) e in
     rw (f, changes_drop cs d) refl
 
-laid_more : (cs : List Slot) (d : ℕ) (c : Change) → d < length cs → d < 64 → changes_of (set cs d (slot c)) (d + 1) ≡ lay c (changes_of cs d)
+laid_more : (cs : List Change) (d : ℕ) (c : Change) → d < length cs → d < 64 → changes_of (set cs d c) (d + 1) ≡ lay c (changes_of cs d)
 unfolding changes_of lay
 laid_more cs d c h k =
-    let same : changes_of (set cs d (slot c)) d ≡ changes_of cs d =
-    changes_same (set cs d (slot c)) cs d (λ j l. get_or-set_other cs d j (slot c) no_slot (λ e. omega arith)) in
+    let same : changes_of (set cs d c) d ≡ changes_of cs d =
+    changes_same (set cs d c) cs d (λ j l. get_or-set_other cs d j c past_end (λ e. omega arith)) in
     let short : length (c ∷ changes_of cs d) ≤ 64 = omega (arith, length_changes cs d) in
-    rw (add-one d, get_or-set_same cs d (slot c) no_slot h, same, take_all 64 (c ∷ changes_of cs d) short) refl
+    rw (add-one d, get_or-set_same cs d c past_end h, same, take_all 64 (c ∷ changes_of cs d) short) refl
 
-laid_full : (cs : List Slot) (d : ℕ) (c : Change) → length cs ≡ suc d
-    → changes_of (drop 1 cs ++ (slot c ∷ [])) (suc d) ≡ take (suc d) (c ∷ changes_of cs (suc d))
+laid_full : (cs : List Change) (d : ℕ) (c : Change) → length cs ≡ suc d
+    → changes_of (drop 1 cs ++ (c ∷ [])) (suc d) ≡ take (suc d) (c ∷ changes_of cs (suc d))
 unfolding changes_of
 laid_full cs d c h =
     let l : length (drop 1 cs) ≡ d = simp length-drop (omega arith) in
-    let same : changes_of (drop 1 cs ++ (slot c ∷ [])) d ≡ changes_of (drop 1 cs) d
-    = changes_same (drop 1 cs ++ (slot c ∷ [])) (drop 1 cs) d (λ j k. get_or-append (drop 1 cs) (slot c ∷ []) no_slot j (omega arith)) in
-    rw (get_or_at (drop 1 cs) (slot c) [] no_slot d l, same) (ap (λ (r : List Change). c ∷ r) (sym (changes_drop cs d)))
+    let same : changes_of (drop 1 cs ++ (c ∷ [])) d ≡ changes_of (drop 1 cs) d
+    = changes_same (drop 1 cs ++ (c ∷ [])) (drop 1 cs) d (λ j k. get_or-append (drop 1 cs) (c ∷ []) past_end j (omega arith)) in
+    rw (get_or_at (drop 1 cs) c [] past_end d l, same) (ap (λ (r : List Change). c ∷ r) (sym (changes_drop cs d)))
 
 -- the length of a full pile is kept a variable: at the numeral 64 the lists are written out
 lay_at : (c : Change) (cs : List Change) (n : ℕ) → n ≡ 64 → take n (c ∷ cs) ≡ lay c cs
 unfolding lay
 lay_at c cs n e = ap (λ (m : ℕ). take m (c ∷ cs)) e
 
-laid_at : (c : Change) (p : Pile) (n : ℕ) → n ≡ 64 → p.depth ≡ n → laid c p ≡ record { depth = n; changes = drop 1 p.changes ++ (slot c ∷ []) }
+laid_at : (c : Change) (p : Pile) (n : ℕ) → n ≡ 64 → p.depth ≡ n → laid c p ≡ record { depth = n; changes = drop 1 p.changes ++ (c ∷ []) }
 unfolding laid
 laid_at c p n e f =
     let h : 64 ≤ p.depth = omega arith in
     rw (le-ltb p.depth 64 h) (ap (λ (m : ℕ). pile m) (sym e))
   where
     pile : ℕ → Pile
-    pile m = record { depth = m; changes = drop 1 p.changes ++ (slot c ∷ []) }
+    pile m = record { depth = m; changes = drop 1 p.changes ++ (c ∷ []) }
 
-laid_less : (c : Change) (p : Pile) → p.depth < 64 → laid c p ≡ record { depth = p.depth + 1; changes = set p.changes p.depth (slot c) }
+laid_less : (c : Change) (p : Pile) → p.depth < 64 → laid c p ≡ record { depth = p.depth + 1; changes = set p.changes p.depth c }
 unfolding laid
 laid_less c p h = rw (lt-ltb p.depth 64 h) refl
 
@@ -103,7 +102,7 @@ unfolding laid
 length_laid p c l = either (ltb p.depth 64)
   where
     either : (b : Bool)
-        → length (cond {A = Pile} b (record { depth = p.depth + 1; changes = set p.changes p.depth (slot c) })
-        (record { depth = 64; changes = drop 1 p.changes ++ (slot c ∷ []) })).changes ≡ length p.changes
-    either true = length-set p.changes p.depth (slot c)
+        → length (cond {A = Pile} b (record { depth = p.depth + 1; changes = set p.changes p.depth c })
+        (record { depth = 64; changes = drop 1 p.changes ++ (c ∷ []) })).changes ≡ length p.changes
+    either true = length-set p.changes p.depth c
     either false = simp (length-append, length-drop) (omega arith)

@@ -1,11 +1,14 @@
 -- A loop that asks a test of one element of a list after another: before each turn, what was found, and that the elements from there on pass, is that
 -- all pass.
 -- Assumes nothing.
-use Rattle.std.specs.Prelude.{◌≡◌, Bool, true, ◌&&◌, List, [], ◌∷◌, ℕ, ◌+◌, ◌<◌, length, get_or, drop}
+use Rattle.std.specs.Prelude.{◌≡◌, refl, Bool, true, false, ◌&&◌, List, [], ◌∷◌, ℕ, ◌+◌, ◌<◌, length, get_or, drop}
 use Rattle.std.proofs.Common.{sym, ◌∙◌, add-one, drop-cons}
 use Rattle.std.proofs.Math.Seq.{drop-length}
 use Rattle.count.specs.TruthLaws.{and_assoc}
-use Rattle.session_sound.specs.Reverse.{and_none}
+
+pub and_none : (t : Bool) → t && true ≡ t
+and_none true = refl
+and_none false = refl
 
 -- `all` tells whether every element passes the test t
 module _ {A : Type 0} (all : List A → Bool) (t : A → Bool) (step : (x : A) (xs : List A) → all (x ∷ xs) ≡ t x && all xs) (xs : List A) where

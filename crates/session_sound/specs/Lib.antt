@@ -1,4 +1,4 @@
-pub mod Reverse
 pub mod Every
+pub mod Reverse
 pub mod Room
 pub mod RoomLaws

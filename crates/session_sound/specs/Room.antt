@@ -1,14 +1,12 @@
 -- Definitions only: whether the nets of an array of places have room on a block, by how many terminals stand at each vertex; and the same of what is
 -- kept under each name. Nothing is proved here: RoomLaws has the laws.
-use Rattle.std.specs.Prelude.{Bool, true, false, not, cond, ◌&&◌, List, [], ◌∷◌, ℕ, ◌+◌, ◌*◌, leb, ltb, get_or}
+use Rattle.std.specs.Prelude.{Bool, true, false, not, cond, ◌&&◌, List, ℕ, ◌+◌, ◌*◌, leb, ltb, get_or, None, Some}
+use Rattle.std.specs.List.{list_all}
 use Rattle.board.specs.declared.Vertex.{Vertex}
 use Rattle.board_block.specs.Block.{Block, pins_of}
 use Rattle.net.specs.Terminals.{same, terminals}
-use Rattle.net.specs.View.{pairs_of}
-use Rattle.net.specs.declared.Held.{Held}
-use Rattle.net.specs.declared.Held.TheVariants.{Nothing, Ends}
-use Rattle.net.specs.declared.Place.{Place}
-use Rattle.session_names.specs.declared.Layout.{Layout}
+use Rattle.net.specs.View.{Held, pairs_of}
+use Rattle.session_names.specs.Names.{Stored}
 
 -- the terminals that an array has counted at v
 abbrev pub counted_at : List ℕ → Vertex → ℕ
@@ -20,22 +18,21 @@ room_at b n v = cond (ltb v.line 32) (cond (ltb v.column 32) (leb n (pins_of b v
 
 -- the terminals that a place holds stand apart, each with pins for all that stand there
 abbrev pub held_room : Block → (here : Vertex → ℕ) → Held → Bool
-held_room b here Nothing = true
-held_room b here (Ends p) =
+held_room b here None = true
+held_room b here (Some p) =
     not (same p.first p.second) && (room_at b (here p.first) p.first && room_at b (here p.second) p.second)
 
-unfoldable pub places_room : Block → (here : Vertex → ℕ) → List Place → Bool
-places_room b here [] = true
-places_room b here (p ∷ ps) = held_room b here p.held && places_room b here ps
+unfoldable pub places_room : Block → (here : Vertex → ℕ) → List Held → Bool
+places_room b here ps = list_all (held_room b here) ps
 
 -- the nets of the places have room; on a board within the limits they could then all be added: `room_addable`
-abbrev pub roomy : Block → List Place → Bool
+abbrev pub roomy : Block → List Held → Bool
 roomy b ps = places_room b (terminals (pairs_of ps)) ps
 
 -- the same of what is kept under a name, and under each
-abbrev pub layout_roomy : Block → Layout → Bool
-layout_roomy b l = cond l.kept (roomy b l.nets) true
+abbrev pub layout_roomy : Block → Stored → Bool
+layout_roomy b None = true
+layout_roomy b (Some ps) = roomy b ps
 
-unfoldable pub all_roomy : Block → List Layout → Bool
-all_roomy b [] = true
-all_roomy b (l ∷ ls) = layout_roomy b l && all_roomy b ls
+unfoldable pub all_roomy : Block → List Stored → Bool
+all_roomy b ls = list_all (layout_roomy b) ls

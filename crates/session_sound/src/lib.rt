@@ -3,8 +3,7 @@
 
 ghost use Rattle.std.specs.Prelude.{◌≡◌, length};
 ghost use Rattle.board.specs.Board.{Within};
-ghost use Rattle.board.specs.View.{board_of};
-ghost use Rattle.board_block.specs.View.{block_by, block_of};
+ghost use Rattle.board_block.specs.View.{block_of};
 ghost use Rattle.session_rules.specs.Session.{name_count};
 ghost use Rattle.session_rules.specs.Sound.{liftable?, lifts?, kept_fine?, all_fine?};
 ghost use Rattle.net_places.specs.Places.{nets_of};
@@ -12,39 +11,34 @@ ghost use Rattle.session_pile.specs.Pile.{pile_of};
 ghost use Rattle.session_names.specs.Names.{kept_in, kept_of};
 ghost use Rattle.session_sound.specs.Room.{counted_at, room_at, held_room, roomy, layout_roomy, all_roomy};
 
-use board::{Board, Vertex};
-use board_block::{Block, Book};
-use net::{Change, Held, Place};
-use numbers::wide;
+use board::Vertex;
+use board_block::Block;
+use net::{Change, Place};
 use session_names::{Layout, NAMES};
 use session_pile::Pile;
 
 // Are there pins at v for all the terminals counted there? Outside lines and columns 0 to 31 no place has pins.
-fn has_pins(book: Book, b: Board, taken: &[u8; 1024], counts: &[u8; 1024], v: Vertex) -> bool
-    ensures { result ≡ room_at (block_by book (board_of b) taken.now) (counted_at counts.now v) v }
+fn has_pins(b: &Block, counts: &[u8; 1024], v: Vertex) -> bool
+    ensures { result ≡ room_at (block_of b.now) (counted_at counts.now v) v }
 {
     if v.line < 32 {
         if v.column < 32 {
-            let at = wide(v.line) * 32 + wide(v.column);
-            return counts[at] <= board_block::pins_left(book, b, taken, v);
+            let at = usize::from(v.line) * 32 + usize::from(v.column);
+            return counts[at] <= board_block::pins_left(b.book, b.board, &b.taken, v);
         }
     }
     false
 }
 
 // Do the terminals of what a place holds stand apart, each with pins enough?
-fn has_room(book: Book, b: Board, taken: &[u8; 1024], counts: &[u8; 1024], place: Place) -> bool
-    ensures { result ≡ held_room (block_by book (board_of b) taken.now) (counted_at counts.now) place.held }
+fn has_room(b: &Block, counts: &[u8; 1024], place: Place) -> bool
+    ensures { result ≡ held_room (block_of b.now) (counted_at counts.now) place }
 {
-    let held = place.held;
-    match held {
-        Held::Nothing => true,
-        Held::Ends(ends) => {
-            let first = ends.first;
-            let second = ends.second;
-            !net::same_vertex(first, second)
-                & (has_pins(book, b, taken, counts, first)
-                    & has_pins(book, b, taken, counts, second))
+    match place {
+        None => true,
+        Some(ends) => {
+            (ends.first != ends.second)
+                & (has_pins(b, counts, ends.first) & has_pins(b, counts, ends.second))
         }
     }
 }
@@ -54,26 +48,23 @@ fn has_room(book: Book, b: Board, taken: &[u8; 1024], counts: &[u8; 1024], place
 pub fn is_addable(b: Block, nets: [Place; 64]) -> bool
     ensures { (result ≡ roomy (block_of b) nets) × (length nets ≡ 64) }
 {
-    let board = b.board;
-    let book = b.book;
-    let taken = b.taken;
     let counts = net_terminals::count_terminals(nets);
-    let mut ok = true;
-    for i in 0..64 {
-        ok = ok & has_room(book, board, &taken, &counts, nets[i]);
+    for place in &nets {
+        if !has_room(&b, &counts, *place) {
+            return false;
+        }
     }
-    ok
+    true
 }
 
 // Could the nets that are kept under a name all be added to the bare board? Yes where nothing is kept.
 fn is_fine(b: Block, layout: Layout) -> bool
     ensures { (result ≡ layout_roomy (block_of b) layout) × (Within (block_of b).board → result ≡ kept_fine? (block_of b) (kept_in layout)) }
 {
-    if !layout.kept {
-        return true;
+    match layout {
+        None => true,
+        Some(nets) => is_addable(b, nets),
     }
-    let nets = layout.nets;
-    is_addable(b, nets)
 }
 
 // Could each name's nets all be added to the bare board?
@@ -81,11 +72,12 @@ pub fn all_fine(b: Block, names: [Layout; NAMES]) -> bool
     ensures value { (result ≡ all_roomy (block_of b) names) × (Within (block_of b).board → result ≡ all_fine? (block_of b) (kept_of names)) }
     ensures names_len { length (kept_of names) ≡ name_count }
 {
-    let mut ok = true;
-    for i in 0..NAMES {
-        ok = ok & is_fine(b, names[i]);
+    for layout in &names {
+        if !is_fine(b, *layout) {
+            return false;
+        }
     }
-    ok
+    true
 }
 
 // Can the change be reversed? An added net is on the board as recorded, a withdrawn net is one that add accepts.
@@ -104,13 +96,15 @@ pub fn lifts(b: Block, nets: [Place; 64], pile: Pile) -> bool
 {
     let mut on = nets;
     let mut rest = pile;
-    let mut ok = true;
     while 0 < rest.depth {
         let top = rest.top();
-        ok = ok & is_liftable(b, on, top);
-        let next = net_places::reversed(on, top);
-        on = next;
+        if !is_liftable(b, on, top) {
+            return false;
+        }
+        // Kept: a variable of its own, since no proof covers a call's result that is laid straight in an array.
+        let before = net_places::reversed(on, top);
+        on = before;
         rest = rest.lift();
     }
-    ok
+    true
 }

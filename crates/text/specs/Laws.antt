@@ -1,6 +1,6 @@
 -- Digits as the library for numbers in text gives them, and texts put one behind the other.
 -- Assumes nothing.
-use Rattle.std.specs.Prelude.{◌≡◌, ℕ, zero, suc, ◌+◌, ◌-◌, ◌*◌, ◌/◌, ◌%◌, ◌^◌, ◌≤◌, ◌<◌, min, length, take, get_or, set}
+use Rattle.std.specs.Prelude.{◌≡◌, ℕ, zero, suc, ◌+◌, ◌-◌, ◌*◌, ◌/◌, ◌%◌, ◌^◌, ◌≤◌, ◌<◌, length, take, get_or, set}
 use Rattle.std.proofs.Math.Path.{refl, ap, sym, subst⁻¹}
 use Rattle.std.proofs.Common.{◌∙◌, inl, inr, pow-suc, add-one, arith, length-append, take-suc, take_all, length-take-le, lt-ltb, le-ltb}
 use mathlib.Core.List.{List, [], ◌∷◌, ◌++◌, flat_map, append_assoc, append-nil}
@@ -98,10 +98,6 @@ module _ (f : ℕ → List ℕ) where
       (flat-more (take k ns) (get_or ns k 0 ∷ []) ∙ ap (λ (t : List ℕ). flat_map f (take k ns) ++ t) (flat-one (get_or ns k 0))) in
       subst⁻¹ (λ (t : List ℕ). Put t at b j d) e (put_then P Q)
 
-  pub put_all : (ns : List ℕ) (k : ℕ) → k ≡ length ns → {at j : ℕ} {b d : List ℕ} → Put (flat_map f (take k ns)) at b j d
-      → Put (flat_map f ns) at b j d
-  put_all ns k e P = rw (take_all k ns (omega arith)) at P
-
 -- ── a number, a line ──
 pub put_spaced : {n k : ℕ} {ds : List ℕ} → IsDigitCount 10 1 n k → ds ≡ last_digits 10 k n → {at i j : ℕ} {b c d : List ℕ}
     → Put (32 ∷ []) at b i c → Put ds i c j d → Put (spaced n) at b j d
@@ -115,10 +111,3 @@ pub put-line : {name : List ℕ} (ns : List ℕ) {at i j k : ℕ} {b c d e : Lis
     → Put (10 ∷ []) j d k e → Put (line_of name ns) at b k e
 unfolding line_of
 put-line ns P Q R = put_then P (put_then Q R)
-
--- the first words, or all
-pub first_words : (ws : List ℕ) (n k : ℕ) → k ≡ min n (length ws) → take k ws ≡ take n ws
-first_words ws n k e = elim (le_or_lt n (length ws)) [
-  | inl l ↦ let f : k ≡ n = omega arith in ap (λ (m : ℕ). take m ws) f
-  | inr l ↦ take_all k ws (omega arith) ∙ sym (take_all n ws (omega arith))
-]

@@ -1,4 +1,5 @@
 // Words and numbers as text: functions that put a text into a buffer, and what prints such a text on standard output.
+// Kept: a text goes into a buffer that is lent, with its length beside it, and not into a String, which needs the heap and may fail (no heap).
 #![tactic(auto)]
 
 ghost use Rattle.std.specs.Prelude.{◌≡◌, ◌+◌, ◌*◌, ◌≤◌, ◌<◌, length, take};
@@ -7,31 +8,30 @@ ghost use Rattle.text.specs.Hex.{digit_at, hex_line, hex_lines};
 ghost use Rattle.text.specs.Line.{decimal, spaced, line_of, refused_line, refused_after_line};
 ghost use Rattle.text.specs.Put.{Put, Holds};
 
-use numbers::least;
-
 // The digit of a word that stands for so many units, "0" to "9" and "A" to "F".
 fn digit(w: u32, unit: u32) -> u8
     requires { 0 < unit }
     ensures { result ≡ digit_at w unit }
 {
     let d = (w / unit % 16) as u8;
-    if d < 10 { 48 + d } else { 55 + d }
+    if d < 10 { b'0' + d } else { b'A' - 10 + d }
 }
 
 // A word in eight digits, and a line's end.
 pub fn hex_line(w: u32) -> [u8; 9]
     ensures { result ≡ hex_line w }
 {
+    // Kept: of a map over the eight units `map-requires` stays open, that each unit is above 0.
     [
-        digit(w, 268435456),
-        digit(w, 16777216),
-        digit(w, 1048576),
-        digit(w, 65536),
-        digit(w, 4096),
-        digit(w, 256),
-        digit(w, 16),
+        digit(w, 0x1000_0000),
+        digit(w, 0x100_0000),
+        digit(w, 0x10_0000),
+        digit(w, 0x1_0000),
+        digit(w, 0x1000),
+        digit(w, 0x100),
+        digit(w, 0x10),
         digit(w, 1),
-        10,
+        b'\n',
     ]
 }
 
@@ -40,10 +40,9 @@ fn put(s: &[u8], out: &mut [u8], at: usize) -> usize
     requires { at + length s.now ≤ length out.old }
     ensures { Put s.now at out.old result out.new }
 {
-    for i in 0..s.len() {
-        out[at + i] = s[i];
-    }
-    at + s.len()
+    let end = at + s.len();
+    out[at..end].copy_from_slice(s);
+    end
 }
 
 // A space and the number's digits, from this index of the buffer on; where they end.
@@ -64,8 +63,8 @@ fn put_numbers(numbers: &[usize], out: &mut [u8], at: usize) -> usize
     ensures upper_bound { result ≤ at + 21 * length numbers.now }
 {
     let mut end = at;
-    for i in 0..numbers.len() {
-        end = put_number(numbers[i], out, end);
+    for number in numbers {
+        end = put_number(*number, out, end);
     }
     end
 }
@@ -100,6 +99,7 @@ pub fn two_numbers(first: usize, second: usize, out: &mut [u8]) -> usize
 }
 
 // The line of a refusal with a place of one number.
+// Kept: of a slice of places each number would be put by itself (no heap), and the calls would be no plainer.
 pub fn refused(number: usize, place: usize, out: &mut [u8]) -> usize
     requires { 49 < length out.old }
     ensures { Holds (refused_line number (place ∷ [])) result out.new }
@@ -130,11 +130,10 @@ pub fn word_lines(words: &[u32], n: usize, out: &mut [u8]) -> usize
     requires { 9 * length words.now ≤ length out.old }
     ensures { Holds (hex_lines (take n words.now)) result out.new }
 {
-    let mut end: usize = 0;
-    let count = least(n, words.len());
-    for i in 0..count {
-        let line = hex_line(words[i]);
-        end = put(&line, out, end);
+    let first = &words[..n.min(words.len())];
+    let mut end = 0;
+    for word in first {
+        end = put(&hex_line(*word), out, end);
     }
     end
 }

@@ -12,54 +12,42 @@ pub struct Listed {
     pub next: usize,
 }
 
-// What is read of a line so far: the number that is under way, and how many are stored.
+// What is read of a line so far: the number that is under way, if there is one, and how many are stored.
 #[derive(Clone, Copy)]
 struct Under {
-    open: bool,
-    value: u32,
+    number: Option<u32>,
     count: usize,
 }
 
-// The value of a digit, "0" to "9" and "A" to "F"; 16 of any other byte.
-fn digit(b: u8) -> u8 {
-    if b < b'0' {
-        16
-    } else if b <= b'9' {
-        b - b'0'
-    } else if b < b'A' {
-        16
-    } else if b <= b'F' {
-        b - 55
-    } else {
-        16
+// The value of a digit, "0" to "9" and "A" to "F".
+fn digit(b: u8) -> Option<u8> {
+    match b {
+        b'0'..=b'9' => Some(b - b'0'),
+        b'A'..=b'F' => Some(b - b'A' + 10),
+        _ => None,
     }
 }
 
 // The value with one more digit, of which 32 bits are kept.
-fn longer(value: u32, d: u8) -> u32 {
-    value % 268435456 * 16 + (d % 16) as u32
+fn longer(value: u32, digit: u8) -> u32 {
+    value << 4 | u32::from(digit)
 }
 
-// A number is stored where there is room.
+// A number that is under way is stored where there is room.
 fn store(u: Under, out: &mut [u32]) -> Under
     requires { u.count ≤ length out.old }
     ensures count_in_bounds { result.count ≤ length out.new }
     ensures out_len_unchanged { length out.new ≡ length out.old }
 {
-    let count = u.count;
-    if u.open {
-        if count < out.len() {
-            out[count] = u.value;
-            return Under {
-                open: false,
-                value: 0,
-                count: count + 1,
-            };
-        }
+    let mut count = u.count;
+    if let Some(value) = u.number
+        && let Some(place) = out.get_mut(count)
+    {
+        *place = value;
+        count += 1;
     }
     Under {
-        open: false,
-        value: 0,
+        number: None,
         count,
     }
 }
@@ -70,47 +58,57 @@ fn step(u: Under, b: u8, out: &mut [u32]) -> Under
     ensures count_in_bounds { result.count ≤ length out.new }
     ensures out_len_unchanged { length out.new ≡ length out.old }
 {
-    let d = digit(b);
-    if d < 16 {
-        Under {
-            open: true,
-            value: longer(u.value, d),
+    match digit(b) {
+        Some(d) => Under {
+            number: Some(longer(u.number.unwrap_or(0), d)),
             count: u.count,
-        }
-    } else {
-        store(u, out)
+        },
+        None => store(u, out),
     }
 }
 
 // The first letter of the line from this index on.
 pub fn letter(s: &[u8], at: usize) -> u8 {
-    if at < s.len() { s[at] } else { b'\n' }
+    s.get(at).copied().unwrap_or(b'\n')
 }
 
-// The numbers on the line from this index on, at the start of the buffer, as many as it has room for.
+// Where the list that begins at this index ends: behind the line feed that no space follows, or with the text.
+fn end_of_list(s: &[u8], from: usize) -> usize
+    requires { from ≤ length s.now }
+    ensures lower_bound { from ≤ result }
+    ensures upper_bound { result ≤ length s.now }
+{
+    let last = s[from..]
+        .windows(2)
+        .position(|pair| pair[0] == b'\n' && pair[1] != b' ');
+    match last {
+        Some(i) => from + i + 1,
+        None => s.len(),
+    }
+}
+
+// The numbers on the line from this index on, at the start of the buffer, as many as it has room for. A number that the text breaks off is
+// none of them.
 pub fn read_list(s: &[u8], from: usize, out: &mut [u32]) -> Listed
     ensures { IsPrefixLen result.count out.new }
 {
+    if s.len() < from {
+        return Listed {
+            count: 0,
+            next: from,
+        };
+    }
+    let next = end_of_list(s, from);
     let mut u = Under {
-        open: false,
-        value: 0,
+        number: None,
         count: 0,
     };
-    let mut at = from;
-    while at < s.len() {
-        let b = s[at];
-        at += 1;
-        u = step(u, b, out);
-        if (b == b'\n') & (letter(s, at) != b' ') {
-            return Listed {
-                count: u.count,
-                next: at,
-            };
-        }
+    for b in &s[from..next] {
+        u = step(u, *b, out);
     }
     Listed {
         count: u.count,
-        next: at,
+        next,
     }
 }
 
@@ -118,13 +116,8 @@ pub fn read_list(s: &[u8], from: usize, out: &mut [u32]) -> Listed
 pub fn low_bytes(words: &[u32], out: &mut [u8]) -> usize
     ensures { IsPrefixLen result out.new }
 {
-    let mut i: usize = 0;
-    while i < out.len() {
-        if words.len() <= i {
-            return i;
-        }
-        out[i] = (words[i] % 256) as u8;
-        i += 1;
+    for (byte, word) in out.iter_mut().zip(words) {
+        *byte = (*word % 256) as u8;
     }
-    i
+    out.len().min(words.len())
 }

@@ -1,13 +1,12 @@
 // Two figures of the wire that a session's nets take, told before they are routed; and the room that routing asks for.
 #![tactic(auto)]
 
-ghost use Rattle.std.specs.Prelude.{◌≡◌, ◌<◌};
+ghost use Rattle.std.specs.Prelude.{◌≡◌, ◌<◌, ℕ};
 ghost use Rattle.count.specs.Sum.{sum};
-ghost use Rattle.board.specs.Board.{height};
 ghost use Rattle.board.specs.View.{board_of};
 ghost use Rattle.net.specs.View.{pairs_of};
 ghost use Rattle.cut.specs.Cut.{crossing};
-ghost use Rattle.cut.specs.declared.Cut.TheVariants.{Row, Column};
+ghost use Rattle.cut.specs.declared.Cut as cut;
 ghost use Rattle.session.specs.View.{session_of};
 ghost use Rattle.session_rules.specs.Sound.{Sound};
 ghost use Rattle.call_rules.specs.Wire.{crossing_sum, word_limit, wire as wireOf};
@@ -16,22 +15,18 @@ ghost use Rattle.wire_call.specs.Answers.{wire_answer};
 use board::Board;
 use cut::Cut;
 use net::Place;
-use numbers::wide;
 use session::Session;
 
 // The sum of crossing nets over all rows and columns, and the board's edge count.
-#[derive(Clone, Copy)]
+#[derive(Clone, Copy, PartialEq, Eq)]
 pub struct Figures {
     pub crossings: usize,
     pub edges: usize,
 }
 
-// What the call answers: the figures, or 20 for an unsound session.
-#[derive(Clone, Copy)]
-pub enum WireAnswer {
-    Told(Figures),
-    Unsound,
-}
+// Why no figures are told: the session is unsound, 20.
+#[derive(Clone, Copy, PartialEq, Eq)]
+pub struct Unsound;
 
 // The nets that cross one row or column.
 fn crossing_nets(b: Board, nets: [Place; 64], x: Cut) -> usize
@@ -39,52 +34,41 @@ fn crossing_nets(b: Board, nets: [Place; 64], x: Cut) -> usize
     ensures upper_bound { result < 256 }
 {
     let tally = cut::tally_of(b, nets, x);
-    wide(tally.nets)
+    usize::from(tally.nets)
 }
 
-// The nets that cross each row, summed.
-fn row_crossings(b: Board, nets: [Place; 64]) -> usize
-    ensures value { result ≡ sum (height (board_of b)) (λ i. crossing (Row i) (pairs_of nets)) }
+// The nets that cross each of the first n rows or columns, summed.
+fn crossings_of<F: Fn(u8) -> Cut>(b: Board, nets: [Place; 64], n: u8, cut_at: F) -> usize
+    ghost x: { ℕ → cut.Cut }
+    requires can_call { (i : ℕ) → F.pre cut_at i }
+    requires gives { (i : ℕ) (y : cut.Cut) → F.post cut_at i y → y ≡ x i }
+    ensures value { result ≡ sum n (λ i. crossing (x i) (pairs_of nets)) }
     ensures upper_bound { result < 65536 }
 {
-    let rows = b.count;
-    let mut n: usize = 0;
-    for i in 0..rows {
-        n += crossing_nets(b, nets, Cut::Row(i));
+    let mut sum: usize = 0;
+    for i in 0..n {
+        sum += crossing_nets(b, nets, cut_at(i));
     }
-    n
-}
-
-// The nets that cross each column, summed.
-fn column_crossings(b: Board, nets: [Place; 64]) -> usize
-    ensures value { result ≡ sum 31 (λ j. crossing (Column j) (pairs_of nets)) }
-    ensures upper_bound { result < 65536 }
-{
-    let mut n: usize = 0;
-    for j in 0..31 {
-        n += crossing_nets(b, nets, Cut::Column(j));
-    }
-    n
+    sum
 }
 
 // The sum of crossing nets over all rows and columns.
 fn crossings(b: Board, nets: [Place; 64]) -> usize
     ensures { result ≡ crossing_sum (board_of b) (pairs_of nets) }
 {
-    row_crossings(b, nets) + column_crossings(b, nets)
+    crossings_of(b, nets, b.count, Cut::Row) + crossings_of(b, nets, 31, Cut::Column)
 }
 
 // The figures of a session.
-pub fn wire(s: Session) -> WireAnswer
+pub fn wire(s: Session) -> Result<Figures, Unsound>
     ensures { wire_answer result ≡ wireOf (session_of s) }
 {
     if !s.sound() {
-        return WireAnswer::Unsound;
+        return Err(Unsound);
     }
     let board = s.block.board;
-    let nets = s.nets;
-    WireAnswer::Told(Figures {
-        crossings: crossings(board, nets),
+    Ok(Figures {
+        crossings: crossings(board, s.nets),
         edges: board_edges::edge_count(board),
     })
 }
@@ -94,7 +78,5 @@ pub fn word_limit(s: Session) -> usize
     requires { Sound (session_of s) }
     ensures { result ≡ word_limit (session_of s) }
 {
-    let board = s.block.board;
-    let nets = s.nets;
-    1 + wide(net_places::count_nets(nets)) + board_edges::edge_count(board)
+    1 + usize::from(net_places::count_nets(s.nets)) + board_edges::edge_count(s.block.board)
 }

@@ -2,7 +2,6 @@
 #![tactic(auto)]
 
 ghost use Rattle.std.specs.Prelude.{◌≡◌, ◌≤◌};
-ghost use Rattle.board.specs.Path.{number};
 ghost use Rattle.words.specs.Bits.{kind};
 ghost use Rattle.words.specs.BoardWord.{row_word, taken_word, net_word, end_word, as_row, as_taken, as_net, as_end, board_word};
 ghost use Rattle.words.specs.RoutingWord.{
@@ -22,7 +21,6 @@ ghost use Rattle.words.specs.RoutingWord.{
 use board::{Direction, Row, Vertex};
 use board_block::{Book, TakenPins};
 use net::{Net, Pair};
-use numbers::as_word;
 
 // The greatest count of a board's words, and the least buffer to write them into.
 pub const BOARD_WORDS: usize = 224;
@@ -31,7 +29,7 @@ pub const BOARD_WORDS: usize = 224;
 pub const ROUTING_WORDS: usize = 2049;
 
 // What a board's end word says: the rule book, and the counts of rows and nets.
-#[derive(Clone, Copy)]
+#[derive(Clone, Copy, PartialEq, Eq)]
 pub struct BoardEnd {
     pub book: Book,
     pub rows: u8,
@@ -39,7 +37,7 @@ pub struct BoardEnd {
 }
 
 // A word of a board. Unknown: another kind, or a bit set that has no name, or 0 or 3 taken pins, or a book that is neither 0 nor 1.
-#[derive(Clone, Copy)]
+#[derive(Clone, Copy, PartialEq, Eq)]
 pub enum BoardWord {
     Row(Row),
     Taken(TakenPins),
@@ -49,21 +47,21 @@ pub enum BoardWord {
 }
 
 // What a path word says: the net, and how many run words follow.
-#[derive(Clone, Copy)]
+#[derive(Clone, Copy, PartialEq, Eq)]
 pub struct Path {
     pub number: u8,
     pub runs: u16,
 }
 
 // So many edges in one direction.
-#[derive(Clone, Copy)]
+#[derive(Clone, Copy, PartialEq, Eq)]
 pub struct Run {
     pub direction: Direction,
     pub length: u8,
 }
 
 // A word of a routing. Unknown: another kind, or a bit set that has no name.
-#[derive(Clone, Copy)]
+#[derive(Clone, Copy, PartialEq, Eq)]
 pub enum RoutingWord {
     Path(Path),
     Run(Run),
@@ -81,14 +79,14 @@ fn kind_of(w: u32) -> u32
 pub fn pack_row(r: Row) -> u32
     ensures { result ≡ row_word r }
 {
-    268435456 + as_word(r.left) * 32 + as_word(r.right)
+    268435456 + u32::from(r.left) * 32 + u32::from(r.right)
 }
 
 pub fn pack_taken(t: TakenPins) -> u32
     ensures { result ≡ taken_word t }
 {
     let v = t.vertex;
-    805306368 + as_word(t.count) * 1024 + as_word(v.line) * 32 + as_word(v.column)
+    805306368 + u32::from(t.count) * 1024 + u32::from(v.line) * 32 + u32::from(v.column)
 }
 
 pub fn pack_net(n: Net) -> u32
@@ -97,19 +95,18 @@ pub fn pack_net(n: Net) -> u32
     let ends = n.ends;
     let first = ends.first;
     let second = ends.second;
-    let head = 536870912 + as_word(n.number) * 1048576;
-    head + as_word(first.line) * 32768
-        + as_word(first.column) * 1024
-        + as_word(second.line) * 32
-        + as_word(second.column)
+    let head = 536870912 + u32::from(n.number) * 1048576;
+    head + u32::from(first.line) * 32768
+        + u32::from(first.column) * 1024
+        + u32::from(second.line) * 32
+        + u32::from(second.column)
 }
 
 pub fn pack_end(e: BoardEnd) -> u32
     ensures { result ≡ end_word e.book e.rows e.nets }
 {
-    let book = e.book;
-    let number = board_block::book_number(book);
-    4026531840 + as_word(number) * 16777216 + as_word(e.rows) * 256 + as_word(e.nets)
+    let number = u8::from(e.book);
+    4026531840 + u32::from(number) * 16777216 + u32::from(e.rows) * 256 + u32::from(e.nets)
 }
 
 fn as_row(w: u32) -> BoardWord
@@ -170,7 +167,7 @@ fn as_net(w: u32) -> BoardWord
 fn as_end(w: u32) -> BoardWord
     ensures { result ≡ as_end w }
 {
-    let book = board_block::book_of((w / 16777216 % 16) as u8);
+    let book = Book::from((w / 16777216 % 16) as u8);
     let end = BoardEnd {
         book,
         rows: (w / 256 % 256) as u8,
@@ -187,74 +184,50 @@ fn as_end(w: u32) -> BoardWord
 pub fn board_word(w: u32) -> BoardWord
     ensures { result ≡ board_word w }
 {
-    let kind = kind_of(w);
-    if kind == 1 {
-        return as_row(w);
-    }
-    if kind == 2 {
-        return as_net(w);
-    }
-    if kind == 3 {
-        return as_taken(w);
-    }
-    if kind == 15 {
-        return as_end(w);
-    }
-    BoardWord::Unknown
-}
-
-// 0 up, 1 right, 2 down, 3 left.
-pub fn number_of(d: Direction) -> u8
-    ensures value { result ≡ number d }
-    ensures upper_bound { result ≤ 3 }
-{
-    match d {
-        Direction::Up => 0,
-        Direction::Right => 1,
-        Direction::Down => 2,
-        Direction::Left => 3,
+    match kind_of(w) {
+        1 => as_row(w),
+        2 => as_net(w),
+        3 => as_taken(w),
+        15 => as_end(w),
+        _ => BoardWord::Unknown,
     }
 }
 
 pub fn direction_of(n: u32) -> Direction
     ensures { result ≡ direction n }
 {
-    if n == 0 {
-        return Direction::Up;
+    match n {
+        0 => Direction::Up,
+        1 => Direction::Right,
+        2 => Direction::Down,
+        _ => Direction::Left,
     }
-    if n == 1 {
-        return Direction::Right;
-    }
-    if n == 2 {
-        return Direction::Down;
-    }
-    Direction::Left
 }
 
 pub fn pack_path(p: Path) -> u32
     ensures { result ≡ path_word p }
 {
-    1073741824 + as_word(p.number) * 1048576 + p.runs as u32
+    1073741824 + u32::from(p.number) * 1048576 + u32::from(p.runs)
 }
 
 // The run word of so many edges in a direction.
 pub fn run_word(d: Direction, length: u16) -> u32
     ensures { result ≡ run_word (run d length) }
 {
-    1342177280 + as_word(number_of(d)) * 67108864 + length as u32
+    1342177280 + u32::from(u8::from(d)) * 67108864 + u32::from(length)
 }
 
 pub fn pack_run(r: Run) -> u32
     ensures { result ≡ run_word r }
 {
     let d = r.direction;
-    run_word(d, r.length as u16)
+    run_word(d, u16::from(r.length))
 }
 
 pub fn pack_routing_end(paths: u8) -> u32
     ensures { result ≡ routing_end_word paths }
 {
-    3758096384 + as_word(paths)
+    3758096384 + u32::from(paths)
 }
 
 // The fields of a path word.
@@ -315,15 +288,10 @@ fn as_routing_end(w: u32) -> RoutingWord
 pub fn routing_word(w: u32) -> RoutingWord
     ensures { result ≡ routing_word w }
 {
-    let kind = kind_of(w);
-    if kind == 4 {
-        return as_path(w);
+    match kind_of(w) {
+        4 => as_path(w),
+        5 => as_run(w),
+        14 => as_routing_end(w),
+        _ => RoutingWord::Unknown,
     }
-    if kind == 5 {
-        return as_run(w);
-    }
-    if kind == 14 {
-        return as_routing_end(w);
-    }
-    RoutingWord::Unknown
 }

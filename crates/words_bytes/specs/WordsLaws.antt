@@ -1,12 +1,12 @@
 -- The words of a list of bytes, filled into a buffer one by one.
 -- Assumes nothing.
-use Rattle.std.specs.Prelude.{◌≡◌, refl, true, false, List, [], ◌∷◌, ◌++◌, ℕ, zero, suc, ◌+◌, ◌*◌, ◌/◌, ◌%◌, ◌≤◌, ◌<◌, length, get_or, set, take, drop}
+use Rattle.std.specs.Prelude.{Result, Ok, Err, ◌≡◌, refl, true, false, List, [], ◌∷◌, ◌++◌, ℕ, zero, suc, ◌+◌, ◌*◌, ◌/◌, ◌%◌, ◌≤◌, ◌<◌, length, get_or, set, take, drop}
 use Rattle.std.proofs.Common.{ap, sym, ◌∙◌, append_assoc, add-one, arith, length-append, length-drop, take-suc, take_all, take_at, drop-cons, length-take-le, eq-eqb, ne_eqb}
 use Rattle.std.proofs.lemmas.List.{set_at}
 use Rattle.words.specs.Bytes.{words_in, uneven}
 use Rattle.words_bytes.specs.Words.{word_at, FilledWith, FilledAll}
-use Rattle.words_bytes.specs.declared.Filled.{Filled}
-use Rattle.words_bytes.specs.declared.Filled.TheVariants as filled
+use Rattle.words_bytes.specs.declared.FillError.{FillError}
+use Rattle.words_bytes.specs.declared.FillError.TheVariants.{Uneven, Long}
 
 pub words_length : (bs : List ℕ) → length (words_in bs) ≡ length bs / 4
 unfolding words_in
@@ -71,14 +71,14 @@ pub record Whole (bs : List ℕ) (n : ℕ) (after : List ℕ) : Type 0 where
   pub count : n ≡ length (take n after)
   pub words : take n after ≡ words_in bs
 
-module _ {bs before after : List ℕ} {r : Filled} (F : FilledAll bs before after r) where
-  pub told-uneven : r ≡ filled.Uneven → uneven bs ≡ true
+module _ {bs before after : List ℕ} {r : Result ℕ FillError} (F : FilledAll bs before after r) where
+  pub told-uneven : r ≡ Err Uneven → uneven bs ≡ true
   told-uneven e = let q = rw e at F.tells in q.0
 
-  pub told-long : r ≡ filled.Long → (uneven bs ≡ false) × (length before < length (words_in bs))
+  pub told-long : r ≡ Err Long → (uneven bs ≡ false) × (length before < length (words_in bs))
   told-long e = let q = rw e at F.tells in (q.0, q.1)
 
-  pub told-words : {n : ℕ} → r ≡ filled.Words n → Whole bs n after
+  pub told-words : {n : ℕ} → r ≡ Ok n → Whole bs n after
   told-words {n} e =
       let q = rw e at F.tells in
       let l : length (words_in bs) ≡ n = sym q.1 in

@@ -5,17 +5,12 @@ ghost use Rattle.std.specs.Prelude.{◌≡◌, ◌+◌, ◌*◌, ◌≤◌, ◌<
 ghost use Rattle.words_bytes.specs.Words.{word_at, FilledWith, FilledAll};
 ghost use Rattle.words_bytes.specs.Put.{with_word, put_into};
 
-use numbers::as_word;
-
 // The word of four bytes from index i on.
 fn word_at(bytes: &[u8], i: usize) -> u32
     requires { i + 3 < length bytes.now }
     ensures { result ≡ word_at bytes.now i }
 {
-    as_word(bytes[i])
-        + as_word(bytes[i + 1]) * 256
-        + as_word(bytes[i + 2]) * 65536
-        + as_word(bytes[i + 3]) * 16777216
+    u32::from_le_bytes([bytes[i], bytes[i + 1], bytes[i + 2], bytes[i + 3]])
 }
 
 // The first n words of the bytes, at the start of the buffer. There must be as many, and room for them.
@@ -31,29 +26,26 @@ pub fn fill_words(bytes: &[u8], n: usize, out: &mut [u32])
     }
 }
 
-// Bytes as words: so many; or the count of the bytes is no multiple of 4; or they are more words than there is room for.
-#[derive(Clone, Copy)]
-pub enum Filled {
-    Words(usize),
+// Why bytes are not filled in as words: their count is no multiple of 4, or they are more words than there is room for.
+#[derive(Clone, Copy, PartialEq, Eq)]
+pub enum FillError {
     Uneven,
     Long,
 }
 
-// All words of the bytes, at the start of the buffer.
-pub fn fill_all(bytes: &[u8], out: &mut [u32]) -> Filled
+// All words of the bytes, at the start of the buffer; how many they are.
+pub fn fill_all(bytes: &[u8], out: &mut [u32]) -> Result<usize, FillError>
     ensures { FilledAll bytes.now out.old out.new result }
 {
-    let size = bytes.len();
-    let room = out.len();
-    if size % 4 != 0 {
-        return Filled::Uneven;
+    if bytes.len() % 4 != 0 {
+        return Err(FillError::Uneven);
     }
-    let n = size / 4;
-    if room < n {
-        return Filled::Long;
+    let n = bytes.len() / 4;
+    if out.len() < n {
+        return Err(FillError::Long);
     }
     fill_words(bytes, n, out);
-    Filled::Words(n)
+    Ok(n)
 }
 
 // A word as four bytes from this index on.

@@ -10,7 +10,7 @@ use Rattle.board.proofs.right_of.Goals as goal
 
 pub returns-then-i-b : goal.returns-then-i-b
 returns-then-i-b c = let args = c.args in
-    ap (λ (r : Row). r.right) c.row_at-row.ensures ∙ sym (right_of args.b args.i c.if-i-b.true)
+    ap (λ (r : Row). r.right) c.row_at.ensures ∙ sym (right_of args.b args.i c.if-i-b.true)
 
 pub returns-else-i-b : goal.returns-else-i-b
 returns-else-i-b c = let args = c.args in

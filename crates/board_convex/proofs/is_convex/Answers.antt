@@ -14,13 +14,13 @@ overflow_sub-n c = (count_of c.args.b (c.within.ensures.exact.0 c.if-within.true
 pub peel-requires : goal.peel-requires
 peel-requires c =
     let w = c.within.ensures.exact.0 c.if-within.true in
-    omega (arith, c.wide.ensures.0, (count_of c.args.b w).1)
+    omega (arith, c.from.ensures, (count_of c.args.b w).1)
 
 pub returns-then-within : goal.returns-then-within
 returns-then-within c =
     let b = c.args.b in
     let w = c.within.ensures.exact.0 c.if-within.true in
-    decides _ (is_convex (board_of b)) (is-convex (board_of b)) (rw (convex_of b w, ← c.wide.ensures.0) c.peel.ensures)
+    decides _ (is_convex (board_of b)) (is-convex (board_of b)) (rw (convex_of b w, ← c.from.ensures) c.peel.ensures)
 
 pub returns-else-within : goal.returns-else-within
 returns-else-within c =

@@ -15,13 +15,13 @@ pub rows_fit-requires : goal.rows_fit-requires
 rows_fit-requires c =
     let n = c.args.b.count in
     let t : leb 1 n && leb n 31 ≡ true = c.if-n.true in
-    omega (arith, c.wide.ensures.0, leb-true n 31 (and_true (leb 1 n) (leb n 31) t).1)
+    omega (arith, c.from.ensures, leb-true n 31 (and_true (leb 1 n) (leb n 31) t).1)
 
 pub returns-then-n : goal.returns-then-n
 returns-then-n c =
     let b = c.args.b in
     let t : leb 1 b.count && leb b.count 31 ≡ true = c.if-n.true in
-    decides _ (in_limits (board_of b)) (in-limits (board_of b)) (rw (limits_of b, t, ← c.wide.ensures.0) c.rows_fit.ensures)
+    decides _ (in_limits (board_of b)) (in-limits (board_of b)) (rw (limits_of b, t, ← c.from.ensures) c.rows_fit.ensures)
 
 pub returns-else-n : goal.returns-else-n
 returns-else-n c =

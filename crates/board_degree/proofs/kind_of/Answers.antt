@@ -10,10 +10,10 @@ returns c =
     let at-below-right = c in let at-below-left = at-below-right in
     let at-above-right = at-below-left in let at-above-left = at-above-right in
     c.kind_by.ensures ∙ rw (
-      c.bit-4.ensures.value,
-      c.bit-3.ensures.value,
-      c.bit-2.ensures.value,
-      c.bit.ensures.value,
+      c.from-4.ensures,
+      c.from-3.ensures,
+      c.from-2.ensures,
+      c.from.ensures,
       at-below-right.below_right-br.ensures,
       at-below-left.below_left-bl.ensures,
       at-above-right.above_right-ar.ensures,

@@ -1,45 +1,49 @@
 -- `add_words` adds the nets of the words as the definition does.
 use native.Mathlib.Omega.{arith}
-use Rattle.board_reading.specs.declared.Added.{Added}
-use Rattle.board_reading.specs.Adding.{added_word}
-use Rattle.board_reading.proofs.AddingLaws.{adding_start, adding-more, adding-refused, adding-end}
-use Rattle.board_scan.specs.Laws.{nonzero}
-use Rattle.words.specs.BoardWord.{board_word}
+use borrow.Author.Rules.{rules}
+use mathlib.Core.Path.{◌≡◌, sym, ◌∙◌}
+use Rattle.std.specs.Prelude.{Err}
 use Rattle.board_block.specs.View.{block_of}
-use lib.ListN.{get_or}
-use mathlib.Core.Logic.{inl, inr}
-use mathlib.Core.Path.{◌≡◌, refl, ap, sym, ◌∙◌}
+use Rattle.net_places.specs.Places.{nets_of}
+use Rattle.session_answers.specs.Answers.{add_refusal}
+use Rattle.board_scan.proofs.Faulty.{faulty}
+use Rattle.board_reading.specs.declared.ReadRefusal.TheVariants.{Net}
+use Rattle.board_reading.proofs.AddingLaws.{answer-none, answer-some, adding_start, adding-net, adding-other, adding-refused, adding-end}
+use Rattle.board_reading.proofs.add_words.Goals.{in-Net+in_ok-map_err, in_default}
 use Rattle.board_reading.proofs.add_words.Goals as goal
 
 pub loop-i-init : goal.loop-i-init
-loop-i-init c = (omega arith, refl, adding_start (block_of c.args.b) c.args.words.now)
+loop-i-init c = adding_start (block_of c.args.b) c.args.words.now
 
-pub bounds-words-i : goal.bounds-words-i
-bounds-words-i c = omega arith
-
-pub returns-then-added-ne0 : goal.returns-then-added-ne0
-returns-then-added-ne0 c =
-    let add-word = c.add_word-added in
-    let board-word = c.board_word in
+pub returns-in_err-map_err : goal.returns-in_err-map_err
+returns-in_err-map_err c =
     let loop = c.loop-i in
-    let args = c.args in
-    let b = block_of args.b in let ws = args.words.now in let at = loop in
-    let e : added_word b at.nets (board_word (get_or ws at.i 0)) ≡ add-word.result = rw (← board-word.ensures) (sym add-word.ensures) in
-    let k = nonzero add-word.result.number c.if-added-ne0.true in
-    inl (k.0, k.1, adding-refused b ws at.i at.nets at.invariant.2 (omega arith) k.0 (ap (λ (a : Added). a.number) e ∙ k.1))
+    let net = c.in-Net.net in
+    let k = faulty _ _ c.check.result c.in_err-map_err.ensures.cases c.in_err-map_err.ensures.variant in
+    let told : c.in_err-map_err.field-0.0 ≡ Net k.0 loop.i-counter = search rules in
+    let e : c.from_residual.result ≡ Err (Net k.0 loop.i-counter) = search rules in
+    rw e
+    (adding-refused (block_of c.args.b) c.args.words.now loop.i-counter loop.nets loop.invariant (omega arith) net
+    (sym c.board_word.ensures ∙ c.in-Net.is) (add_refusal k.0)
+    (answer-some (block_of c.args.b) (nets_of loop.nets) net c.check.result c.check.ensures k.0 k.1))
 
 pub loop-i-preserved : goal.loop-i-preserved
 loop-i-preserved c =
-    let if1 = c.if-added-ne0 in
-    let add-word = c.add_word-added in
-    let board-word = c.board_word in
     let loop = c.loop-i in
-    let args = c.args in
-    let b = block_of args.b in let ws = args.words.now in let at = loop in
-    let e : added_word b at.nets (board_word (get_or ws at.i 0)) ≡ add-word.result = rw (← board-word.ensures) (sym add-word.ensures) in
-    (omega arith, at.invariant.1, rw e at (adding-more b ws at.i at.nets at.invariant.2 (omega arith) (ap (λ (a : Added). a.number) e ∙ if1.false)))
+    elim c.match-board_word.branch [
+      | in-Net+in_ok-map_err w ↦
+          let stored = w.nets-is ∙ w.stored-stored.ensures in
+          let net = w.in-Net.net in
+          rw stored
+          (adding-net (block_of c.args.b) c.args.words.now loop.i-counter loop.nets loop.invariant (omega arith) net
+          (sym c.board_word.ensures ∙ w.in-Net.is)
+          (answer-none (block_of c.args.b) (nets_of loop.nets) net w.check.result w.check.ensures (sym w.in_ok-map_err.ensures.variant)))
+      | in_default w ↦
+          rw w.nets-is
+          (adding-other (block_of c.args.b) c.args.words.now loop.i-counter loop.nets loop.invariant (omega arith)
+          (λ p e. w.in_default.not-Net p (c.board_word.ensures ∙ e)))
+    ]
 
 pub returns : goal.returns
 returns c =
-    let b = block_of c.args.b in let ws = c.args.words.now in let at = c.loop-i in
-    inr (refl, adding-end b ws at.i at.nets at.invariant.2 (omega arith), at.invariant.2.size)
+    (adding-end (block_of c.args.b) c.args.words.now c.loop-i.i-counter c.loop-i.nets c.loop-i.invariant (omega arith), c.loop-i.invariant.size)

@@ -1,57 +1,36 @@
 -- `scan_words` takes the words as the definition does.
-use mathlib.Core.Path.{◌≡◌, refl, sym, ◌∙◌}
+use mathlib.Core.Path.{◌≡◌}
 use native.Mathlib.Omega.{arith}
-use lib.Dec.{eqb}
-use lib.ListN.{length, get_or}
-use Rattle.words.specs.BoardWord.{board_word}
-use Rattle.board_scan.specs.Scan.{word_refused}
-use Rattle.board_scan.specs.Loop.{here_start, here-more, word_nets, length_small, promise-length, promise-refused, promise-open, promise-taken}
+use borrow.Author.Rules.{rules}
+use lib.ListN.{length}
+use Rattle.board_scan.specs.Loop.{here_start, here-more, promise-fault, promise-open, promise-taken}
+use Rattle.std.specs.Prelude.{Err}
+use Rattle.board_scan.specs.declared.ScanRefusal.TheVariants.{Word}
+use Rattle.board_scan.proofs.Faulty.{faulty}
 use Rattle.board_scan.proofs.scan_words.Goals as goal
 
-pub returns-then-n : goal.returns-then-n
-returns-then-n c = promise-length c.args.words.now _ c.if-n.true c.refused.ensures
-
 pub loop-i-init : goal.loop-i-init
-loop-i-init c = (
-  omega arith,
-  refl,
-  c.if-n.false,
-  rw c.before_words-s.ensures (omega arith),
-  rw c.before_words-s.ensures (here_start c.args.words.now),
-)
+loop-i-init c = (search rules, rw c.before_words-scan.ensures (here_start c.args.words.now))
 
-pub bounds-words-i : goal.bounds-words-i
-bounds-words-i c = omega arith
-
-pub returns-then-number-ne0 : goal.returns-then-number-ne0
-returns-then-number-ne0 c =
-    let ws = c.args.words.now in
-    let at = c.loop-i in
-    promise-refused ws _ at.i _ at.s (rw at.invariant.1 at at.invariant.2) (omega arith) at.invariant.4
-    (rw (← c.board_word-w.ensures) (sym c.word_refused-number.ensures)) c.if-number-ne0.true c.refused-then-number-ne0.ensures
+pub returns-in_err-scan : goal.returns-in_err-scan
+returns-in_err-scan c =
+    let k = faulty _ _ c.with_word-next.result c.in_err-scan.ensures.cases c.in_err-scan.ensures.variant in
+    let told : c.in_err-scan.field-0.0 ≡ Word k.0 c.loop-i.i-counter = search rules in
+    let e : c.from_residual.result ≡ Err (Word k.0 c.loop-i.i-counter) = search rules in
+    let loop = c.loop-i in
+    rw e (promise-fault c.args.words.now loop.invariant.0 loop.i-counter loop.scan k.0 (omega arith) loop.invariant.1 (search rules))
 
 pub loop-i-preserved : goal.loop-i-preserved
 loop-i-preserved c =
-    let ws = c.args.words.now in
-    let at = c.loop-i in
-    let e : board_word (get_or ws at.i 0) ≡ c.board_word-w.result = sym c.board_word-w.ensures in
-    let z : word_refused at.s (eqb at.i 0) (board_word (get_or ws at.i 0)) ≡ 0 =
-    rw e (sym c.word_refused-number.ensures ∙ c.if-number-ne0.false) in
-    let l = length_small (length ws) (rw at.invariant.1 at at.invariant.2) in
-    let k = word_nets at.s (board_word (get_or ws at.i 0)) in
-    let h = here-more ws at.i at.s (omega arith) at.invariant.4 z (omega arith) in
-    rw (c.with_word-s.ensures, ← e)
-    (omega arith, at.invariant.1, at.invariant.2, omega (arith, k), h)
+    let loop = c.loop-i in
+    (loop.invariant.0, here-more c.args.words.now loop.i-counter loop.scan (omega arith) loop.invariant.1 c.in_ok-scan.scan (search rules))
 
-pub returns-then-s : goal.returns-then-s
-returns-then-s c =
-    let ws = c.args.words.now in let at = c.loop-i in
-    let f : at.i ≡ length ws = omega arith in
-    promise-taken ws _ at.s (rw at.invariant.1 at at.invariant.2) (rw f at at.invariant.4) c.if-s.true refl
+pub returns-then-not-scan : goal.returns-then-not-scan
+returns-then-not-scan c =
+    let f : c.loop-i.i-counter ≡ length c.args.words.now = omega arith in
+    promise-open c.args.words.now c.loop-i.invariant.0 c.loop-i.scan (rw f at c.loop-i.invariant.1) (search rules)
 
 pub returns : goal.returns
 returns c =
-    let ws = c.args.words.now in let at = c.loop-i in
-    let f : at.i ≡ length ws = omega arith in
-    promise-open ws _ at.s (rw at.invariant.1 at at.invariant.2) (rw f at at.invariant.4) c.if-s.false
-    (rw (← at.invariant.1) c.refused-2.ensures)
+    let f : c.loop-i.i-counter ≡ length c.args.words.now = omega arith in
+    promise-taken c.args.words.now c.loop-i.invariant.0 c.loop-i.scan (rw f at c.loop-i.invariant.1) (search rules)

@@ -13,10 +13,9 @@ use Prim.Native.Nat.{◌+◌}
 use borrow.Author.Rules.{rules}
 use Rattle.board_writing.proofs.write_pins.Goals as goal
 
-pub loop-i-init : goal.loop-i-init
+pub loop-place-init : goal.loop-place-init
 unfolding pin_words_from
-loop-i-init c = (
-  omega arith,
+loop-place-init c = (
   search rules,
   omega (arith, c.requires, length-map (taken_of c.args.pins) taken_word),
   λ after r k. k,
@@ -24,35 +23,34 @@ loop-i-init c = (
 
 pub write_pin-at-requires : goal.write_pin-at-requires
 write_pin-at-requires c =
-    let at = c.loop-i in
+    let at = c.loop-place in
     let a = c.args.pins in record {
       place_bound = omega arith;
       count_in_bounds = omega (
         arith,
-        ap length (pin_words_next a at.i (omega arith)),
-        length-append (pin_word at.i (get_or a at.i 0)) (pin_words_from a (at.i + 1)),
-        at.invariant.2,
+        ap length (pin_words_next a at.place (omega arith)),
+        length-append (pin_word at.place (get_or a at.place 0)) (pin_words_from a (at.place + 1)),
+        at.invariant.1,
       );
     }
 
-pub loop-i-preserved : goal.loop-i-preserved
-loop-i-preserved c =
+pub loop-place-preserved : goal.loop-place-preserved
+loop-place-preserved c =
     let write-pin = c.write_pin-at in
-    let at = c.loop-i in
+    let at = c.loop-place in
     let args = c.args in
-    let a = args.pins in let this = pin_word at.i (get_or a at.i 0) in let rest = pin_words_from a (at.i + 1) in
-    let e = pin_words_next a at.i (omega arith) in (
-      omega arith,
-      at.invariant.1,
-      omega (arith, ap length e, length-append this rest, at.invariant.2, write-pin.ensures.index, write-pin.ensures.size),
-      remains_next this rest (map taken_word (taken_of a)) args.out.now at.out _ args.from at.at _ (rw e at at.invariant.3)
+    let a = args.pins in let this = pin_word at.place (get_or a at.place 0) in let rest = pin_words_from a (at.place + 1) in
+    let e = pin_words_next a at.place (omega arith) in (
+      at.invariant.0,
+      omega (arith, ap length e, length-append this rest, at.invariant.1, write-pin.ensures.index, write-pin.ensures.size),
+      remains_next this rest (map taken_word (taken_of a)) args.out.now at.out _ args.from at.at _ (rw e at at.invariant.2)
           write-pin.ensures,
     )
 
 pub returns : goal.returns
 returns c =
-    let at = c.loop-i in
+    let at = c.loop-place in
     let args = c.args in
-    let e : at.i ≡ length args.pins = omega (arith, at.invariant.1) in
+    let e : at.place ≡ length args.pins = omega (arith, at.invariant.0) in
     remains_none (map taken_word (taken_of args.pins)) args.out.now at.out args.from at.at
-    (rw (e, pin_words_none args.pins) at at.invariant.3)
+    (rw (e, pin_words_none args.pins) at at.invariant.2)

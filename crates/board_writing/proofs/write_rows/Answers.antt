@@ -2,39 +2,32 @@
 use native.Mathlib.Omega.{arith}
 use Rattle.board_writing.specs.Words.{row_words}
 use Rattle.board_writing.specs.WordsLaws.{row_words_length, row_words_more}
-use Rattle.call_rules.proofs.WritingLaws.{store_next, stored_length}
+use Rattle.call_rules.proofs.WritingLaws.{store_next}
 use mathlib.Core.Path.{◌≡◌, refl}
+use Rattle.std.proofs.Common.{length-take, get_or-take, ◌<◌, length, rules}
+use Rattle.board.specs.Board.{no_row}
 use Rattle.board_writing.proofs.write_rows.Goals as goal
 
 pub loop-i-init : goal.loop-i-init
 unfolding row_words
-loop-i-init c = (omega arith, omega (arith, c.wide-n.ensures.0, c.requires.count_bound), c.requires.in_bounds, refl)
+loop-i-init c = (c.requires.in_bounds, refl)
 
 pub bounds-out-i : goal.bounds-out-i
-bounds-out-i c =
-    let loop = c.loop-i in
-    let args = c.args in
-    omega (
-      arith,
-      stored_length (row_words args.b.rows loop.i) loop.out args.out.now
-          (omega (arith, row_words_length args.b.rows loop.i)) loop.invariant.3,
-    )
+bounds-out-i c = omega (arith, length-take c.from.result c.args.b.rows, c.from.ensures, c.requires.count_bound, c.requires.in_bounds)
 
 pub loop-i-preserved : goal.loop-i-preserved
 loop-i-preserved c =
-    let loop = c.loop-i in
-    let args = c.args in
-    let rs = args.b.rows in let at = loop in (
-      omega arith,
-      omega arith,
-      omega arith,
-      rw (row_words_more rs at.i, c.pack_row.ensures)
-          (store_next (row_words rs at.i) at.out args.out.now at.i _ (row_words_length rs at.i) (omega arith) at.invariant.3),
+    let rs = c.args.b.rows in
+    let at = c.loop-i in
+    let i : at.i < c.from.result = omega (arith, length-take c.from.result rs) in
+    let row = get_or-take c.from.result rs at.i no_row i in (
+      at.invariant.0,
+      rw (row_words_more rs at.i, c.pack_row.ensures, row)
+          (store_next (row_words rs at.i) at.out c.args.out.now at.i _ (row_words_length rs at.i) (omega arith) at.invariant.1),
     )
 
 pub returns : goal.returns
 returns c =
-    let loop = c.loop-i in
-    let wide = c.wide-n in
-    let args = c.args in
-    let e : loop.i ≡ args.b.count = omega (arith, wide.ensures.0) in rw e at loop.invariant.3
+    let l : length c.args.b.rows ≡ 31 = search rules in
+    let e : c.loop-i.i ≡ c.args.b.count = omega (arith, length-take c.from.result c.args.b.rows, c.from.ensures, c.requires.count_bound) in
+    rw e at c.loop-i.invariant.1

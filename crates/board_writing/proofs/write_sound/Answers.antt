@@ -24,12 +24,11 @@ bounds-out-at c =
     let write-pins = c.write_pins-from in
     let s = c.args.s in
     let l : length s.nets ≡ 64 = search (rules, length_unmapped_by, c.well_formed.0) in
-    let wide = c.wide-rows in
     let g : write-nets.result < length write-nets.new.out =
     omega (
       arith,
       c.requires,
-      wide.ensures.0,
+      c.from.ensures,
       write-pins.ensures.index,
       length-map (taken_of s.block.taken) taken_word,
       write-nets.ensures.index,
@@ -41,13 +40,12 @@ offset_bounds-out-at c =
     let write-nets = c.write_nets-at in
     let s = c.args.s in
     let l : length s.nets ≡ 64 = search (rules, length_unmapped_by, c.well_formed.0) in
-    let wide = c.wide-rows in
     let write-pins = c.write_pins-from in
     let g : write-nets.result < length write-nets.new.out =
     omega (
       arith,
       c.requires,
-      wide.ensures.0,
+      c.from.ensures,
       write-pins.ensures.index,
       length-map (taken_of s.block.taken) taken_word,
       write-nets.ensures.index,
@@ -59,13 +57,12 @@ overflow_add-result c =
     let write-nets = c.write_nets-at in
     let s = c.args.s in
     let l : length s.nets ≡ 64 = search (rules, length_unmapped_by, c.well_formed.0) in
-    let wide = c.wide-rows in
     let write-pins = c.write_pins-from in
     let g : write-nets.result < length write-nets.new.out =
     omega (
       arith,
       c.requires,
-      wide.ensures.0,
+      c.from.ensures,
       write-pins.ensures.index,
       length-map (taken_of s.block.taken) taken_word,
       write-nets.ensures.index,
@@ -79,8 +76,13 @@ returns c =
     let s = c.args.s in
     let l : length s.nets ≡ 64 = search (rules, length_unmapped_by, c.well_formed.0) in
     let write-rows = c.write_rows in
-    let wide = c.wide-rows in
     all_written s c.args.out.now write-rows.new.out write-pins.new.out write-nets.new.out
-    wide.result write-pins.result write-nets.result c.pack_end.result
+    c.from.result write-pins.result write-nets.result c.pack_end.result
     l c.requires.count_bound c.requires.taken_len_bound c.requires.board_limit_in_bounds
-    wide.ensures.0 write-rows.ensures write-pins.ensures write-nets.ensures c.pack_end.ensures
+    c.from.ensures write-rows.ensures write-pins.ensures write-nets.ensures c.pack_end.ensures
+
+pub overflow_cast-at : goal.overflow_cast-at
+overflow_cast-at c =
+    let s = c.args.s in
+    let l : length s.nets ≡ 64 = search (rules, length_unmapped_by, c.well_formed.0) in
+    omega (arith, c.write_nets-at.ensures.index, net_words_le s.nets 64 (omega arith))

@@ -5,4 +5,4 @@ use Rattle.cut.proofs.columns_of.Goals as goal
 
 pub returns : goal.returns
 returns c = let args = c.args in
-    rw (← line-right (board_of args.b) args.l, ← c.before-2.ensures) (cc)
+    rw (← line-right (board_of args.b) args.l, ← c.saturating_sub.ensures) (cc)

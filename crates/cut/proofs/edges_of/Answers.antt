@@ -5,6 +5,7 @@ use Rattle.cut.specs.Past.{extent_le, edges_within}
 use Rattle.board.specs.View.{board_of}
 use Rattle.count.specs.Sum.{count, count_zero, count_suc, count_le}
 use mathlib.Core.Path.{◌≡◌, sym, ◌∙◌}
+use Prim.Native.Nat.{suc, ◌+◌}
 use native.Mathlib.Numerals.{add-one}
 use native.Mathlib.Omega.{arith}
 use Rattle.cut.proofs.edges_of.Goals as goal
@@ -17,8 +18,9 @@ loop-k-init c = let args = c.args in (
 )
 
 pub overflow_add-n : goal.overflow_add-n
-overflow_add-n c = let args = c.args in
-    omega (arith, c.bit-n.ensures.upper_bound, count_le c.loop-k.k (cut_edge (board_of args.b) args.x))
+overflow_add-n c = let f = cut_edge (board_of c.args.b) c.args.x in let loop = c.loop-k in
+    let e : loop.n + c.from-n.result ≡ count (suc loop.k) f = rw (count_suc loop.k f) (cc) in
+    omega (arith, e, count_le (suc loop.k) f)
 
 pub loop-k-preserved : goal.loop-k-preserved
 loop-k-preserved c = let args = c.args in let loop = c.loop-k in

@@ -15,7 +15,6 @@ use mathlib.Core.Path.{◌≡◌, refl, ap, sym, ◌∙◌}
 use Prim.Native.Nat.{ℕ, ◌+◌, ◌*◌, ◌<◌}
 use lib.ListN.{get_or}
 use Rattle.cut_search.proofs.first_odd.Goals as goal
-use Rattle.cut_search.proofs.first_odd.Goals.{else-lines-test, then-lines-test+then-loop-c-test+then-is_odd}
 
 pub lines-init : goal.lines-init
 unfolding odd_vertices
@@ -26,73 +25,62 @@ lines-init c = (
   λ ps C. ap (first (odd? (board_of c.args.b) ps)) lines_all,
 )
 
-pub loop-c-init : goal.loop-c-init
-loop-c-init c = let lines = c.lines in let b = board_of c.args.b in
-    let h : lines.l < 32 = omega (arith, lines.invariant.1, c.lines-test.true) in (
+pub loop-column-init : goal.loop-column-init
+loop-column-init c = let lines = c.lines in let b = board_of c.args.b in
+    let h : lines.line < 32 = omega (arith, lines.invariant.1, c.lines-test.true) in (
       h,
       omega arith,
       c.columns_of-columns.ensures,
       lines.invariant.2,
-      λ ps C. sym (ap (first (odd? b ps)) (lines_more lines.l h)) ∙ lines.invariant.3 ps C,
+      λ ps C. sym (ap (first (odd? b ps)) (lines_more lines.line h)) ∙ lines.invariant.3 ps C,
     )
 
-pub loop-c-preserved : goal.loop-c-preserved
-loop-c-preserved c = let at-loop = c.loop-c in
+pub loop-column-preserved : goal.loop-column-preserved
+loop-column-preserved c = let at-loop = c.loop-column in
     let start = c in
-    let l = c.lines.l in
+    let l = c.lines.line in
     let b = board_of start.args.b in
     let a = start.count_terminals-counts.result in
-    let i : c.wide.result * 32 + c.wide-in-loop-c.result ≡ l * 32 + at-loop.c =
-    rw (c.wide.ensures.0, c.wide-in-loop-c.ensures.0) refl in
-    let e : c.is_odd.result ≡ odd_with b (get_or a (l * 32 + at-loop.c) 0) (at l at-loop.c) =
-    c.is_odd.ensures ∙ ap (λ (k : ℕ). odd_with b (get_or a k 0) (at l at-loop.c)) i in
-    let h : at-loop.c < 32 = omega (arith, at-loop.invariant.2, c.loop-c-test.true) in (
+    let i : c.from.result * 32 + c.from-in-loop-column.result ≡ l * 32 + at-loop.column =
+    rw (c.from.ensures, c.from-in-loop-column.ensures) refl in
+    let e : c.is_odd.result ≡ odd_with b (get_or a (l * 32 + at-loop.column) 0) (at l at-loop.column) =
+    c.is_odd.ensures ∙ ap (λ (k : ℕ). odd_with b (get_or a k 0) (at l at-loop.column)) i in
+    let h : at-loop.column < 32 = omega (arith, at-loop.invariant.2, c.loop-column-test.true) in (
       at-loop.invariant.0,
       omega arith,
       at-loop.invariant.2,
       at-loop.invariant.3,
       λ ps C.
-          sym (first-no (odd? b ps) (line_more l at-loop.c (lines_from (l + 1)) h)
-          (sym (odd_counted b ps a C l at-loop.c at-loop.invariant.0 h) ∙ (sym e ∙ c.if-is_odd.false))) ∙ at-loop.invariant.4 ps C,
+          sym (first-no (odd? b ps) (line_more l at-loop.column (lines_from (l + 1)) h)
+          (sym (odd_counted b ps a C l at-loop.column at-loop.invariant.0 h) ∙ (sym e ∙ c.if-is_odd.false))) ∙ at-loop.invariant.4 ps C,
     )
 
 pub lines-preserved : goal.lines-preserved
-lines-preserved c = let at-loop = c.loop-c in let lines = c.lines in
+lines-preserved c = let at-loop = c.loop-column in let lines = c.lines in
     let b = board_of c.args.b in
-    let e : at-loop.c ≡ columns_of b lines.l = omega (arith, at-loop.invariant.2) in (
+    let e : at-loop.column ≡ columns_of b lines.line = omega (arith, at-loop.invariant.2) in (
       omega arith,
       lines.invariant.1,
       at-loop.invariant.3,
-      λ ps C. sym (line-done b ps lines.l at-loop.c (lines_from (lines.l + 1)) e) ∙ at-loop.invariant.4 ps C,
+      λ ps C. sym (line-done b ps lines.line at-loop.column (lines_from (lines.line + 1)) e) ∙ at-loop.invariant.4 ps C,
     )
 
-pub returns-then-found : goal.returns-then-found
-returns-then-found c = let args = c.args in
-    let b = board_of args.b in let ps = pairs_of args.nets in
+pub returns-then-is_odd : goal.returns-then-is_odd
+returns-then-is_odd c = let at-loop = c.loop-column in
+    let b = board_of c.args.b in let ps = pairs_of c.args.nets in
     let counted = c.count_terminals-counts in let a = counted.result in
-    let lines = c.lines in
-    elim c.lines-test.branch [
-      | else-lines-test w ↦
-          absurd (let z : ◌≡◌ {A = ℕ} 0 1 = cc (w.found-is, lines.invariant.2, c.if-found.true) in omega arith)
-      | then-lines-test+then-loop-c-test+then-is_odd w ↦
-          let i : w.wide.result * 32 + w.wide-in-loop-c.result ≡ lines.l * 32 + w.loop-c.c =
-          rw (w.wide.ensures.0, w.wide-in-loop-c.ensures.0) refl in
-          let e : w.is_odd.result ≡ odd_with b (get_or a (lines.l * 32 + w.loop-c.c) 0) (at lines.l w.loop-c.c) =
-          w.is_odd.ensures ∙ ap (λ (k : ℕ). odd_with b (get_or a k 0) (at lines.l w.loop-c.c)) i in
-          let h : w.loop-c.c < 32 = omega (arith, w.loop-c.invariant.2, w.loop-c-test.true) in
-          rw (w.line-is, w.column-is)
-          (ap found_vertex (sym (first-yes (odd? b ps) (line_more lines.l w.loop-c.c (lines_from (lines.l + 1)) h)
-          (sym (odd_counted b ps a counted.ensures lines.l w.loop-c.c w.loop-c.invariant.0 h)
-          ∙ (sym e ∙ w.if-is_odd.true))) ∙ w.loop-c.invariant.4 ps counted.ensures))
-    ]
+    let l = c.lines.line in
+    let i : c.from.result * 32 + c.from-in-loop-column.result ≡ l * 32 + at-loop.column =
+    rw (c.from.ensures, c.from-in-loop-column.ensures) refl in
+    let e : c.is_odd.result ≡ odd_with b (get_or a (l * 32 + at-loop.column) 0) (at l at-loop.column) =
+    c.is_odd.ensures ∙ ap (λ (k : ℕ). odd_with b (get_or a k 0) (at l at-loop.column)) i in
+    let h : at-loop.column < 32 = omega (arith, at-loop.invariant.2, c.loop-column-test.true) in
+    ap found_vertex (sym (first-yes (odd? b ps) (line_more l at-loop.column (lines_from (l + 1)) h)
+    (sym (odd_counted b ps a counted.ensures l at-loop.column at-loop.invariant.0 h)
+    ∙ (sym e ∙ c.if-is_odd.true))) ∙ at-loop.invariant.4 ps counted.ensures)
 
-pub returns-else-found : goal.returns-else-found
-returns-else-found c = let lines = c.lines in let args = c.args in
-    let b = board_of args.b in let ps = pairs_of args.nets in
-    elim c.lines-test.branch [
-      | else-lines-test w ↦
-          let e : lines.l ≡ lines_of b = omega (arith, w.lines-test.false, lines.invariant.0, lines.invariant.1) in
-          ap found_vertex (sym (lines-done b ps lines.l e) ∙ lines.invariant.3 ps c.count_terminals-counts.ensures)
-      | then-lines-test+then-loop-c-test+then-is_odd w ↦
-          absurd (let z : ◌≡◌ {A = ℕ} 0 1 = cc (w.found-is, c.if-found.false) in omega arith)
-    ]
+pub returns-after-lines : goal.returns-after-lines
+returns-after-lines c = let lines = c.lines in
+    let b = board_of c.args.b in let ps = pairs_of c.args.nets in
+    let e : lines.line ≡ lines_of b = omega (arith, c.lines-test.false, lines.invariant.0, lines.invariant.1) in
+    rw lines.invariant.2 (ap found_vertex (sym (lines-done b ps lines.line e) ∙ lines.invariant.3 ps c.count_terminals-counts.ensures))

@@ -7,24 +7,24 @@ use Rattle.board.specs.View.{board_of}
 use Rattle.board.specs.Board.{at}
 use Rattle.count.specs.Lists.{rising, first}
 use mathlib.Core.List.{List, map, ◌++◌, head?}
-use mathlib.Core.Bool.{false}
+use Rattle.std.specs.Prelude.{None}
 use mathlib.Core.Path.{◌≡◌}
 use Prim.Native.Nat.{◌+◌, ◌-◌, ◌≤◌, ◌<◌}
 use Rattle.cut_search.proofs.first_odd.Given as goal
 
-abbrev pub invariant-loop-c : goal.invariant-loop-c
-invariant-loop-c l =
-    (l.l < 32) × (l.c ≤ l.columns) × (l.columns ≡ columns_of (board_of l.b) l.l) × (l.found ≡ false)
-    × ((ps : List Pair) → Counts ps l.counts → first (odd? (board_of l.b) ps) (map (at l.l) (rising l.c (32 - l.c)) ++ lines_from (l.l + 1))
+abbrev pub invariant-loop-column : goal.invariant-loop-column
+invariant-loop-column l =
+    (l.line < 32) × (l.column ≤ l.columns) × (l.columns ≡ columns_of (board_of l.b) l.line) × (l.found ≡ None)
+    × ((ps : List Pair) → Counts ps l.counts → first (odd? (board_of l.b) ps) (map (at l.line) (rising l.column (32 - l.column)) ++ lines_from (l.line + 1))
     ≡ head? (odd_vertices (board_of l.b) ps))
 
-abbrev pub decreases-loop-c : goal.decreases-loop-c
-decreases-loop-c l = l.columns - l.c
+abbrev pub decreases-loop-column : goal.decreases-loop-column
+decreases-loop-column l = l.columns - l.column
 
 abbrev pub invariant-lines : goal.invariant-lines
 invariant-lines l =
-    (l.l ≤ l.lines) × (l.lines ≡ lines_of (board_of l.b)) × (l.found ≡ false) × ((ps : List Pair) → Counts ps l.counts
-    → first (odd? (board_of l.b) ps) (lines_from l.l) ≡ head? (odd_vertices (board_of l.b) ps))
+    (l.line ≤ l.lines) × (l.lines ≡ lines_of (board_of l.b)) × (l.found ≡ None) × ((ps : List Pair) → Counts ps l.counts
+    → first (odd? (board_of l.b) ps) (lines_from l.line) ≡ head? (odd_vertices (board_of l.b) ps))
 
 abbrev pub decreases-lines : goal.decreases-lines
-decreases-lines l = l.lines - l.l
+decreases-lines l = l.lines - l.line

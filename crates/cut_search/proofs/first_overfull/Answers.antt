@@ -5,12 +5,12 @@ use Rattle.board.specs.View.{board_of}
 use mathlib.Core.Path.{sym, ◌∙◌}
 use Rattle.cut_search.proofs.first_overfull.Goals as goal
 
-pub returns-in-At : goal.returns-in-At
-returns-in-At c =
+pub returns-in-Some : goal.returns-in-Some
+returns-in-Some c =
     let b = board_of c.args.b in let ps = pairs_of c.args.nets in
-    first_is_row b ps _ (sym c.in-At.is ∙ c.overfull_among-found.ensures)
+    first_is_row b ps _ (sym c.in-Some.is ∙ c.overfull_row.ensures)
 
-pub returns-in-Nothing : goal.returns-in-Nothing
-returns-in-Nothing c =
+pub returns-in-None : goal.returns-in-None
+returns-in-None c =
     let b = board_of c.args.b in let ps = pairs_of c.args.nets in
-    c.overfull_among.ensures ∙ first_is_column b ps (sym c.in-Nothing.is ∙ c.overfull_among-found.ensures)
+    c.overfull_column.ensures ∙ first_is_column b ps (sym c.in-None.is ∙ c.overfull_row.ensures)

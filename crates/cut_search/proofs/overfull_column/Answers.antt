@@ -13,7 +13,7 @@ use Rattle.cut_search.proofs.overfull_column.Goals as goal
 
 pub loop-j-init : goal.loop-j-init
 unfolding overfull_columns
-loop-j-init c = (omega arith, omega (arith, c.smaller-end.ensures), refl)
+loop-j-init c = (omega arith, omega (arith, c.min-end.ensures), refl)
 
 pub returns-then-is_overfull : goal.returns-then-is_overfull
 unfolding overfull_columns
@@ -33,5 +33,5 @@ loop-j-preserved c = let args = c.args in let loop = c.loop-j in (
 pub returns : goal.returns
 unfolding overfull_columns
 returns c = let args = c.args in let loop = c.loop-j in
-    let last = c.last_column in let end = c.smaller-end.ensures in
+    let last = c.last_column in let end = c.min-end.ensures in
     ap found_cut (sym (columns_done (board_of args.b) (pairs_of args.nets) last.result loop.j last.ensures (omega arith)) ∙ loop.invariant.2)

@@ -15,22 +15,21 @@ pub loop-l-init : goal.loop-l-init
 unfolding flat_map
 loop-l-init c =
     let args = c.args in
-    (omega arith, refl, refl, put_none 0 args.out.now)
+    (refl, refl, put_none 0 args.out.now)
 
 pub loop-l-preserved : goal.loop-l-preserved
 loop-l-preserved c =
     let draw-line = c.draw_line-end in
     let loop = c.loop-l in
     let args = c.args in let b = board_of args.b in (
-      omega arith,
       omega (arith, draw-line.ensures.ends, line-33 b loop.l),
-      draw-line.auto.out ∙ loop.invariant.2,
-      put_line_more (line_drawn b) loop.l loop.invariant.3 draw-line.ensures,
+      draw-line.auto.out ∙ loop.invariant.1,
+      put_line_more (line_drawn b) loop.l loop.invariant.2 draw-line.ensures,
     )
 
 pub returns : goal.returns
 returns c =
-    let loop = c.loop-l in let smaller = c.smaller-lines in
+    let loop = c.loop-l in
     let args = c.args in
-    let e : loop.l ≡ suc (min (height (board_of args.b)) 31) = omega (arith, smaller.ensures, height_of args.b) in
-    whole (rw e at loop.invariant.3) (omega (arith, smaller.ensures, loop.invariant.2))
+    let e : loop.l ≡ suc (min (height (board_of args.b)) 31) = omega (arith, c.min-lines.ensures, height_of args.b) in
+    whole (rw e at loop.invariant.2) (omega (arith, c.min-lines.ensures, loop.invariant.1))

@@ -1,6 +1,6 @@
 use mathlib.Core.Path.{◌≡◌}
 use mathlib.Core.List.{flat_map}
-use Prim.Native.Nat.{◌-◌, ◌*◌, ◌≤◌}
+use Prim.Native.Nat.{◌*◌}
 use lib.ListN.{length}
 use Rattle.count.specs.Lists.{up_to}
 use Rattle.text.specs.Put.{Put}
@@ -10,7 +10,4 @@ use Rattle.degrees.proofs.draw_board.Given as goal
 
 abbrev pub invariant-loop-l : goal.invariant-loop-l
 invariant-loop-l l =
-    (l.l ≤ l.lines) × (l.end ≡ 33 * l.l) × (length l.out ≡ length l.initial.out) × Put (flat_map (line_drawn (board_of l.b)) (up_to l.l)) 0 l.initial.out l.end l.out
-
-abbrev pub decreases-loop-l : goal.decreases-loop-l
-decreases-loop-l l = l.lines - l.l
+    (l.end ≡ 33 * l.l) × (length l.out ≡ length l.initial.out) × Put (flat_map (line_drawn (board_of l.b)) (up_to l.l)) 0 l.initial.out l.end l.out

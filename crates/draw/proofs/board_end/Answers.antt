@@ -1,31 +1,23 @@
--- No word before index `at` is the end word.
+-- No word that the loop has seen is the end word.
+use mathlib.Core.Path.{◌∙◌}
 use native.Mathlib.Omega.{arith}
-use mathlib.Core.Path.{refl, ◌∙◌}
-use Rattle.draw.specs.Laws.{looked_none, looked-end, looked-on, looked-all}
+use Rattle.draw.specs.Laws.{looked-end, looked-on, looked-all}
 use Rattle.draw.proofs.board_end.Goals as goal
 
-pub loop-at-init : goal.loop-at-init
-loop-at-init c = (refl, looked_none c.args.bytes.now)
+pub returns-then-is_last-clause-value : goal.returns-then-is_last-clause-value
+returns-then-is_last-clause-value c =
+    let seen = c.loop-word.invariant in
+    let step = rw c.in-Some.is at c.next.ensures.steps in
+    looked-end seen.1 _ _ step.1.0 (step.1.1 ∙ seen.0) c.if-is_last.true
 
-pub returns-then-bytes-at-eq15 : goal.returns-then-bytes-at-eq15
-returns-then-bytes-at-eq15 c =
-    let if1 = c.if-bytes-at-eq15 in
-    let loop = c.loop-at in
-    record {
-      value = looked-end loop.invariant.1 (omega arith) refl if1.true;
-      upper_bound = omega arith;
-    }
+pub loop-word-preserved : goal.loop-word-preserved
+loop-word-preserved c =
+    let seen = c.loop-word.invariant in
+    let step = rw c.in-Some.is at c.next.ensures.steps in
+    (step.0 ∙ seen.0, looked-on seen.1 _ _ step.1.0 (step.1.1 ∙ seen.0) c.if-is_last.false)
 
-pub loop-at-preserved : goal.loop-at-preserved
-loop-at-preserved c =
-    let if1 = c.if-bytes-at-eq15 in
-    let loop = c.loop-at in
-    (loop.invariant.0, looked-on loop.invariant.1 (omega arith) refl if1.false)
-
-pub returns : goal.returns
-returns c =
-    let loop = c.loop-at in
-    record {
-      value = loop.invariant.0 ∙ looked-all loop.invariant.1 (omega arith);
-      upper_bound = omega arith;
-    }
+pub returns-clause-value : goal.returns-clause-value
+returns-clause-value c =
+    let seen = c.loop-word.invariant in
+    let step = rw c.in-None.is at c.next.ensures.steps in
+    looked-all seen.1 (omega (arith, step.1.0, seen.0))

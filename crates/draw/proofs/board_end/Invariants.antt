@@ -1,11 +1,7 @@
 use mathlib.Core.Path.{◌≡◌}
-use Prim.Native.Nat.{◌-◌}
-use lib.ListN.{length}
+use Rattle.std.specs.Slice.Iter.{chunks_exact_rest, chunks_exact_size}
 use Rattle.draw.specs.Laws.{Looked}
 use Rattle.draw.proofs.board_end.Given as goal
 
-abbrev pub invariant-loop-at : goal.invariant-loop-at
-invariant-loop-at l = (l.n ≡ length l.bytes) × Looked l.bytes l.at
-
-abbrev pub decreases-loop-at : goal.decreases-loop-at
-decreases-loop-at l = l.n - l.at
+abbrev pub invariant-loop-word : goal.invariant-loop-word
+invariant-loop-word l = (chunks_exact_size l.word-iterator ≡ 4) × Looked l.bytes (chunks_exact_rest l.word-iterator) l.end

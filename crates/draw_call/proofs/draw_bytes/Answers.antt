@@ -1,64 +1,40 @@
--- `draw_bytes` draws as the definition does: 20, 37, 10, the check of the words, and then the page by the map that the check leaves.
+-- `draw_bytes` draws as the definition does: what is asked first, the check of the bytes, and then the page by the map that the check leaves.
 use native.Mathlib.Omega.{arith}
 use mathlib.Core.Path.{◌∙◌}
 use lib.ListN.{length}
+use Rattle.std.proofs.lemmas.Result.{err_from_is_err_and}
 use Rattle.board.specs.ViewLaws.{height_of}
 use Rattle.session.specs.View.{session_of}
-use Rattle.draw_call.specs.Laws.{refused_writes, drawn_writes, refused-some, refused_none, bytes-on, bytes-uneven, bytes_refused, bytes-passed}
+use Rattle.draw_call.specs.Laws.{refused_writes, drawn_writes, refused-some, refused_none, bytes-on, bytes_refused, bytes-passed}
 use Rattle.draw_call.proofs.draw_bytes.Goals as goal
 
-pub returns-then-number-ne0 : goal.returns-then-number-ne0
-returns-then-number-ne0 c =
-    let refused = c.refused in
-    let if1 = c.if-number-ne0 in
-    let ask-first = c.ask_first-number in
-    let args = c.args in
-    let s = session_of args.s in let room = length args.out.now in
-    rw refused.ensures (refused_writes args.out.now (bytes-on s args.bytes.now room
-    ∙ refused-some s room ask-first.ensures if1.true _))
+pub returns-in_err-ask_first : goal.returns-in_err-ask_first
+returns-in_err-ask_first c =
+    let p = err_from_is_err_and c.from_residual.result c.from_residual.ensures.1 in
+    let s = session_of c.args.s in let room = length c.args.out.now in
+    rw (p.1, p.2)
+    (refused_writes c.args.out.now (bytes-on s c.args.bytes.now room ∙ refused-some s room c.ask_first.ensures c.in_err-ask_first.was _))
 
 pub draw-requires : goal.draw-requires
 draw-requires c =
-    let if1 = c.if-number-ne0 in
-    let ask-first = c.ask_first-number in
-    let args = c.args in
-    let (within, enough, rest) = refused_none (session_of args.s) (length args.out.now) ask-first.ensures if1.false in
+    let (within, enough, rest) = refused_none (session_of c.args.s) (length c.args.out.now) c.ask_first.ensures c.in_ok-ask_first.was in
     record {
-      count_bound = omega (arith, within.few, height_of args.s.block.board);
+      count_bound = omega (arith, within.few, height_of c.args.s.block.board);
       in_bounds = enough;
     }
 
-pub returns-in-UnevenBytes : goal.returns-in-UnevenBytes
-returns-in-UnevenBytes c =
-    let refused2 = c.refused-in-UnevenBytes in
-    let check-bytes = c.check_bytes in
-    let if1 = c.if-number-ne0 in
-    let ask-first = c.ask_first-number in
-    let args = c.args in
-    let s = session_of args.s in let room = length args.out.now in
-    let (within, enough, rest) = refused_none s room ask-first.ensures if1.false in
-    rw refused2.ensures (refused_writes args.out.now (bytes-on s args.bytes.now room
-    ∙ (rest _ ∙ bytes-uneven within args.s.nets args.bytes.now check-bytes.ensures c.in-UnevenBytes.is)))
+pub returns-in_err-check_bytes : goal.returns-in_err-check_bytes
+returns-in_err-check_bytes c =
+    let p = err_from_is_err_and c.from_residual-in_err-check_bytes.result c.from_residual-in_err-check_bytes.ensures.1 in
+    let s = session_of c.args.s in let room = length c.args.out.now in
+    let (within, enough, rest) = refused_none s room c.ask_first.ensures c.in_ok-ask_first.was in
+    rw (p.1, p.2)
+    (refused_writes c.args.out.now (bytes-on s c.args.bytes.now room
+    ∙ (rest _ ∙ bytes_refused within c.args.s.nets c.args.bytes.now c.check_bytes.ensures c.in_err-check_bytes.field-0.0 c.in_err-check_bytes.was)))
 
-pub returns-in-Refused : goal.returns-in-Refused
-returns-in-Refused c =
-    let check-bytes = c.check_bytes in
-    let if1 = c.if-number-ne0 in
-    let ask-first = c.ask_first-number in
-    let args = c.args in
-    let s = session_of args.s in let room = length args.out.now in
-    let (within, enough, rest) = refused_none s room ask-first.ensures if1.false in
-    refused_writes args.out.now (bytes-on s args.bytes.now room
-    ∙ (rest _ ∙ bytes_refused within args.s.nets args.bytes.now check-bytes.ensures c.in-Refused.is))
-
-pub returns-in-Passed : goal.returns-in-Passed
-returns-in-Passed c =
-    let draw = c.draw in
-    let check-bytes = c.check_bytes in
-    let if1 = c.if-number-ne0 in
-    let ask-first = c.ask_first-number in
-    let args = c.args in
-    let s = session_of args.s in let room = length args.out.now in
-    let (within, enough, rest) = refused_none s room ask-first.ensures if1.false in
-    drawn_writes (bytes-on s args.bytes.now room
-    ∙ (rest _ ∙ bytes-passed within args.s.nets args.bytes.now check-bytes.ensures c.in-Passed.is)) draw.ensures
+pub returns : goal.returns
+returns c =
+    let s = session_of c.args.s in let room = length c.args.out.now in
+    let (within, enough, rest) = refused_none s room c.ask_first.ensures c.in_ok-ask_first.was in
+    drawn_writes (bytes-on s c.args.bytes.now room
+    ∙ (rest _ ∙ bytes-passed within c.args.s.nets c.args.bytes.now c.check_bytes.ensures c.in_ok-check_bytes.was)) c.draw.ensures

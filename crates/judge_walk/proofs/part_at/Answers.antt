@@ -1,21 +1,17 @@
 -- `part_at` is the part of the list that a path's runs are.
 use native.Mathlib.Omega.{arith}
-use mathlib.Core.Path.{ap, ◌∙◌}
+use mathlib.Core.Path.{ap, sym, ◌∙◌}
+use Rattle.std.proofs.Common.{ltb-false}
 use Rattle.words.specs.declared.Path.{Path}
+use Rattle.words.specs.RoutingWord.{path_in}
 use Rattle.judge_walk.specs.PartLaws.{part_out, part_runs}
 use Rattle.judge_walk.proofs.part_at.Goals as goal
 
-pub returns-then-len-at : goal.returns-then-len-at
-returns-then-len-at c = part_out _ _ (omega arith)
+pub returns-in_err-get : goal.returns-in_err-get
+returns-in_err-get c = c.from_residual.ensures ∙ part_out _ _ (ltb-false _ _ (sym c.in_err-get.ensures.lookup.0))
 
-pub returns-then-runs-len : goal.returns-then-runs-len
-returns-then-runs-len c =
-    let long = c.long-runs in
-    let path-in = c.path_in-path in
-    part_runs _ _ (omega arith) (omega arith) (omega (arith, long.ensures.0 ∙ ap (λ (p : Path). p.runs) path-in.ensures))
-
-pub returns-else-runs-len : goal.returns-else-runs-len
-returns-else-runs-len c =
-    let long = c.long-runs in
-    let path-in = c.path_in-path in
-    part_runs _ _ (omega arith) (omega arith) (omega (arith, long.ensures.0 ∙ ap (λ (p : Path). p.runs) path-in.ensures))
+pub returns : goal.returns
+returns c =
+    let (inside, word) = c.in_ok-get.ensures.lookup.3 in
+    let runs = ap (λ (p : Path). p.runs) (c.path_in-path.ensures ∙ ap path_in (word 0)) in
+    part_runs _ _ inside (omega arith) (omega arith)

@@ -1,50 +1,25 @@
 -- `walk_run` walks as the definition does. The invariant: from where the code stands, with what is left of the run, the walk comes to the same.
 use native.Mathlib.Omega.{arith}
-use mathlib.Core.Path.{sym, ◌∙◌}
+use mathlib.Core.Path.{◌≡◌}
+use Prim.Native.Nat.{◌+◌, ◌-◌}
 use Rattle.judge_walk.specs.WalkLaws.{along-start, along-off, along-again, along-on, along-done}
 use Rattle.judge_walk.proofs.walk_run.Goals as goal
 
-pub loop-left-init : goal.loop-left-init
-loop-left-init c = along-start
+pub loop-init : goal.loop-init
+loop-init c = let e : c.args.run.length - 0 ≡ c.args.run.length = omega arith in rw e along-start
 
-pub bounds-used-slot : goal.bounds-used-slot
-bounds-used-slot c = omega arith
+pub returns-then-not-is_edge : goal.returns-then-not-is_edge
+returns-then-not-is_edge c = along-off c.loop.invariant (omega arith) (cc c.is_edge.ensures.same)
 
-pub returns-then-off : goal.returns-then-off
-returns-then-off c =
-    let is-edge = c.is_edge-off in
-    let loop-test = c.loop-left-test in
-    let loop = c.loop-left in
-    along-off loop.invariant loop-test.true (sym is-edge.ensures.same ∙ c.if-off.true)
+pub returns-then-used-slot-gt0 : goal.returns-then-used-slot-gt0
+returns-then-used-slot-gt0 c =
+    along-again c.loop.invariant (omega arith) (cc c.is_edge.ensures.same) c.slot_of-slot.ensures.value c.if-used-slot-gt0.true
 
-pub returns-then-again : goal.returns-then-again
-returns-then-again c =
-    let is-edge = c.is_edge-off in
-    let slot_of = c.slot_of-slot in
-    let loop-test = c.loop-left-test in
-    let loop = c.loop-left in
-    along-again loop.invariant loop-test.true (cc is-edge.ensures.same) slot_of.ensures.value
-    (c.if-again.true)
-
-pub bounds-used-slot-in-loop-left : goal.bounds-used-slot-in-loop-left
-bounds-used-slot-in-loop-left c = omega arith
-
-pub overflow_sub-left : goal.overflow_sub-left
-overflow_sub-left c = omega arith
-
-pub loop-left-smaller : goal.loop-left-smaller
-loop-left-smaller c = omega arith
-
-pub loop-left-preserved : goal.loop-left-preserved
-loop-left-preserved c =
-    let if2 = c.if-again in
-    let if1 = c.if-off in
-    let is-edge = c.is_edge-off in
-    let slot_of = c.slot_of-slot in
-    let loop-test = c.loop-left-test in
-    let loop = c.loop-left in
-    along-on loop.invariant loop-test.true (sym is-edge.ensures.same ∙ if1.false) slot_of.ensures.value
-    (if2.false) c.next_of-v.ensures
+pub loop-preserved : goal.loop-preserved
+loop-preserved c =
+    let e : (c.args.run.length - c.loop.counter) - 1 ≡ c.args.run.length - (c.loop.counter + 1) = omega arith in
+    rw (← e)
+    (along-on c.loop.invariant (omega arith) (cc c.is_edge.ensures.same) c.slot_of-slot.ensures.value c.if-used-slot-gt0.false c.next_of-v.ensures)
 
 pub returns : goal.returns
-returns c = along-done c.loop-left.invariant c.loop-left-test.false
+returns c = along-done c.loop.invariant (omega arith)

@@ -7,24 +7,23 @@ use Rattle.net_places.specs.Places.{nets_from}
 use Rattle.net_places.proofs.CountLaws.{nets_none, length_more, length_first}
 use Rattle.net_places.proofs.count_nets.Goals as goal
 
-pub loop-i-init : goal.loop-i-init
-loop-i-init c = (omega arith, omega arith, omega (arith, length_first c.args.nets))
+pub loop-place-init : goal.loop-place-init
+loop-place-init c = (omega arith, omega (arith, length_first c.args.nets))
 
 pub overflow_add-n : goal.overflow_add-n
 overflow_add-n c = omega arith
 
-pub loop-i-preserved : goal.loop-i-preserved
-loop-i-preserved c = (
-  omega arith,
+pub loop-place-preserved : goal.loop-place-preserved
+loop-place-preserved c = (
   omega arith,
   omega (
     arith,
     c.held_one-n.ensures.value,
-    length_more c.args.nets c.loop-i.i (omega arith),
+    length_more c.args.nets c.loop-place.place-index (omega arith),
   ),
 )
 
 pub returns : goal.returns
-returns c = let at = c.loop-i in let nets = c.args.nets in
-    let l : length (nets_from (suc at.i) (drop at.i nets)) ≡ 0 = ap length (nets_none nets at.i (omega arith)) in
+returns c = let at = c.loop-place in let nets = c.args.nets in
+    let l : length (nets_from (suc at.place-index) (drop at.place-index nets)) ≡ 0 = ap length (nets_none nets at.place-index (omega arith)) in
     omega arith

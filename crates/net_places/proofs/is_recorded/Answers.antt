@@ -1,20 +1,16 @@
 -- `is_recorded` tells whether this very net is held.
+use Rattle.std.specs.Prelude.{◌≡◌, Bool, None, Some}
+use Rattle.std.specs.Option.{option_eq}
+use Rattle.net.specs.View.{Held}
+use Rattle.net.specs.declared.Pair.{Pair}
+use Rattle.net.specs.contracts.PairPartialEq.TheImpl.{eq-value}
+use Rattle.net_places.specs.Nets.{held_same}
 use Rattle.net_places.proofs.NetsLaws.{recorded_of}
 use Rattle.net_places.proofs.is_recorded.Goals as goal
 
-pub returns-in-Nothing : goal.returns-in-Nothing
-returns-in-Nothing c = rw (
-  recorded_of c.args.nets c.args.net,
-  ← c.place_of-place.ensures,
-) (cc)
+same : (p : Pair) (h : Held) {t : Bool} → t ≡ option_eq eq-value.it (Some p) h → t ≡ held_same p h
+same p None e = e
+same p (Some q) e = e
 
-pub returns-in-Ends : goal.returns-in-Ends
-returns-in-Ends c =
-    let at2 = c in
-    let at4 = at2 in
-    let at5 = at4 in
-    rw (
-      recorded_of at5.args.nets at5.args.net,
-      ← at4.place_of-place.ensures,
-      at2.in-Ends.is,
-    ) c.same_pair.ensures
+pub returns : goal.returns
+returns c = rw (recorded_of c.args.nets c.args.net, ← c.place_of.ensures) (same c.args.net.ends c.place_of.result c.eq.ensures)

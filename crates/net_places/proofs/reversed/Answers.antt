@@ -8,4 +8,4 @@ returns-in-Added c = rw c.in-Added.is c.stored.ensures
 
 pub returns-in-Withdrawn : goal.returns-in-Withdrawn
 unfolding reversed_in
-returns-in-Withdrawn c = rw (c.in-Withdrawn.is, ← c.holding.ensures) c.stored-in-Withdrawn.ensures
+returns-in-Withdrawn c = rw c.in-Withdrawn.is c.stored-in-Withdrawn.ensures

@@ -10,8 +10,8 @@ returns-then-v-lt32-2 c = rw (
   lt-ltb _ _ c.if-v-lt32.true,
   lt-ltb _ _ c.if-v-lt32-2.true,
   c.raised.ensures,
-  c.wide.ensures.0,
-  c.wide-then-v-lt32-2.ensures.0,
+  c.from.ensures,
+  c.from-then-v-lt32-2.ensures,
 ) refl
 
 pub returns-else-v-lt32-2 : goal.returns-else-v-lt32-2

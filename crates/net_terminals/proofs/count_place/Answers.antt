@@ -2,5 +2,5 @@
 use mathlib.Core.Path.{refl}
 use Rattle.net_terminals.proofs.count_place.Goals as goal
 
-pub returns-in-Ends : goal.returns-in-Ends
-returns-in-Ends c = rw (c.in-Ends.is, c.count_at-in-Ends.ensures, c.count_at.ensures) refl
+pub returns-in-Some : goal.returns-in-Some
+returns-in-Some c = rw (c.in-Some.is, c.count_at-in-Some.ensures, c.count_at.ensures) refl

@@ -4,11 +4,10 @@ use Rattle.net.specs.View.{pairs_of}
 use Rattle.pairing_search.specs.Answer.{helps-found, helps-none}
 use Rattle.pairing_search.proofs.helpers_of.Goals as goal
 
-pub returns-then-n-eq0 : goal.returns-then-n-eq0
-returns-then-n-eq0 c =
-    let args = c.args in let r = c.no_helpers in
-    helps-none (board_of args.b) (pairs_of args.nets) c.requires.count_bound.1 args.odds c.requires.few c.if-n-eq0.true r.result
-    r.ensures.0 r.ensures.1 r.ensures.2 r.ensures.3
+pub returns-then-odds-eq0 : goal.returns-then-odds-eq0
+returns-then-odds-eq0 c =
+    let args = c.args in
+    rw c.no_helpers.ensures (helps-none (board_of args.b) (pairs_of args.nets) c.requires.count_bound.1 args.odds c.requires.few c.if-odds-eq0.true)
 
 pub returns : goal.returns
 returns c =

@@ -1,32 +1,27 @@
--- After k turns the odd vertices of the last k lines are collected.
-use native.Mathlib.Omega.{arith}
+-- After the turn of a line the odd vertices from that line on are collected.
+use Rattle.std.proofs.Common.{◌≡◌, ◌+◌, ◌-◌, ◌∙◌, arith}
 use Rattle.board.specs.View.{board_of}
 use Rattle.net.specs.View.{pairs_of}
-use Rattle.pairing_search.specs.Collect.{lines-first, lines-turn, lines_last}
+use Rattle.pairing_search.specs.Collect.{lines-first, lines-turn, lines_last, lines_many}
 use Rattle.pairing_search.proofs.odd_vertices.Goals as goal
 
-pub loop-k-init : goal.loop-k-init
-loop-k-init c =
-    let n = c.lines_of-lines in let args = c.args in (
-      omega arith,
-      n.ensures,
-      λ ps C. lines-first (board_of args.b) ps n.result n.ensures c.no_odds-odds.result
-          c.no_odds-odds.ensures,
-    )
+pub loop-line-init : goal.loop-line-init
+loop-line-init c ps C = rw c.no_odds-odds.ensures (lines-first (board_of c.args.b) ps c.lines_of-line.result c.lines_of-line.ensures)
 
-pub loop-k-preserved : goal.loop-k-preserved
-loop-k-preserved c =
-    let loop = c.loop-k in
-    let n = c.lines_of-lines in let args = c.args in (
-      omega arith,
-      loop.invariant.1,
-      λ ps C. lines-turn (board_of args.b) ps n.result loop.invariant.1 loop.k (omega arith) loop.odds c.with_line-odds.result
-          (λ vs D. c.with_line-odds.ensures ps vs C D) (loop.invariant.2 ps C),
-    )
+pub returns-in_err-odds : goal.returns-in_err-odds
+returns-in_err-odds c =
+    let b = board_of c.args.b in let ps = pairs_of c.args.nets in let C = c.count_terminals-counts.ensures in
+    let l = c.loop-line.line - 1 in let k : c.loop-line.line ≡ l + 1 = omega arith in
+    c.from_residual.ensures
+    ∙ lines_many b ps l (omega arith)
+    (lines-turn b ps l (omega arith) _ _ (λ vs D. c.in_err-odds.ensures ps vs C D) (rw k at (c.loop-line.invariant ps C)))
+
+pub loop-line-preserved : goal.loop-line-preserved
+loop-line-preserved c ps C =
+    let l = c.loop-line.line - 1 in let k : c.loop-line.line ≡ l + 1 = omega arith in
+    lines-turn (board_of c.args.b) ps l (omega arith) _ _ (λ vs D. c.in_ok-odds.ensures ps vs C D) (rw k at (c.loop-line.invariant ps C))
 
 pub returns : goal.returns
 returns c =
-    let loop = c.loop-k in
-    let args = c.args in let ps = pairs_of args.nets in
-    lines_last (board_of args.b) ps c.lines_of-lines.result loop.invariant.1 loop.k loop.invariant.0 c.loop-k-test.false loop.odds
-    (loop.invariant.2 ps c.count_terminals-counts.ensures)
+    let ps = pairs_of c.args.nets in let z : c.loop-line.line ≡ 0 = omega arith in
+    lines_last (board_of c.args.b) ps _ (rw z at (c.loop-line.invariant ps c.count_terminals-counts.ensures))

@@ -1,8 +1,6 @@
 -- `wire_table` hands back a routing: the parts promise what the laws `fits-buffer` and `handed-back` ask for.
 use native.Mathlib.Omega.{arith}
 use mathlib.Core.Path.{sym}
-use Prim.Native.Nat.{ℕ}
-use lib.ListN.{length-replicate}
 use Rattle.board.specs.ViewLaws.{height_of}
 use Rattle.session.specs.View.{session_of}
 use Rattle.route_call.specs.Starting.{first_low}
@@ -12,10 +10,8 @@ use Rattle.route_call.proofs.wire_table.Goals as goal
 pub fill_lines-requires : goal.fill_lines-requires
 fill_lines-requires c =
     let board = c.args.s.block.board in
-    let W = c.requires.sound.0.within in record {
-      le_count = (omega (arith, height_of board, W.some), omega (arith, height_of board, W.few));
-      lo_len = (length-replicate {A = ℕ} 32 0, length-replicate {A = ℕ} 32 0);
-    }
+    let W = c.requires.sound.0.within in
+    (omega (arith, height_of board, W.some), omega (arith, height_of board, W.few))
 
 pub cut_all-requires : goal.cut_all-requires
 cut_all-requires c =
@@ -29,13 +25,15 @@ cut_all-requires c =
 pub write_paths-requires : goal.write_paths-requires
 write_paths-requires c =
     let args = c.args in
-    fits-buffer (session_of args.s) c.requires.sound.0 (sym (height_of args.s.block.board)) c.fill_lines.ensures
-    c.requires.sound.1 c.first_work-work.result c.first_work-work.ensures c.cut_all.ensures
+    fits-buffer (session_of args.s) c.requires.sound.0 (sym (height_of args.s.block.board)) c.fill_lines.new.lines c.fill_lines.ensures
+    args.table.now args.notes.now c.requires.sound.1 c.first_work-work.result c.first_work-work.ensures _ c.cut_all.new.notes _
+    c.cut_all.ensures.cut_all
     c.requires.s_in_bounds
 
 pub returns : goal.returns
 returns c =
     let args = c.args in
-    handed-back (session_of args.s) c.requires.sound.0 (sym (height_of args.s.block.board)) c.fill_lines.ensures
-    c.requires.sound.1 c.first_work-work.result c.first_work-work.ensures c.cut_all.ensures
+    handed-back (session_of args.s) c.requires.sound.0 (sym (height_of args.s.block.board)) c.fill_lines.new.lines c.fill_lines.ensures
+    args.table.now args.notes.now c.requires.sound.1 c.first_work-work.result c.first_work-work.ensures _ c.cut_all.new.notes _
+    c.cut_all.ensures.cut_all
     c.write_paths.ensures.value c.write_paths.ensures.out_after

@@ -1,49 +1,20 @@
--- Each way out is a step or a way to be stuck, by the laws of Moved.
-use native.Mathlib.Omega.{arith}
-use mathlib.Core.Path.{refl}
-use Rattle.router_ends.specs.Moved.{down-done, down-none, down-empty}
-use Rattle.router_ends.specs.Near.{near_halted}
+-- The pair goes down, or the router is stuck, by the laws of Moved.
+use Rattle.std.proofs.Common.{arith, inl, inr, refl}
+use Rattle.router_ends.specs.Moved.{no-down, goes-down}
 use Rattle.router_ends.proofs.go_down.Goals as goal
+use Rattle.router_ends.proofs.go_down.Goals.{then-x-from-via-then-x-from, then-x-from-via-else-x-from+then-i-w}
 
-pub returns-then-x-end : goal.returns-then-x-end
-returns-then-x-end c =
-    record {
-      one_down = λ half s1 s2 d1 d2 lo hi. down-empty c.args.la.now c.args.lb.now c.args.ids.now c.args.side.now
-          c.args.vert.now half s1 s2 d1 d2 lo hi
-          c.args.w c.args.line c.args.x c.args.end c.args.i _ _ c.halted.ensures c.if-x-end.true;
-      near = near_halted c.args.w _ c.halted.ensures (omega (arith, c.requires.5, c.requires.6)) c.requires.6;
-    }
+pub returns-then-x-from-clause-one_down : goal.returns-then-x-from-clause-one_down
+returns-then-x-from-clause-one_down c =
+    let a = c.args in
+    no-down a.table.now a.notes.now a.lines.now a.w a.line a.x a.i c.from.result c.from.ensures (elim c.then-x-from.branch [
+      | then-x-from-via-then-x-from w ↦ inl w.if-x-from.true
+      | then-x-from-via-else-x-from+then-i-w w ↦ inr w.if-i-w.true
+    ])
 
-pub returns-then-n-i : goal.returns-then-n-i
-returns-then-n-i c =
-    record {
-      one_down = λ half s1 s2 d1 d2 lo hi. down-none c.args.la.now c.args.lb.now c.args.ids.now c.args.side.now
-          c.args.vert.now half s1 s2 d1 d2 lo hi
-          c.args.w c.args.line c.args.x c.args.end c.args.i _ _ c.halted-then-n-i.ensures c.if-x-end.false
-          c.if-n-i.true;
-      near = near_halted c.args.w _ c.halted-then-n-i.ensures (omega (arith, c.requires.5, c.requires.6)) c.requires.6;
-    }
-
-pub overflow_mul-v : goal.overflow_mul-v
-overflow_mul-v c =
-    omega (arith, c.requires.4 c.args.i)
-
-pub overflow_add-v : goal.overflow_add-v
-overflow_add-v c =
-    omega (arith, c.requires.4 c.args.i)
-
-pub overflow_add-v-2 : goal.overflow_add-v-2
-overflow_add-v-2 c =
-    omega (arith, c.requires.4 c.args.i, c.bit.ensures)
-
-pub returns : goal.returns
-returns c =
-    record {
-      one_down = λ half s1 s2 d1 d2 lo hi. down-done c.args.la.now c.args.lb.now c.args.ids.now c.args.side.now
-          c.args.vert.now half s1 s2 d1 d2 lo hi
-          c.args.w c.args.line c.args.x c.args.end c.args.i c.word-from.result
-          c.below-to.result _ _
-          c.word-from.ensures.0 c.if-n-i.false _ _ _ _ lo _ c.slide.ensures.moved c.slide.ensures.side_after c.if-x-end.false
-          c.bit.result c.bit.ensures.0 c.below-to.ensures refl refl refl refl;
-      near = (omega (arith, c.requires.5, c.requires.6), c.requires.6, omega arith, omega arith);
-    }
+pub returns-clause-one_down : goal.returns-clause-one_down
+returns-clause-one_down c =
+    let a = c.args in
+    goes-down a.table.now a.notes.now a.lines.now a.w a.line a.x a.i c.word-from.result c.below-to.result _ _ c.from.result c.word-from.ensures.0
+    c.from.ensures (omega (arith, c.if-i-w.false)) c.slide.ensures.moved c.slide.ensures.left c.if-x-from.false c.below-to.ensures refl
+    (rw c.from-2.ensures refl)

@@ -1,49 +1,23 @@
 -- No second end, or the two pairs part, by the laws of Went.
-use native.Mathlib.Omega.{arith}
-use mathlib.Core.Path.{◌∙◌}
-use Rattle.router_notes.specs.Limits.{pair_limit}
-use Rattle.router_ends.specs.Went.{two-stuck, two-part, picked_row}
-use Rattle.router_ends.specs.Near.{near_halted, near_counted}
-use borrow.Author.Rules.{rules}
+use Rattle.std.proofs.Common.{inl, inr, ap, ◌∙◌}
+use Rattle.router_ends.specs.Went.{no-second, parts}
 use Rattle.router_ends.proofs.two_ends.Goals as goal
+use Rattle.router_ends.proofs.two_ends.Goals.{then-swaps, else-swaps}
 
-pub returns-then-j-n : goal.returns-then-j-n
-returns-then-j-n c =
-    record {
-      two_ends = λ half s1 s2 d1 d2 hi. two-stuck c.args.la.now c.args.lb.now c.args.ids.now c.args.side.now
-          c.args.vert.now half s1 s2 d1 d2
-          c.args.lo.now hi c.args.w c.args.i c.args.line c.args.x c.word-from.result c.requires.0
-          c.word-from.ensures.0 _ _ c.first_at-j.result c.halted.ensures c.first_at-j.ensures c.if-j-n.true;
-      near = near_halted c.args.w _ c.halted.ensures c.requires.5 c.requires.6;
-    }
+pub returns-then-j-w-clause-two_ends : goal.returns-then-j-w-clause-two_ends
+returns-then-j-w-clause-two_ends c =
+    let a = c.args in
+    no-second a.table.now a.notes.now a.lines.now a.w a.i a.line a.x c.word-from.result c.first_at-j.result c.requires.0 c.word-from.ensures.0
+    c.first_at-j.ensures c.if-j-w.true
 
-pub split-requires : goal.split-requires
-split-requires c = (
-  picked_row c.swaps-swapped.result c.pick-right.result c.first_at-j.result c.args.i pair_limit c.pick-right.ensures
-      (omega (arith, c.first_at-j.ensures.most, c.if-j-n.false)) (omega arith),
-  picked_row c.swaps-swapped.result c.pick-down.result c.args.i c.first_at-j.result pair_limit
-      c.pick-down.ensures
-      (omega arith) (omega (arith, c.first_at-j.ensures.most, c.if-j-n.false)),
-  omega (arith, c.word-from.ensures),
-  search rules,
-  omega (arith, c.requires.4 c.pick-right.result),
-  omega (arith, c.requires.4 c.pick-down.result),
-)
-
-pub returns : goal.returns
-returns c =
-    record {
-      two_ends = λ half s1 s2 d1 d2 hi. two-part c.args.la.now c.args.lb.now c.args.ids.now c.args.side.now
-          c.args.vert.now half s1 s2 d1 d2
-          c.args.lo.now hi c.args.w c.args.i c.args.line c.args.x c.word-from.result c.requires.0
-          c.word-from.ensures.0 c.first_at-j.result c.below-bul.result c.bit.result c.long-s.result
-          c.long-t.result
-          c.first_at-j.ensures c.if-j-n.false c.below-bul.ensures c.bit.ensures.0
-          (c.long-s.ensures.0 ∙ c.far.ensures)
-          (c.long-t.ensures.0 ∙ c.far-2.ensures) _ _ _ _ _ c.shorten.ensures _ c.counted.ensures
-          c.swaps-swapped.result
-          c.swaps-swapped.ensures c.pick-right.result c.pick-down.result c.pick-right.ensures c.pick-down.ensures
-          c.split.ensures;
-      near = near_counted c.args.w _ c.args.w.n c.args.w.next c.counted.ensures (omega arith) (omega arith) c.requires.5
-          c.requires.6;
-    }
+pub returns-clause-two_ends : goal.returns-clause-two_ends
+returns-clause-two_ends c =
+    let a = c.args in
+    parts a.table.now a.notes.now a.lines.now a.w a.i a.line a.x c.word-from.result c.first_at-j.result c.requires.0 c.word-from.ensures.0
+    c.first_at-j.ensures c.if-j-w.false c.below-bul.result c.from-s.result c.from-t.result c.below-bul.ensures
+    (c.from-s.ensures ∙ c.far.ensures) (c.from-t.ensures ∙ c.far-2.ensures) c.swaps.result _ _ c.swaps.ensures
+    (elim c.if-swaps.branch [
+      | then-swaps w ↦ inl (w.if-swaps.true, ap (λ p. p.0) w.right-is, ap (λ p. p.1) w.right-is)
+      | else-swaps w ↦ inr (w.if-swaps.false, ap (λ p. p.0) w.right-is, ap (λ p. p.1) w.right-is)
+    ])
+    (rw c.from-up.ensures at c.split.ensures) c.shorten.ensures

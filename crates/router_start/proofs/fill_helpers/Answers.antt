@@ -1,29 +1,11 @@
 -- After i turns the first i helper pairs stand in the rows from row k on.
-use native.Mathlib.Omega.{arith}
-use mathlib.Core.Path.{◌≡◌, refl}
-use Rattle.router_start.specs.TableLaws.{puts_none, puts-more}
-use borrow.Author.Rules.{rules}
+use Rattle.std.proofs.Common.{arith}
+use Rattle.router_start.specs.TableLaws.{kept_on, puts-more}
 use Rattle.router_start.proofs.fill_helpers.Goals as goal
-
-pub loop-i-init : goal.loop-i-init
-loop-i-init c = (omega arith, search rules, puts_none c.args.pairs c.args.k _ _ _ _ _)
-
-pub fill_row-requires : goal.fill_row-requires
-fill_row-requires c = omega arith
 
 pub loop-i-preserved : goal.loop-i-preserved
 loop-i-preserved c =
-    let loop = c.loop-i in
-    let args = c.args in (
-      omega arith,
-      loop.invariant.1,
-      puts-more args.pairs args.k loop.i (omega (arith, loop.invariant.1)) loop.invariant.2 c.fill_row.ensures,
+    let l = c.loop-i in (
+      puts-more c.args.pairs.now c.args.k l.i (omega arith) l.invariant.0 c.fill_row.ensures.0,
+      kept_on c.args.notes.now l.notes c.fill_row.new.notes l.invariant.1 c.fill_row.ensures.1,
     )
-
-pub returns : goal.returns
-returns c =
-    let loop = c.loop-i in let e : loop.i ≡ c.args.count = omega arith in
-    record {
-      puts_on = rw e at loop.invariant.2;
-      value = refl;
-    }

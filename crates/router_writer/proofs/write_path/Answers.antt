@@ -26,11 +26,10 @@ loop-from-preserved c =
     let put = c.put in
     let run-word = c.run_word in
     let direction-of = c.direction_of-d in
-    let as-word = c.as_word in
     let run_length = c.run_length-n in
     let loop = c.loop-from in
     rw put.ensures (partly_next loop.invariant run_length.ensures
-    (run-word.ensures ∙ ap (λ (d : Direction). run_word (run d run_length.result)) (direction-of.ensures ∙ ap direction as-word.ensures.0)))
+    (run-word.ensures ∙ ap (λ (d : Direction). run_word (run d run_length.result)) (direction-of.ensures ∙ ap direction c.from.ensures)))
 
 pub returns : goal.returns
 returns c =

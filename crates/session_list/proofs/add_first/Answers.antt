@@ -25,4 +25,4 @@ returns c =
     let at = c.args in
     let l : length at.nets ≡ 65 = search (rules, length_unmapped_by) in
     subst (λ (ns : List Net). AddAllPromise at.s ns c.lent.result) (no_more at.count 65 at.nets (omega arith))
-    (subst (λ (n : ℕ). AddAllPromise at.s (take n at.nets) c.lent.result) c.least.ensures c.lent.ensures)
+    (subst (λ (n : ℕ). AddAllPromise at.s (take n at.nets) c.lent.result) c.min.ensures c.lent.ensures)

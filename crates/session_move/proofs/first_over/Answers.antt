@@ -25,8 +25,8 @@ returns-then-is_over c =
     let counts = c.count_terminals-counts in
     let args = c.args in
     let here = c.vertex_at-v.ensures in
-    let wide = c.wide in let wide2 = c.wide-in-loop-i in
-    let over = over-there (board_of args.b.board) here wide.ensures.0 wide2.ensures.0 c.is_over.ensures in
+    let wide = c.from in let wide2 = c.from-in-loop-i in
+    let over = over-there (board_of args.b.board) here wide.ensures wide2.ensures c.is_over.ensures in
     let none = c.loop-i.invariant.1 in
     rw here
     (ap found_vertex (sym (found_at args.b args.nets counts.result counts.ensures i (omega arith) none (sym over ∙ c.if-is_over.true))))
@@ -34,8 +34,8 @@ returns-then-is_over c =
 pub loop-i-preserved : goal.loop-i-preserved
 loop-i-preserved c =
     let b = c.args.b in let board = board_of b.board in
-    let wide = c.wide in let wide2 = c.wide-in-loop-i in
-    let over = over-there board c.vertex_at-v.ensures wide.ensures.0 wide2.ensures.0 c.is_over.ensures in (
+    let wide = c.from in let wide2 = c.from-in-loop-i in
+    let over = over-there board c.vertex_at-v.ensures wide.ensures wide2.ensures c.is_over.ensures in (
       omega arith,
       none_next board c.count_terminals-counts.result b.taken c.loop-i.i c.loop-i.invariant.1 (sym over ∙ c.if-is_over.false),
     )

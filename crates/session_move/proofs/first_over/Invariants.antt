@@ -4,7 +4,7 @@ use Rattle.session_move.specs.Search.{NoneBefore}
 use Rattle.session_move.proofs.first_over.Given as goal
 
 abbrev pub invariant-loop-i : goal.invariant-loop-i
-invariant-loop-i l = (l.i ≤ 1024) × NoneBefore (board_of l.board) l.counts l.taken l.i
+invariant-loop-i l = (l.i ≤ 1024) × NoneBefore (board_of l.b.board) l.counts l.b.taken l.i
 
 abbrev pub decreases-loop-i : goal.decreases-loop-i
 decreases-loop-i l = 1024 - l.i

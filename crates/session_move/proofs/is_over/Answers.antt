@@ -19,4 +19,4 @@ returns-then-used-eq0 c =
     ]
 
 pub returns : goal.returns
-returns c = rw (c.is_vertex.ensures.same, c.wide.ensures.0, c.pins_by.ensures) refl
+returns c = rw (c.is_vertex.ensures.same, c.from.ensures, c.pins_by.ensures) refl

@@ -9,7 +9,7 @@ unfolding move_of
 returns-then-not-sound c =
     let sound = c.sound in
     move_promise c.args.s _
-    (rw (sym sound.ensures.same ∙ c.if-not-sound.true) c.refuse.ensures)
+    (rw (sym sound.ensures.same ∙ c.if-not-sound.true) c.refused.ensures)
 
 pub returns : goal.returns
 unfolding move_of

@@ -1,49 +1,36 @@
--- `is_addable` tells whether the nets could all be added to the bare board. The invariant: what was found, and that the places from i on have room,
--- is that all have.
-use native.Mathlib.Omega.{arith}
-use mathlib.Core.Path.{◌≡◌, refl, ◌∙◌}
-use mathlib.Core.Bool.{Bool}
-use mathlib.Core.List.{List}
-use lib.ListN.{length, get_or}
-use Rattle.board_block.specs.Block.{Block}
+-- `is_addable` asks of each place whether there is room by the counts, which are those of all terminals.
+use Rattle.std.proofs.Common.{sym, ◌∙◌, Bool, length, ◌≤◌, take_all, arith, rules}
+use Rattle.std.proofs.lemmas.List.Folds.{list_all_more, list_all_at}
+use Rattle.count.specs.TruthLaws.{and_yes}
 use Rattle.board_block.specs.View.{block_of}
-use Rattle.net.specs.Terminals.{terminals}
-use Rattle.net.specs.View.{nothing, pairs_of}
-use Rattle.net.specs.declared.Place.{Place}
-use Rattle.session_sound.specs.Room.{held_room, places_room}
-use Rattle.session_sound.specs.Every.{every-next, every-last}
-use Rattle.session_sound.specs.RoomLaws.{counted_room}
-use borrow.Author.Rules.{rules}
+use Rattle.net.specs.View.{Held, nothing, pairs_of}
+use Rattle.session_sound.specs.Room.{counted_at, held_room}
+use Rattle.session_sound.specs.RoomLaws.{counted_all}
 use Rattle.session_sound.proofs.is_addable.Goals as goal
 
--- DEFINITION: what is asked of a place
-abbrev hasRoom : Block → List Place → Place → Bool
-hasRoom b nets p = held_room b (terminals (pairs_of nets)) p.held
+pub loop-place-preserved : goal.loop-place-preserved
+loop-place-preserved c =
+    let at = c.loop-place in
+    let p : Held → Bool = held_room (block_of c.args.b) (counted_at c.count_terminals-counts.result) in
+    rw (list_all_more p c.args.nets at.place-index nothing (omega arith))
+    (and_yes _ _ at.invariant (sym c.has_room.ensures ∙ c.if-not-has_room.false))
 
-pub loop-i-init : goal.loop-i-init
-loop-i-init c = (omega arith, search rules, refl)
-
-pub loop-i-preserved : goal.loop-i-preserved
-unfolding places_room
-loop-i-preserved c =
-    let at = c.loop-i in
-    let args = c.args in
-    let b = block_of args.b in
-    let nets = args.nets in
-    let has = c.has_room-ok.ensures ∙ counted_room b (pairs_of nets) _ c.count_terminals-counts.ensures (get_or nets at.i nothing).held in
-    let all = places_room b (terminals (pairs_of nets)) in (
-      omega arith,
-      at.invariant.1,
-      every-next all (hasRoom b nets) (λ p ps. refl) nets at.i nothing at.ok c.has_room-ok.result _ (omega arith) has at.invariant.2,
+pub returns-then-not-has_room : goal.returns-then-not-has_room
+returns-then-not-has_room c =
+    let b = block_of c.args.b in
+    let nets = c.args.nets in
+    let counts = c.count_terminals-counts in
+    let p : Held → Bool = held_room b (counted_at counts.result) in (
+      sym (list_all_at p nets c.loop-place.place-index nothing (omega arith) (sym c.has_room.ensures ∙ c.if-not-has_room.true))
+          ∙ counted_all b (pairs_of nets) counts.result counts.ensures nets,
+      search rules,
     )
 
 pub returns : goal.returns
-unfolding places_room
 returns c =
-    let at = c.loop-i in
-    let args = c.args in
-    let nets = args.nets in
-    let last : at.i ≡ length nets = omega arith in
-    let b = block_of args.b in
-    let all = places_room b (terminals (pairs_of nets)) in
-    (every-last all (hasRoom b nets) (λ p ps. refl) nets refl at.ok _ (rw last at at.invariant.2), at.invariant.1)
+    let b = block_of c.args.b in
+    let nets = c.args.nets in
+    let counts = c.count_terminals-counts in
+    let at = c.loop-place in
+    let end : length nets ≤ at.place-index = omega arith in
+    (sym (rw (take_all at.place-index nets end) at at.invariant) ∙ counted_all b (pairs_of nets) counts.result counts.ensures nets, search rules)

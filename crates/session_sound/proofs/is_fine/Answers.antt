@@ -1,22 +1,13 @@
 -- `is_fine` asks whether the nets that are kept under a name could all be added; where nothing is kept, there is nothing to ask.
-use mathlib.Core.Path.{◌≡◌, refl, ◌∙◌}
-use mathlib.Core.Bool.{true, false}
-use borrow.Author.Tests.{not-true, not-false}
+use Rattle.std.proofs.Common.{◌∙◌}
 use Rattle.net_places.proofs.NetsLaws.{rising_of}
 use Rattle.session_sound.specs.RoomLaws.{room_addable}
 use Rattle.session_sound.proofs.is_fine.Goals as goal
 
-pub returns-then-not-layout : goal.returns-then-not-layout
-returns-then-not-layout c =
-    let layout = c.args.layout in
-    let e : layout.kept ≡ false = not-true layout.kept c.if-not-layout.true in
-    (rw e refl, λ within. rw e refl)
-
-pub returns : goal.returns
-returns c =
-    let layout = c.args.layout in
-    let e : layout.kept ≡ true = not-false layout.kept c.if-not-layout.false in
+pub returns-in-Some : goal.returns-in-Some
+returns-in-Some c =
+    let nets = c.in-Some.nets in
     let room = c.is_addable.ensures in (
-      rw e room.0,
-      λ within. rw (e, rising_of layout.nets) (room.0 ∙ room_addable _ layout.nets within room.1),
+      rw c.in-Some.is room.0,
+      λ within. rw (c.in-Some.is, rising_of nets) (room.0 ∙ room_addable _ nets within room.1),
     )

@@ -6,7 +6,7 @@ use Rattle.wire_call.proofs.word_limit.Goals as goal
 
 pub overflow_add-result-2 : goal.overflow_add-result-2
 overflow_add-result-2 c =
-    omega (arith, c.wide.ensures.1, c.edge_count.ensures, edges_most (board_of c.args.s.block.board) c.requires.within)
+    omega (arith, c.from.ensures, c.edge_count.ensures, edges_most (board_of c.args.s.block.board) c.requires.within)
 
 pub returns : goal.returns
-returns c = omega (arith, c.wide.ensures.0, c.count_nets.ensures, c.edge_count.ensures)
+returns c = omega (arith, c.from.ensures, c.count_nets.ensures, c.edge_count.ensures)

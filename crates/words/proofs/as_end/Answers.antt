@@ -8,7 +8,7 @@ unfolding as_end
 returns-then-pack_end-w c =
     let at = c in
     let w = at.args.w in
-    let book = at.book_of-book.ensures in
+    let book = at.from-book.ensures in
     let packed = rw book at c.pack_end.ensures in
     rw (book, eq-eqb (end_word (end_in w).book (end_in w).rows (end_in w).nets) w (sym packed ∙ c.if-pack_end-w.true)) refl
 
@@ -17,5 +17,5 @@ unfolding as_end
 returns-else-pack_end-w c =
     let at = c in
     let w = at.args.w in
-    let packed = rw at.book_of-book.ensures at c.pack_end.ensures in
+    let packed = rw at.from-book.ensures at c.pack_end.ensures in
     rw (ne_eqb (end_word (end_in w).book (end_in w).rows (end_in w).nets) w (λ e. c.if-pack_end-w.false (packed ∙ e))) refl

@@ -1,5 +1,5 @@
 -- `return_to` keeps its promise.
-use mathlib.Core.Path.{refl, sym, ◌∙◌}
+use mathlib.Core.Path.{sym, ◌∙◌}
 use Rattle.session.specs.Value.{return_of}
 use Rattle.session.proofs.Names.{return_promise}
 use Rattle.session.proofs.Session.return_to.Goals as goal
@@ -9,7 +9,7 @@ unfolding return_of
 returns-then-not-is_sound c =
     let sound = c.is_sound in
     let args = c.args in
-    return_promise args.self args.name _ (rw (sym sound.ensures.0.same ∙ c.if-not-is_sound.true) refl)
+    return_promise args.self args.name _ (rw (sym sound.ensures.0.same ∙ c.if-not-is_sound.true) c.refused.ensures)
 
 pub returns : goal.returns
 unfolding return_of

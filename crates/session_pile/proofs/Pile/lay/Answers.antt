@@ -1,26 +1,22 @@
 -- `lay` gives the pile with one more change; a full one loses its lowest.
-use mathlib.Core.Path.{◌≡◌, refl, ap}
-use mathlib.Core.List.{List, [], ◌∷◌, ◌++◌}
-use lib.ListN.{set, drop}
-use Rattle.session_pile.specs.declared.Slot.{Slot}
+use Rattle.std.proofs.Common.{◌≡◌, refl, ap, List, [], ◌∷◌, ◌++◌, set, drop, lt-ltb, le-ltb, rules}
+use Rattle.net.specs.declared.Change.{Change}
 use Rattle.session_pile.specs.declared.Pile.{Pile}
-use borrow.Author.Tests.{lt-ltb, le-ltb}
-use Rattle.session_pile.specs.Pile.{laid, slot, no_slot}
-use Rattle.session_pile.specs.Shift.{last_set, length_unmapped_by}
-use borrow.Author.Rules.{rules}
+use Rattle.session_pile.specs.Pile.{laid, past_end}
+use Rattle.session_pile.specs.Shift.{last_set}
 use Rattle.session_pile.proofs.Pile.lay.Goals as goal
 
-pub returns-then-depth-lt64 : goal.returns-then-depth-lt64
+pub returns-then-self-lt64 : goal.returns-then-self-lt64
 unfolding laid
-returns-then-depth-lt64 c = rw (lt-ltb _ _ c.if-depth-lt64.true, c.wide.ensures.0) refl
+returns-then-self-lt64 c = rw (lt-ltb _ _ c.if-self-lt64.true, c.from.ensures) refl
 
 pub returns : goal.returns
 unfolding laid
 returns c =
     let a = c.args in
-    let e : set c.moved_down-down.result 63 (slot a.change) ≡ drop 1 a.self.changes ++ (slot a.change ∷ [])
-    = rw c.moved_down-down.ensures (last_set a.self.changes 63 (slot a.change) no_slot (search (rules, length_unmapped_by))) in
-    rw (le-ltb _ _ c.if-depth-lt64.false) (ap (λ (cs : List Slot). pile cs) e)
+    let e : set c.copy_within.new.self 63 a.change ≡ drop 1 a.self.changes ++ (a.change ∷ [])
+    = rw c.copy_within.ensures.after (last_set a.self.changes 63 a.change past_end (search rules)) in
+    rw (le-ltb _ _ c.if-self-lt64.false) (ap (λ (cs : List Change). pile cs) e)
   where
-    pile : List Slot → Pile
+    pile : List Change → Pile
     pile cs = record { depth = 64; changes = cs }
