@@ -3,26 +3,29 @@
 use Rattle.std.specs.Prelude.{◌≡◌, ℕ, zero, suc, ◌+◌, ◌<◌, length, drop, get_or, replicate}
 use Rattle.std.proofs.Math.Path.{refl, ap}
 use Rattle.std.proofs.Common.{sym, ◌∙◌, arith, length-set}
-use Rattle.std.proofs.Math.Bool.{true}
+use Rattle.std.proofs.Math.Bool.{Bool, true, false}
 use mathlib.Core.List.{List, []}
 use Rattle.std.proofs.Math.Option.{Option, none, some}
+use Rattle.board.specs.Degree.{vertex?}
 use Rattle.board_block.specs.Block.{Block}
+use Rattle.net.specs.Terminals.{same}
 use Rattle.net.specs.View.{Held, nothing}
 use Rattle.net.specs.declared.Net.{Net}
 use Rattle.session_rules.specs.Refusal.{Refusal, refusal}
-use Rattle.session_rules.specs.Session.{insert}
-use Rattle.session_rules.specs.Add.{add_refused, is_none, accepts}
+use Rattle.session_rules.specs.Session.{insert, holds}
+use Rattle.session_rules.specs.Add.{good_number, full, add_refused, is_none, accepts}
 use Rattle.session_laws.proofs.Accept.{free_of}
 use Rattle.net_places.specs.Numbered.{replaced}
 use Rattle.net_places.specs.Places.{holding, nets_from, nets_of}
 use Rattle.net_places.proofs.NetsLaws.{insert_of}
 use Rattle.session_answers.specs.Answers.{add_answer, add_refusal}
 use Rattle.session_answers.specs.declared.AddRefusal.{AddRefusal}
-use Rattle.session_rules.specs.Machine.{refused}
-use Rattle.std.specs.Prelude.{Result, Err, is_ok}
-use Rattle.session_add.specs.Check.{answered, check_answer, check_accepts}
-use Rattle.session_add.specs.Lines.{check_of}
+use Rattle.session_answers.specs.declared.AddRefusal.TheVariants.{Unsound}
+use Rattle.session_rules.specs.Machine.{accepted, refused}
+use Rattle.std.specs.Prelude.{Result, Ok, Err, is_ok, not}
 use Rattle.count.specs.TruthLaws.{clash}
+use Rattle.session_add.specs.Check.{answered, check_answer}
+use Rattle.session_add.specs.Lines.{first_of, check_of}
 use Rattle.words.specs.BoardWord.{board_word}
 use Rattle.words.specs.declared.BoardWord.{BoardWord}
 use Rattle.words.specs.declared.BoardWord.TheVariants as word
@@ -30,24 +33,52 @@ use Rattle.call_rules.specs.Result.{no, yes}
 use Rattle.call_rules.specs.Reading.{Listed, add_listed}
 use Rattle.board_reading.specs.Listed.{list_then, listed}
 use Rattle.board_reading.proofs.ListedLaws.{listed_more, listed_none}
-use Rattle.board_reading.specs.Adding.{Adding}
+use Rattle.board_reading.specs.Adding.{number_in, net_answer, Adding}
+use Rattle.board_reading.specs.declared.NetFault.{NetFault}
 
--- ── the code's answer to add is the definition's refusal ──
+-- ── the code's answer to add has the number of the definition's refusal ──
+first-sound : (a b c d e f g : Bool) → first_of a b c d e f g ≡ Err Unsound → ⊥
+unfolding first_of
+first-sound true b c d e f g h = let z : ◌≡◌ {A = ℕ} 0 1 = cc in omega arith
+first-sound false true c d e f g h = let z : ◌≡◌ {A = ℕ} 0 1 = cc in omega arith
+first-sound false false true d e f g h = let z : ◌≡◌ {A = ℕ} 0 1 = cc in omega arith
+first-sound false false false true e f g h = let z : ◌≡◌ {A = ℕ} 0 1 = cc in omega arith
+first-sound false false false false true f g h = let z : ◌≡◌ {A = ℕ} 0 1 = cc in omega arith
+first-sound false false false false false true g h = let z : ◌≡◌ {A = ℕ} 0 1 = cc in omega arith
+first-sound false false false false false false true h = let z : ◌≡◌ {A = ℕ} 0 1 = cc in omega arith
+first-sound false false false false false false false h = let z : ◌≡◌ {A = ℕ} 0 1 = cc in omega arith
+
 module _ (b : Block) (ns : List Net) (n : Net) (a : Result Unit AddRefusal) (e : a ≡ check_of b ns n) where
-  pub answer-none : is_ok a ≡ true → add_refused b ns n ≡ none
-  unfolding accepts
-  answer-none h = go (add_refused b ns n) (sym (check_accepts b ns n) ∙ (sym (ap is_ok e) ∙ h))
+  pub number-none : a ≡ Ok tt → none ≡ number_in (add_refused b ns n)
+  number-none h = go (add_refused b ns n) (sym (ap add_answer h) ∙ (ap add_answer e ∙ check_answer b ns n))
     where
-      go : (o : Option Refusal) → is_none o ≡ true → o ≡ none
+      go : (o : Option Refusal) → accepted ≡ answered o → none ≡ number_in o
       go none f = refl
-      go (some r) f = absurd (clash f refl)
+      go (some q) f = absurd (let z : ◌≡◌ {A = ℕ} 0 1 = cc in omega arith)
 
-  pub answer-some : (r : AddRefusal) → a ≡ Err r → add_refused b ns n ≡ some (add_refusal r)
-  answer-some r h = go (add_refused b ns n) (sym (ap add_answer h) ∙ (ap add_answer e ∙ check_answer b ns n))
+  pub number-some : (r : AddRefusal) → a ≡ Err r → some (add_refusal r).number ≡ number_in (add_refused b ns n)
+  number-some r h = go (add_refused b ns n) (sym (ap add_answer h) ∙ (ap add_answer e ∙ check_answer b ns n))
     where
-      go : (o : Option Refusal) → refused (add_refusal r) ≡ answered o → o ≡ some (add_refusal r)
+      go : (o : Option Refusal) → refused (add_refusal r) ≡ answered o → some (add_refusal r).number ≡ number_in o
       go none f = absurd (let z : ◌≡◌ {A = ℕ} 0 1 = cc in omega arith)
-      go (some q) f = cc
+      go (some q) f = let s : add_refusal r ≡ q = cc in ap (λ (p : Refusal). some p.number) s
+
+  -- no session is asked
+  pub never-unsound : a ≡ Err Unsound → ⊥
+  unfolding check_of first_of
+  never-unsound h =
+      first-sound (not (good_number n.number)) (holds n.number ns) (not (vertex? b.board n.ends.first))
+      (not (vertex? b.board n.ends.second))
+      (same n.ends.first n.ends.second) (full b ns n.ends.first) (full b ns n.ends.second) (sym e ∙ h)
+
+-- a net with no fault is not refused
+pub answer-none : (a : Result Unit NetFault) → is_ok a ≡ true → none ≡ net_answer a
+answer-none (Ok u) h = refl
+answer-none (Err f) h = absurd (clash h refl)
+
+pub none-number : (o : Option Refusal) → none ≡ number_in o → o ≡ none
+none-number none h = refl
+none-number (some r) h = absurd (let z : ◌≡◌ {A = ℕ} 0 1 = cc in omega arith)
 
 -- DEFINITION: the word says no net
 abbrev pub NoNet : BoardWord → Type 0
@@ -98,10 +129,15 @@ module _ (b : Block) (ws : List ℕ) (i : ℕ) (ps : List Held) (A : Adding b ws
       size = A.size;
     }
 
-    pub adding-refused : (n : Net) → board_word (get_or ws i 0) ≡ word.Net n → (r : Refusal) → add_refused b (nets_of ps) n ≡ some r
-        → add_listed b [] (listed 0 ws) ≡ no (refusal r.number i)
+    pub adding-refused : (n : Net) → board_word (get_or ws i 0) ≡ word.Net n → (k : ℕ) → some k ≡ number_in (add_refused b (nets_of ps) n)
+        → add_listed b [] (listed 0 ws) ≡ no (refusal k i)
     unfolding add_listed
-    adding-refused n e r f = nets-here ∙ rw (e, f) refl
+    adding-refused n e k f = nets-here ∙ rw e (go (add_refused b (nets_of ps) n) refl f)
+      where
+        go : (o : Option Refusal) → add_refused b (nets_of ps) n ≡ o → some k ≡ number_in o
+            → add_listed b (nets_of ps) (list_then i (word.Net n) (listed (i + 1) (drop (i + 1) ws))) ≡ no (refusal k i)
+        go none g h = absurd (let z : ◌≡◌ {A = ℕ} 0 1 = cc in omega arith)
+        go (some r) g h = let s : k ≡ r.number = cc in rw (g, s) refl
 
   pub adding-end : i ≡ length ws → add_listed b [] (listed 0 ws) ≡ yes (nets_of ps)
   unfolding add_listed

@@ -6,21 +6,49 @@ ghost use Rattle.board.specs.View.{board_of};
 ghost use Rattle.board_block.specs.View.{block_of};
 ghost use Rattle.call_rules.specs.Result.{Result};
 ghost use Rattle.call_rules.specs.Reading.{read_words, read_bytes};
+ghost use Rattle.net_places.specs.Places.{nets_of};
+ghost use Rattle.session_rules.specs.Add.{add_refused};
 ghost use Rattle.session_rules.specs.Session as machine;
-ghost use Rattle.board_reading.specs.Refused.{read_number, read_place};
+ghost use Rattle.board_reading.specs.Refused.{net_number, read_number, read_place};
 ghost use Rattle.board_reading.specs.Pins.{PinsPromise};
-ghost use Rattle.board_reading.specs.Adding.{AllPromise};
+ghost use Rattle.board_reading.specs.Adding.{number_in, net_answer, AllPromise};
 ghost use Rattle.board_reading.specs.Promise.{SessionPromise, ReadPromise};
 ghost use Rattle.board_reading.specs.declared.ReadRefusal.TheVariants.{Words};
 
 use board::Board;
 use board_block::{Block, Book};
 use board_scan::ScanRefusal;
-use net::Place;
+use net::{Net, Place};
 use session::{After, Session};
-use session_answers::{AddRefusal, Reason};
+use session_answers::AddRefusal;
 use words::{BOARD_WORDS, BoardWord};
 use words_bytes::FillError;
+
+// Why the net of a word cannot be added, in the order of the table: its number is not one of 1 to 64; the number is taken; a terminal is no vertex of
+// the board; its terminals are one vertex; the pins of a terminal are all taken.
+#[derive(Clone, Copy, PartialEq, Eq)]
+pub enum NetFault {
+    BadNumber,
+    NumberTaken,
+    NoVertex,
+    SameVertex,
+    PinsTaken,
+}
+
+impl NetFault {
+    // Its number in the table.
+    pub fn number(self) -> u8
+        ensures { result ≡ net_number self }
+    {
+        match self {
+            NetFault::BadNumber => 21,
+            NetFault::NumberTaken => 22,
+            NetFault::NoVertex => 23,
+            NetFault::SameVertex => 24,
+            NetFault::PinsTaken => 25,
+        }
+    }
+}
 
 // Why a board is refused: the count of its bytes is no multiple of 4; what the scan of its words tells; it is not convex; at the word of this index
 // more pins are taken than its vertex has; the net of the word of this index cannot be added.
@@ -30,7 +58,7 @@ pub enum ReadRefusal {
     Words(ScanRefusal),
     NotConvex,
     Pins(usize),
-    Net(AddRefusal, usize),
+    Net(NetFault, usize),
 }
 
 impl ReadRefusal {
@@ -43,7 +71,7 @@ impl ReadRefusal {
             ReadRefusal::Words(refusal) => refusal.number(),
             ReadRefusal::NotConvex => 16,
             ReadRefusal::Pins(_) => 38,
-            ReadRefusal::Net(refusal, _) => refusal.number(),
+            ReadRefusal::Net(fault, _) => fault.number(),
         }
     }
 
@@ -84,6 +112,21 @@ fn put_words(book: Book, b: Board, words: &[u32]) -> Result<[u8; 1024], ReadRefu
     Ok(taken)
 }
 
+// Can the net be added to those in the places, and if not, why? Adding asks no session, so none is unsound.
+fn check_net(b: Block, nets: [Place; 64], net: Net) -> Result<(), NetFault>
+    ensures { net_answer result ≡ number_in (add_refused (block_of b) (nets_of nets) net) }
+{
+    match session_add::check(b, nets, net) {
+        Ok(()) => Ok(()),
+        Err(AddRefusal::Unsound) => unreachable!(),
+        Err(AddRefusal::BadNumber) => Err(NetFault::BadNumber),
+        Err(AddRefusal::NumberTaken) => Err(NetFault::NumberTaken),
+        Err(AddRefusal::NoVertex(_)) => Err(NetFault::NoVertex),
+        Err(AddRefusal::SameVertex) => Err(NetFault::SameVertex),
+        Err(AddRefusal::PinsTaken(_)) => Err(NetFault::PinsTaken),
+    }
+}
+
 // The nets of the words, added in their order to the bare board.
 fn add_words(b: Block, words: &[u32]) -> Result<[Place; 64], ReadRefusal>
     ensures { AllPromise (block_of b) words.now result }
@@ -91,7 +134,7 @@ fn add_words(b: Block, words: &[u32]) -> Result<[Place; 64], ReadRefusal>
     let mut nets = [None; 64];
     for (i, word) in words.iter().enumerate() {
         if let BoardWord::Net(net) = words::board_word(*word) {
-            session_add::check(b, nets, net).map_err(|refusal| ReadRefusal::Net(refusal, i))?;
+            check_net(b, nets, net).map_err(|fault| ReadRefusal::Net(fault, i))?;
             let stored = net_places::stored(nets, net.number, Some(net.ends));
             nets = stored;
         }

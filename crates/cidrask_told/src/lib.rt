@@ -5,18 +5,13 @@ ghost use Rattle.std.specs.Prelude.{◌≡◌};
 ghost use Rattle.session_rules.specs.Refusal.{refusal};
 ghost use Rattle.call_rules.specs.Route.{overfull_refusal};
 ghost use Rattle.route_call.specs.Answers.{route_answer};
-ghost use Rattle.judge_shape.specs.Refused.{refusal_of};
-ghost use Rattle.judge_call.specs.Answers.{judgement_of, likeness_of};
-ghost use Rattle.draw_call.specs.Answers.{draw_answer};
+ghost use Rattle.judge_list.specs.Verdicts.{report_by, value_by};
 ghost use Rattle.wire_call.specs.Answers.{wire_answer};
 ghost use Rattle.cidrask_told.specs.Told.{refused_told, count_told, wire_told, judge_told, alike_told};
 
 use cut::Cut;
-use draw_call::DrawRefusal;
-use judge_call::{CompareRefusal, JudgeRefusal};
-use judge_list::ListRefusal;
+use judge_list::Reason;
 use judge_report::Report;
-use judge_shape::Refusal;
 use route_call::RouteRefusal;
 use wire_call::{Figures, Unsound};
 
@@ -95,14 +90,24 @@ pub fn wire_told(answer: Result<Figures, Unsound>) -> Told
     }
 }
 
-fn list_told(r: Refusal) -> Told
-    ensures { result ≡ refused_told (refusal_of r) }
+// A refusal for a reason, which has a place of one number or two.
+fn reason_told<R: Reason + Copy>(reason: R) -> Told
+    ensures { result ≡ refused_told (R.refusal reason) }
 {
-    refused(r.fault.number(), usize::from(r.place))
+    let numbers = reason.numbers();
+    match numbers.second {
+        None => refused(numbers.number, usize::from(numbers.first)),
+        Some(second) => Told {
+            number: u32::from(numbers.number),
+            first: u64::from(numbers.first),
+            second: u64::from(second),
+            third: 0,
+        },
+    }
 }
 
-pub fn judge_told(judgement: Result<Report, JudgeRefusal>) -> Told
-    ensures { result ≡ judge_told (judgement_of judgement) }
+pub fn judge_told<R: Reason + Copy>(judgement: Result<Report, R>) -> Told
+    ensures { result ≡ judge_told (report_by R.refusal judgement) }
 {
     match judgement {
         Ok(report) => Told {
@@ -111,14 +116,12 @@ pub fn judge_told(judgement: Result<Report, JudgeRefusal>) -> Told
             second: u64::from(report.turns),
             third: u64::from(report.knocks),
         },
-        Err(JudgeRefusal::Unsound) => refused(20, 0),
-        Err(JudgeRefusal::UnevenBytes) => refused(10, 0),
-        Err(JudgeRefusal::List(r)) => list_told(r),
+        Err(reason) => reason_told(reason),
     }
 }
 
-pub fn alike_told(likeness: Result<bool, CompareRefusal>) -> Told
-    ensures { result ≡ alike_told (likeness_of likeness) }
+pub fn alike_told<R: Reason + Copy>(likeness: Result<bool, R>) -> Told
+    ensures { result ≡ alike_told (value_by R.refusal likeness) }
 {
     match likeness {
         Ok(alike) => Told {
@@ -127,19 +130,12 @@ pub fn alike_told(likeness: Result<bool, CompareRefusal>) -> Told
             second: 0,
             third: 0,
         },
-        Err(CompareRefusal::Unsound) => refused(20, 0),
-        Err(CompareRefusal::UnevenBytes) => refused(10, 0),
-        Err(CompareRefusal::List(ListRefusal { list, refusal })) => Told {
-            number: u32::from(refusal.fault.number()),
-            first: u64::from(list.number()),
-            second: u64::from(refusal.place),
-            third: 0,
-        },
+        Err(reason) => reason_told(reason),
     }
 }
 
-pub fn draw_told(answer: Result<usize, DrawRefusal>) -> Told
-    ensures { result ≡ count_told (draw_answer answer) }
+pub fn draw_told<R: Reason + Copy>(answer: Result<usize, R>) -> Told
+    ensures { result ≡ count_told (value_by R.refusal answer) }
 {
     match answer {
         Ok(count) => Told {
@@ -148,9 +144,6 @@ pub fn draw_told(answer: Result<usize, DrawRefusal>) -> Told
             second: 0,
             third: 0,
         },
-        Err(DrawRefusal::Unsound) => refused(20, 0),
-        Err(DrawRefusal::NoRoom) => refused(37, 0),
-        Err(DrawRefusal::UnevenBytes) => refused(10, 0),
-        Err(DrawRefusal::List(r)) => list_told(r),
+        Err(drawing) => reason_told(drawing),
     }
 }

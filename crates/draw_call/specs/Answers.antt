@@ -5,9 +5,10 @@ use Rattle.session_rules.specs.Refusal as machine
 use Rattle.session_rules.specs.Refusal.{refusal}
 use Rattle.session_rules.specs.Session.{Session}
 use Rattle.session_rules.specs.Sound.{sound?}
-use Rattle.call_rules.specs.Result.{Result, no, yes}
+use Rattle.call_rules.specs.Result.{Result}
 use Rattle.call_rules.specs.Page.{page_room}
 use Rattle.judge_shape.specs.Refused.{refusal_of}
+use Rattle.judge_list.specs.Verdicts.{value_by}
 use Rattle.judge_list.specs.declared.BytesRefusal.{BytesRefusal}
 use Rattle.judge_list.specs.declared.BytesRefusal.TheVariants as bytes
 use Rattle.draw_call.specs.declared.DrawRefusal.{DrawRefusal}
@@ -26,8 +27,7 @@ draw_refusal drawing.UnevenBytes = refusal 10 0
 draw_refusal (drawing.List r) = refusal_of r
 
 abbrev pub draw_answer : rust.Result ℕ DrawRefusal → Result ℕ
-draw_answer (Ok n) = yes n
-draw_answer (Err r) = no (draw_refusal r)
+draw_answer a = value_by draw_refusal a
 
 -- what is refused before the list is looked at
 abbrev pub asked_first : Session → (room : ℕ) → rust.Result Unit DrawRefusal

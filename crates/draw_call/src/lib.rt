@@ -3,11 +3,11 @@
 
 ghost use Rattle.std.specs.Prelude.{◌≡◌};
 ghost use Rattle.session.specs.View.{session_of};
-ghost use Rattle.draw_call.specs.Answers.{asked_first, of_bytes};
+ghost use Rattle.draw_call.specs.Answers.{asked_first, of_bytes, draw_refusal};
 ghost use Rattle.draw_call.specs.declared.DrawRefusal.TheVariants as drawing;
 ghost use Rattle.draw_call.specs.Promise.{DrawWordsPromise, DrawBytesPromise};
 
-use judge_list::BytesRefusal;
+use judge_list::{BytesRefusal, Numbers, Reason};
 use judge_page::PAGE_BYTES;
 use judge_shape::Refusal;
 use session::Session;
@@ -36,6 +36,19 @@ impl From<BytesRefusal> for DrawRefusal {
         match refusal {
             BytesRefusal::UnevenBytes => DrawRefusal::UnevenBytes,
             BytesRefusal::List(refusal) => DrawRefusal::List(refusal),
+        }
+    }
+}
+
+impl Reason for DrawRefusal {
+    ghost refusal = { draw_refusal };
+
+    fn numbers(self) -> Numbers {
+        match self {
+            DrawRefusal::Unsound => Numbers::at(20, 0),
+            DrawRefusal::NoRoom => Numbers::at(37, 0),
+            DrawRefusal::UnevenBytes => Numbers::at(10, 0),
+            DrawRefusal::List(reason) => reason.numbers(),
         }
     }
 }

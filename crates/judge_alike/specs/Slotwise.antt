@@ -1,35 +1,41 @@
--- Two maps compared slot by slot, and what that tells of the maps of two lists' paths.
+-- Two maps compared slot by slot: what the loop keeps, and what it tells of the maps of two lists' paths.
 -- Assumes nothing.
-use Rattle.std.specs.Prelude.{◌≡◌, refl, Bool, true, List, [], ◌∷◌, ◌↔◌, ℕ, zero, suc, ◌+◌, ◌<◌, ◌≤◌, eqb, length, get_or}
+use Rattle.std.specs.Prelude.{◌≡◌, refl, Bool, true, false, ◌&&◌, List, ◌↔◌, ℕ, zero, suc, ◌+◌, ◌-◌, ◌<◌, ◌≤◌, eqb, get_or}
 use Rattle.std.proofs.Common.{sym, ◌∙◌, inl, inr, arith, eqb-true, eq-eqb}
-use lib.Pointwise.{pointwise}
-use Rattle.count.specs.TruthLaws.{and_true, and_yes, eq_or_ne}
+use Rattle.count.specs.TruthLaws.{and_true, and_yes, and_assoc, eq_or_ne}
 use Rattle.count.specs.Lists.{getD-rising}
 use Rattle.call_rules.specs.Shape.{PathAt}
 use Rattle.judge_walk.specs.Slots.{edge_at}
 use Rattle.judge_walk.specs.EdgeMap.{net_on, map_of}
 use Rattle.judge_alike.specs.MapsAlike.{all_from, maps_alike}
 
--- ── two lists pair by pair ──
-pairs_all : (xs ys : List ℕ) (k : ℕ) (t : ℕ → Bool) → length xs ≡ length ys
-    → ((j : ℕ) → j < length xs → t (k + j) ≡ eqb (get_or xs j 0) (get_or ys j 0)) → pointwise eqb xs ys ≡ all_from k (length xs) t
-unfolding all_from
-pairs_all [] [] k t e h = refl
-pairs_all [] (y ∷ ys) k t e h = absurd (omega arith)
-pairs_all (x ∷ xs) [] k t e h = absurd (omega arith)
-pairs_all (x ∷ xs) (y ∷ ys) k t e h =
-    let z : k + 0 ≡ k = omega arith in
-    let f : t k ≡ eqb x y = rw z at (h 0 (omega arith)) in
-    let r : pointwise eqb xs ys ≡ all_from (suc k) (length xs) t =
-    pairs_all xs ys (suc k) t (omega arith) (λ j l. let g : k + suc j ≡ suc k + j = omega arith in rw g at (h (suc j) (omega arith))) in
-    rw (f, r) refl
+-- ── the slots in rising order ──
+-- DEFINITION: those before i are compared, with the outcome t, and the others up to 2,048 are left
+pub record Testing (a m : List ℕ) (i : ℕ) (t : Bool) : Type 0 where
+  pub left : t && all_from i (2048 - i) (λ s. eqb (get_or a s 0) (get_or m s 0)) ≡ maps_alike a m
 
--- equal maps have the same net at every slot
-pub slots_equal : (a m : List ℕ) → length a ≡ 2048 → length m ≡ 2048 → pointwise eqb a m ≡ maps_alike a m
+pub testing_start : {a m : List ℕ} → Testing a m 0 true
 unfolding maps_alike
-slots_equal a m e f =
-    let p = pairs_all a m 0 (λ s. eqb (get_or a s 0) (get_or m s 0)) (e ∙ sym f) (λ j l. let z : 0 + j ≡ j = omega arith in rw z refl) in
-    rw e at p
+testing_start = record { left = refl }
+
+pub testing_on : {a m : List ℕ} {i : ℕ} {t : Bool} → Testing a m i t → i < 2048 → {x y : ℕ} → x ≡ get_or a i 0 → y ≡ get_or m i 0
+    → Testing a m (i + 1) (t && eqb x y)
+unfolding all_from
+testing_on {i = i} {t} h l f g =
+    let n : 2048 - i ≡ suc (2048 - suc i) = omega arith in
+    let r : i + 1 ≡ suc i = omega arith in
+    let q = rw n at h.left in
+    record { left = rw (f, g, r, and_assoc t _ _) q }
+
+pub testing_done : {a m : List ℕ} {i : ℕ} {t : Bool} → Testing a m i t → 2048 ≤ i → t ≡ maps_alike a m
+unfolding all_from
+testing_done {i = i} {t} h l =
+    let n : 2048 - i ≡ 0 = omega arith in
+    go t ∙ (rw n at h.left)
+  where
+    go : (t : Bool) → t ≡ t && true
+    go true = refl
+    go false = refl
 
 -- ── what the test says ──
 all_exact : (k n : ℕ) (t : ℕ → Bool) → (all_from k n t ≡ true) ↔ ((j : ℕ) → k ≤ j → j < k + n → t j ≡ true)

@@ -8,5 +8,9 @@ ghost use Rattle.judge_alike.specs.MapsAlike.{maps_alike};
 pub fn is_alike(first: &[u8; 2048], second: &[u8; 2048]) -> bool
     ensures { result ≡ maps_alike first.now second.now }
 {
-    first == second
+    let mut same = true;
+    for (one, two) in first.iter().zip(second) {
+        same &= one == two;
+    }
+    same
 }

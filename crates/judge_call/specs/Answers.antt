@@ -1,17 +1,16 @@
 -- Definitions only: document 01's report, or number and place, for each answer of the code. Nothing is proved here.
 use Rattle.std.specs.Prelude as rust
-use Rattle.std.specs.Prelude.{Bool, Ok, Err}
+use Rattle.std.specs.Prelude.{Bool}
 use Rattle.session_rules.specs.Refusal as machine
 use Rattle.session_rules.specs.Refusal.{refusal}
-use Rattle.call_rules.specs.Result.{Result, no, yes}
+use Rattle.call_rules.specs.Result.{Result}
 use Rattle.call_rules.specs.Report as calls
 use Rattle.words_bytes.specs.declared.FillError.{FillError}
 use Rattle.words_bytes.specs.declared.FillError.TheVariants.{Uneven, Long}
 use Rattle.judge_shape.specs.Refused.{refusal_of}
 use Rattle.judge_shape.specs.declared.Fault.TheVariants.{Length}
-use Rattle.judge_report.specs.Reports.{report_is}
 use Rattle.judge_report.specs.declared.Report.{Report}
-use Rattle.judge_list.specs.Verdicts.{refusal_in}
+use Rattle.judge_list.specs.Verdicts.{report_by, value_by, refusal_in}
 use Rattle.judge_list.specs.declared.BytesRefusal.{BytesRefusal}
 use Rattle.judge_list.specs.declared.BytesRefusal.TheVariants as bytes
 use Rattle.judge_list.specs.declared.Which.{Which}
@@ -37,8 +36,7 @@ judge_refusal judging.UnevenBytes = refusal 10 0
 judge_refusal (judging.List r) = refusal_of r
 
 abbrev pub judgement_of : rust.Result Report JudgeRefusal → Result calls.Report
-judgement_of (Ok r) = yes (report_is r)
-judgement_of (Err r) = no (judge_refusal r)
+judgement_of j = report_by judge_refusal j
 
 abbrev pub compare_refusal : CompareRefusal → machine.Refusal
 compare_refusal comparing.Unsound = refusal 20 0
@@ -46,5 +44,4 @@ compare_refusal comparing.UnevenBytes = refusal 10 0
 compare_refusal (comparing.List r) = refusal_in r
 
 abbrev pub likeness_of : rust.Result Bool CompareRefusal → Result Bool
-likeness_of (Ok t) = yes t
-likeness_of (Err r) = no (compare_refusal r)
+likeness_of l = value_by compare_refusal l

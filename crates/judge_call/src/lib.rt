@@ -6,9 +6,16 @@ ghost use Rattle.session.specs.View.{session_of};
 ghost use Rattle.call_rules.specs.Judge.{judge_words, compare_words, judge_bytes, compare_bytes};
 ghost use Rattle.judge_call.specs.declared.JudgeRefusal.TheVariants as judging;
 ghost use Rattle.judge_call.specs.declared.CompareRefusal.TheVariants as comparing;
-ghost use Rattle.judge_call.specs.Answers.{unfilled, in_list, judgement_of, likeness_of};
+ghost use Rattle.judge_call.specs.Answers.{
+  unfilled,
+  in_list,
+  judge_refusal,
+  compare_refusal,
+  judgement_of,
+  likeness_of,
+};
 
-use judge_list::{BytesRefusal, ListRefusal, Which};
+use judge_list::{BytesRefusal, ListRefusal, Numbers, Reason, Which};
 use judge_report::Report;
 use judge_shape::{Fault, Refusal};
 use session::Session;
@@ -46,6 +53,18 @@ impl From<FillError> for JudgeRefusal {
     }
 }
 
+impl Reason for JudgeRefusal {
+    ghost refusal = { judge_refusal };
+
+    fn numbers(self) -> Numbers {
+        match self {
+            JudgeRefusal::Unsound => Numbers::at(20, 0),
+            JudgeRefusal::UnevenBytes => Numbers::at(10, 0),
+            JudgeRefusal::List(reason) => reason.numbers(),
+        }
+    }
+}
+
 // Why two lists are not compared: the session is unsound, the count of bytes of either is no multiple of 4, or one of the lists is refused.
 #[derive(Clone, Copy, PartialEq, Eq)]
 pub enum CompareRefusal {
@@ -59,6 +78,18 @@ impl From<ListRefusal> for CompareRefusal {
 
     fn from(refusal: ListRefusal) -> CompareRefusal {
         CompareRefusal::List(refusal)
+    }
+}
+
+impl Reason for CompareRefusal {
+    ghost refusal = { compare_refusal };
+
+    fn numbers(self) -> Numbers {
+        match self {
+            CompareRefusal::Unsound => Numbers::at(20, 0),
+            CompareRefusal::UnevenBytes => Numbers::at(10, 0),
+            CompareRefusal::List(reason) => reason.numbers(),
+        }
     }
 }
 

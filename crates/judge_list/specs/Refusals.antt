@@ -1,10 +1,12 @@
 -- Definitions only: the refusals of the code, and which list of two has one. Nothing is proved here.
-use Rattle.std.specs.Prelude.{ℕ}
+use Rattle.std.specs.Prelude.{List, [], ◌∷◌, ℕ, Option, None, Some}
+use Rattle.session_rules.specs.Refusal as machine
 use Rattle.words_bytes.specs.declared.FillError.{FillError}
 use Rattle.words_bytes.specs.declared.FillError.TheVariants.{Uneven, Long}
 use Rattle.judge_shape.specs.declared.Fault.TheVariants.{Length}
 use Rattle.judge_list.specs.declared.BytesRefusal.{BytesRefusal}
 use Rattle.judge_list.specs.declared.BytesRefusal.TheVariants as bytes
+use Rattle.judge_list.specs.declared.Numbers.{Numbers}
 use Rattle.judge_list.specs.declared.Which.{Which}
 use Rattle.judge_list.specs.declared.Which.TheVariants.{First, Second}
 
@@ -17,3 +19,11 @@ which_number Second = 1
 abbrev pub unfilled : FillError → BytesRefusal
 unfilled Uneven = bytes.UnevenBytes
 unfilled Long = bytes.List (record { fault = Length; place = 0 })
+
+-- the refusal that numbers tell
+abbrev pub second_place : Option ℕ → List ℕ
+second_place None = []
+second_place (Some p) = p ∷ []
+
+abbrev pub refusal_by : Numbers → machine.Refusal
+refusal_by n = record { number = n.number; place = n.first ∷ second_place n.second }

@@ -85,9 +85,18 @@ comparison_on b ns vs ws =
     and_then (of_list 0 (judged (on b ns) vs)) (λ dss. and_then (of_list 1 (judged (on b ns) ws)) (λ ess. yes (alike_on (on b ns) dss ess)))
 
 -- ── what the values of the code stand for ──
+-- a report, or the refusal that a reason stands for
+abbrev pub report_by : {R : Type 0} → (R → machine.Refusal) → rust.Result Report R → Result calls.Report
+report_by f (Ok r) = yes (report_is r)
+report_by f (Err r) = no (f r)
+
+-- any other value, or the refusal that a reason stands for
+abbrev pub value_by : {A R : Type 0} → (R → machine.Refusal) → rust.Result A R → Result A
+value_by f (Ok a) = yes a
+value_by f (Err r) = no (f r)
+
 abbrev pub verdict_of : rust.Result Report Refusal → Result calls.Report
-verdict_of (Ok r) = yes (report_is r)
-verdict_of (Err r) = no (refusal_of r)
+verdict_of v = report_by refusal_of v
 
 abbrev pub list_refusal : ℕ → Refusal → machine.Refusal
 list_refusal k r = record { number = number_of r.fault; place = k ∷ (r.place ∷ []) }
@@ -97,5 +106,4 @@ abbrev pub refusal_in : ListRefusal → machine.Refusal
 refusal_in r = list_refusal (which_number r.list) r.refusal
 
 abbrev pub comparison_of : rust.Result Bool ListRefusal → Result Bool
-comparison_of (Ok t) = yes t
-comparison_of (Err r) = no (refusal_in r)
+comparison_of c = value_by refusal_in c

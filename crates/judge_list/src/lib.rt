@@ -2,11 +2,13 @@
 #![tactic(auto)]
 
 ghost use Rattle.std.specs.Prelude.{◌≡◌, ◌≤◌, Ok, length};
+ghost use Rattle.session_rules.specs.Refusal as machine;
 ghost use Rattle.call_rules.specs.Shape.{routing_limit};
 ghost use Rattle.board.specs.View.{board_of};
 ghost use Rattle.net_places.specs.Places.{nets_of};
+ghost use Rattle.judge_shape.specs.Refused.{refusal_of};
 ghost use Rattle.judge_list.specs.declared.BytesRefusal.TheVariants as bytes;
-ghost use Rattle.judge_list.specs.Refusals.{which_number, unfilled};
+ghost use Rattle.judge_list.specs.Refusals.{which_number, unfilled, refusal_by};
 ghost use Rattle.judge_list.specs.Verdicts.{
   Checks,
   ChecksBytes,
@@ -14,6 +16,7 @@ ghost use Rattle.judge_list.specs.Verdicts.{
   verdict_of,
   comparison_by,
   comparison_of,
+  refusal_in,
 };
 
 use board::Board;
@@ -79,6 +82,55 @@ pub struct ListRefusal {
     pub refusal: Refusal,
 }
 
+// A refusal in numbers: its number in the table, and a place of one number or two.
+#[derive(Clone, Copy, PartialEq, Eq)]
+pub struct Numbers {
+    pub number: u8,
+    pub first: u16,
+    pub second: Option<u16>,
+}
+
+impl Numbers {
+    // Those of a refusal with a place of one number.
+    pub fn at(number: u8, place: u16) -> Numbers
+        ensures { refusal_by result ≡ machine.refusal number place }
+    {
+        Numbers {
+            number,
+            first: place,
+            second: None,
+        }
+    }
+}
+
+// A reason why a list, or a call that takes one, is refused, and its numbers.
+pub trait Reason {
+    ghost refusal: { Self → machine.Refusal };
+
+    fn numbers(self) -> Numbers
+        ensures { refusal_by result ≡ refusal self };
+}
+
+impl Reason for Refusal {
+    ghost refusal = { refusal_of };
+
+    fn numbers(self) -> Numbers {
+        Numbers::at(self.fault.number(), self.place)
+    }
+}
+
+impl Reason for ListRefusal {
+    ghost refusal = { refusal_in };
+
+    fn numbers(self) -> Numbers {
+        Numbers {
+            number: self.refusal.fault.number(),
+            first: u16::from(self.list.number()),
+            second: Some(self.refusal.place),
+        }
+    }
+}
+
 // Does a list pass? First the shape of the whole list, then the paths in order, with a map of the edges used before.
 pub fn check(
     b: Board,
@@ -109,6 +161,7 @@ pub fn check_bytes(
 }
 
 // Judges a list of routing words for the nets on the board.
+#[tactic(auto, using(crate::proofs::Judged::judged))]
 pub fn judge(b: Board, nets: [Place; 64], words: &[u32]) -> Result<Report, Refusal>
     ensures { verdict_of result ≡ verdict_by (board_of b) (nets_of nets) words.now }
 {

@@ -23,8 +23,8 @@ ghost use Rattle.judge_report.specs.Traces.{
 };
 
 use board::{Direction, Vertex};
+use judge_walk::Part;
 use net::Place;
-use std::ops::Range;
 use words::Run;
 
 // Where a path has come to, the direction of its last step, and its edges and turns so far.
@@ -190,7 +190,7 @@ fn measure_place(place: Place, words: &[u32], sum: Sum, marks: &mut [u8; 1024]) 
             let at = sum.at;
             match judge_walk::part_at(words, at) {
                 None => sum,
-                Some(Range { start, end }) => {
+                Some(Part { start, end }) => {
                     let t = measure_path(ends.first, &words[start..end], marks);
                     Sum {
                         at: end,

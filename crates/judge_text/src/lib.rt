@@ -4,17 +4,13 @@
 ghost use Rattle.std.specs.Prelude.{[], ◌∷◌};
 ghost use Rattle.text.specs.Line.{refused_line};
 ghost use Rattle.text.specs.Put.{Holds};
-ghost use Rattle.call_rules.specs.Result.{yes, no};
-ghost use Rattle.judge_shape.specs.Refused.{refusal_of};
+ghost use Rattle.call_rules.specs.Result.{yes};
 ghost use Rattle.judge_report.specs.Reports.{report_is};
-ghost use Rattle.judge_list.specs.Verdicts.{verdict_of, comparison_of};
-ghost use Rattle.judge_call.specs.Answers.{judgement_of};
+ghost use Rattle.judge_list.specs.Verdicts.{report_by, value_by};
 ghost use Rattle.judge_text.specs.Text.{judged_line, compared_line};
 
-use judge_call::JudgeRefusal;
-use judge_list::ListRefusal;
+use judge_list::Reason;
 use judge_report::Report;
-use judge_shape::Refusal;
 
 fn report_line(r: Report, out: &mut [u8; 128]) -> usize
     ensures { Holds (judged_line (yes (report_is r))) result out.new }
@@ -23,15 +19,21 @@ fn report_line(r: Report, out: &mut [u8; 128]) -> usize
     text::line(b"passed", &numbers, out)
 }
 
-fn refusal_line(r: Refusal, out: &mut [u8; 128]) -> usize
-    ensures { Holds (judged_line (no (refusal_of r))) result out.new }
+fn refusal_line<R: Reason + Copy>(reason: R, out: &mut [u8; 128]) -> usize
+    ensures { Holds (refused_line (R.refusal reason).number (R.refusal reason).place) result out.new }
 {
-    text::refused(usize::from(r.fault.number()), usize::from(r.place), out)
+    let told = reason.numbers();
+    let number = usize::from(told.number);
+    let first = usize::from(told.first);
+    match told.second {
+        None => text::refused(number, first, out),
+        Some(second) => text::refused_at(number, first, usize::from(second), out),
+    }
 }
 
 // The verdict on a list.
-pub fn verdict_line(v: Result<Report, Refusal>, out: &mut [u8; 128]) -> usize
-    ensures { Holds (judged_line (verdict_of v)) result out.new }
+pub fn verdict_line<R: Reason + Copy>(v: Result<Report, R>, out: &mut [u8; 128]) -> usize
+    ensures { Holds (judged_line (report_by R.refusal v)) result out.new }
 {
     match v {
         Ok(r) => report_line(r, out),
@@ -40,29 +42,19 @@ pub fn verdict_line(v: Result<Report, Refusal>, out: &mut [u8; 128]) -> usize
 }
 
 // The judgement on a list, against a session.
-pub fn judgement_line(j: Result<Report, JudgeRefusal>, out: &mut [u8; 128]) -> usize
-    ensures { Holds (judged_line (judgement_of j)) result out.new }
+pub fn judgement_line<R: Reason + Copy>(j: Result<Report, R>, out: &mut [u8; 128]) -> usize
+    ensures { Holds (judged_line (report_by R.refusal j)) result out.new }
 {
-    match j {
-        Ok(r) => report_line(r, out),
-        Err(JudgeRefusal::Unsound) => text::refused(20, 0, out),
-        Err(JudgeRefusal::UnevenBytes) => text::refused(10, 0, out),
-        Err(JudgeRefusal::List(r)) => refusal_line(r, out),
-    }
+    verdict_line(j, out)
 }
 
 // Whether two lists are alike.
-pub fn comparison_line(c: Result<bool, ListRefusal>, out: &mut [u8; 128]) -> usize
-    ensures { Holds (compared_line (comparison_of c)) result out.new }
+pub fn comparison_line<R: Reason + Copy>(c: Result<bool, R>, out: &mut [u8; 128]) -> usize
+    ensures { Holds (compared_line (value_by R.refusal c)) result out.new }
 {
     match c {
         Ok(t) => alike_line(t, out),
-        Err(ListRefusal { list, refusal }) => text::refused_at(
-            usize::from(refusal.fault.number()),
-            usize::from(list.number()),
-            usize::from(refusal.place),
-            out,
-        ),
+        Err(r) => refusal_line(r, out),
     }
 }
 

@@ -7,8 +7,8 @@ use Rattle.count.specs.Bits.{le_case}
 use Rattle.net.specs.declared.Net.{Net}
 use Rattle.words.specs.RoutingWord.{path_in}
 use Rattle.call_rules.specs.Shape.{runs_from, paths_from}
-use Rattle.std.specs.declared.ops.Range.{Range}
 use Rattle.judge_walk.specs.Parts.{part, part_at}
+use Rattle.judge_walk.specs.declared.Part.{Part}
 
 -- ── where the part lies ──
 pub part_out : (ws : List ℕ) (i : ℕ) → length ws ≤ i → None ≡ part_at ws i
@@ -30,16 +30,16 @@ pub record Found (ws : List ℕ) (i from to : ℕ) : Type 0 where
   pub start : from ≡ suc i
   pub end : to ≡ min (suc i + (path_in (get_or ws i 0)).runs) (length ws)
 
-pub part_found : {ws : List ℕ} {i from to : ℕ} {r : Option (Range ℕ)} → r ≡ part_at ws i → r ≡ Some (part from to) → Found ws i from to
+pub part_found : {ws : List ℕ} {i from to : ℕ} {r : Option Part} → r ≡ part_at ws i → r ≡ Some (part from to) → Found ws i from to
 part_found {ws} {i} {from} {to} e f = elim (le_or_lt (length ws) i) [
   | inl h ↦ absurd (let p = part_out ws i h in let z : ◌≡◌ {A = ℕ} 0 1 = cc in omega arith)
   | inr h ↦
       let p = part_in ws i h in
       let q : part from to ≡ part (suc i) (min (suc i + (path_in (get_or ws i 0)).runs) (length ws)) = cc in
-      record { inside = h; start = ap (λ (x : Range ℕ). x.start) q; end = ap (λ (x : Range ℕ). x.end) q }
+      record { inside = h; start = ap (λ (x : Part). x.start) q; end = ap (λ (x : Part). x.end) q }
 ]
 
-pub part_nothing : (ws : List ℕ) (i : ℕ) {r : Option (Range ℕ)} → r ≡ part_at ws i → r ≡ None → length ws ≤ i
+pub part_nothing : (ws : List ℕ) (i : ℕ) {r : Option Part} → r ≡ part_at ws i → r ≡ None → length ws ≤ i
 part_nothing ws i e f = elim (le_or_lt (length ws) i) [
   | inl h ↦ h
   | inr h ↦ absurd (let p = part_in ws i h in let z : ◌≡◌ {A = ℕ} 0 1 = cc in omega arith)

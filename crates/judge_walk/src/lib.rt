@@ -21,8 +21,14 @@ ghost use Rattle.judge_walk.specs.MapWalk.{
 use board::{Board, Direction, Vertex};
 use judge_shape::{Fault, Refusal};
 use net::{Pair, Place};
-use std::ops::Range;
 use words::Run;
+
+// A part of a list: where it begins, and before which index it ends.
+#[derive(Clone, Copy, PartialEq, Eq)]
+pub struct Part {
+    pub start: usize,
+    pub end: usize,
+}
 
 // The place one further from v.
 fn next_of(d: Direction, v: Vertex) -> Vertex
@@ -69,6 +75,7 @@ pub fn slot_of(d: Direction, v: Vertex) -> usize
 }
 
 // Walks a run of a net edge by edge: the board is asked first, then the map. An edge that is walked gets the net's number. Where the run ends.
+#[tactic(auto, using(crate::proofs::Stops::stops))]
 fn walk_run(
     b: Board,
     number: u8,
@@ -126,13 +133,13 @@ fn walk_path(
 
 // The runs of the path whose word stands at index `at`, as a part of the list: as many as the word counts, or as the list has. None where the list is
 // over.
-pub fn part_at(words: &[u32], at: usize) -> Option<Range<usize>>
+pub fn part_at(words: &[u32], at: usize) -> Option<Part>
     ensures { result ≡ part_at words.now at }
 {
     let path = words::path_in(*words.get(at)?);
     let start = at + 1;
     let end = start + usize::from(path.runs).min(words.len() - start);
-    Some(start..end)
+    Some(Part { start, end })
 }
 
 // Walks the path of what a place holds, whose path word stands at index `at`; the index of the next path word.
@@ -151,7 +158,7 @@ fn walk_place(
         None => Ok(at),
         Some(ends) => match part_at(words, at) {
             None => Ok(at),
-            Some(Range { start, end }) => {
+            Some(Part { start, end }) => {
                 walk_path(b, number, ends, at as u16, &words[start..end], used)?;
                 Ok(end)
             }

@@ -27,7 +27,8 @@
 // these nets as above; then, where the board is under the new rule, a line "book 1".
 #![tactic(auto)]
 
-ghost use Rattle.std.specs.Prelude.{◌≤◌, length};
+ghost use Rattle.std.specs.Prelude.{◌≤◌, length, replicate};
+ghost use Rattle.std.specs.Fn.{FnOnceReturnsAtMut};
 
 mod call;
 
@@ -43,16 +44,15 @@ use wire_call::{Figures, Unsound};
 
 // ── writing ──
 
-// Prints the line that is written into a buffer.
+// Prints the line that is written into a buffer, whole: it fits there.
 // Kept: `io::write_all` and not `println!`, which reports a write that fails: the program goes on, and its exit status stays 0.
 fn print<F: FnOnce(&mut [u8; 128]) -> usize>(line: F)
-    requires { F.IsAlwaysCallable line }
+    requires callable { F.IsAlwaysCallable line }
+    requires fits { (n : _) (text : _) → FnOnceReturnsAtMut F.FnOnce line (replicate 128 0) n text → n ≤ 128 }
 {
     let mut out = [0u8; 128];
-    let n = line(&mut out);
-    if let Some(text) = out.get(..n) {
-        io::write_all(1, text);
-    }
+    let count = line(&mut out);
+    io::write_all(1, &out[..count]);
 }
 
 fn print_told(told: Told) {

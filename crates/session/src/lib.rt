@@ -205,14 +205,20 @@ impl Session {
     pub fn add_all(self, nets: &[Net]) -> After<AddAllAnswer>
         ensures { AddAllPromise self nets.now result }
     {
-        let mut after = self.none_added();
+        // The answer and the session are kept apart: as one value they would be copied at each turn.
+        let After {
+            mut answer,
+            mut session,
+        } = self.none_added();
         for net in nets {
-            if after.answer.last.is_err() {
-                return after;
+            if answer.last.is_err() {
+                break;
             }
-            after = after.with_net(*net);
+            let next = session.add_sound(*net);
+            answer = answer.counting(next.answer);
+            session = next.session;
         }
-        after
+        After { answer, session }
     }
 
     // Takes the net of that number out and lays "withdrawn" with it on the pile.
@@ -254,20 +260,5 @@ impl Session {
             return self.refused(ReturnRefusal::Unsound);
         }
         self.return_sound(name)
-    }
-}
-
-impl After<AddAllAnswer> {
-    // One net more.
-    #[tactic(auto, unfolding(crate::specs::Value::with_net))]
-    fn with_net(self, net: Net) -> After<AddAllAnswer>
-        requires { self.answer.count + 1 < 2 ^ 64 }
-        ensures { result ≡ with_net self net }
-    {
-        let after = self.session.add_sound(net);
-        After {
-            answer: self.answer.counting(after.answer),
-            session: after.session,
-        }
     }
 }

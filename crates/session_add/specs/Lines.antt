@@ -9,18 +9,17 @@ use Rattle.session_rules.specs.Session.{holds}
 use Rattle.session_rules.specs.Add.{good_number, full}
 use Rattle.session_answers.specs.declared.AddRefusal.{AddRefusal}
 use Rattle.session_answers.specs.declared.AddRefusal.TheVariants.{BadNumber, NumberTaken, NoVertex, SameVertex, PinsTaken}
-use Rattle.session_answers.specs.declared.Terminal.TheVariants.{First, Second}
 
 -- the first of the conditions for adding that holds, in the order of the table
 unfoldable pub first_of : Bool → Bool → Bool → Bool → Bool → Bool → Bool → Result Unit AddRefusal
 first_of is21 is22 is23_0 is23_1 is24 is25_0 is25_1 =
     cond is21 (Err BadNumber)
     (cond is22 (Err NumberTaken)
-    (cond is23_0 (Err (NoVertex First))
-    (cond is23_1 (Err (NoVertex Second))
+    (cond is23_0 (Err (NoVertex 0))
+    (cond is23_1 (Err (NoVertex 1))
     (cond is24 (Err SameVertex)
-    (cond is25_0 (Err (PinsTaken First))
-    (cond is25_1 (Err (PinsTaken Second)) (Ok tt)))))))
+    (cond is25_0 (Err (PinsTaken 0))
+    (cond is25_1 (Err (PinsTaken 1)) (Ok tt)))))))
 
 -- what adding the net n to the nets ns on the block b answers
 unfoldable pub check_of : Block → List Net → Net → Result Unit AddRefusal

@@ -10,7 +10,7 @@ ghost use Rattle.session_add.specs.Lines.{check_of};
 use board::Vertex;
 use board_block::Block;
 use net::{Net, Pair, Place};
-use session_answers::{AddRefusal, Terminal};
+use session_answers::AddRefusal;
 
 // Are the pins of v all taken?
 fn is_full(b: Block, nets: [Place; 64], v: Vertex) -> bool
@@ -32,19 +32,19 @@ pub fn check(b: Block, nets: [Place; 64], net: Net) -> Result<(), AddRefusal>
         return Err(AddRefusal::NumberTaken);
     }
     if !board::is_vertex(b.board, first) {
-        return Err(AddRefusal::NoVertex(Terminal::First));
+        return Err(AddRefusal::NoVertex(0));
     }
     if !board::is_vertex(b.board, second) {
-        return Err(AddRefusal::NoVertex(Terminal::Second));
+        return Err(AddRefusal::NoVertex(1));
     }
     if first == second {
         return Err(AddRefusal::SameVertex);
     }
     if is_full(b, nets, first) {
-        return Err(AddRefusal::PinsTaken(Terminal::First));
+        return Err(AddRefusal::PinsTaken(0));
     }
     if is_full(b, nets, second) {
-        return Err(AddRefusal::PinsTaken(Terminal::Second));
+        return Err(AddRefusal::PinsTaken(1));
     }
     Ok(())
 }

@@ -4,8 +4,6 @@ use Rattle.std.proofs.Math.Option.{Option, none, some}
 use Rattle.session_rules.specs.Refusal.{Refusal, refusal}
 use Rattle.session_rules.specs.NewRule.{over_refusal}
 use Rattle.session_rules.specs.Machine.{Answer, accepted, refused, went_on, refusal_of}
-use Rattle.session_answers.specs.declared.Terminal.{Terminal}
-use Rattle.session_answers.specs.declared.Terminal.TheVariants.{First, Second}
 use Rattle.session_answers.specs.declared.AddRefusal.{AddRefusal}
 use Rattle.session_answers.specs.declared.AddRefusal.TheVariants.{Unsound, BadNumber, NumberTaken, NoVertex, SameVertex, PinsTaken}
 use Rattle.session_answers.specs.declared.WithdrawRefusal.{WithdrawRefusal}
@@ -21,18 +19,13 @@ use Rattle.session_answers.specs.declared.MoveRefusal.TheVariants as move_is
 use Rattle.session_answers.specs.declared.AddAllAnswer.{AddAllAnswer}
 use Rattle.session_answers.specs.declared.Told.{Told}
 
--- the place number of a terminal
-abbrev pub place_of : Terminal → ℕ
-place_of First = 0
-place_of Second = 1
-
 abbrev pub add_refusal : AddRefusal → Refusal
 add_refusal Unsound = refusal 20 0
 add_refusal BadNumber = refusal 21 0
 add_refusal NumberTaken = refusal 22 0
-add_refusal (NoVertex t) = refusal 23 (place_of t)
+add_refusal (NoVertex p) = refusal 23 p
 add_refusal SameVertex = refusal 24 0
-add_refusal (PinsTaken t) = refusal 25 (place_of t)
+add_refusal (PinsTaken p) = refusal 25 p
 
 abbrev pub withdraw_refusal : WithdrawRefusal → Refusal
 withdraw_refusal withdraw-is.Unsound = refusal 20 0

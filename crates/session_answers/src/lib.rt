@@ -4,26 +4,20 @@
 
 ghost use Rattle.std.specs.Prelude.{◌≡◌, ◌+◌, ◌<◌, ◌^◌, get_or};
 ghost use Rattle.session_rules.specs.Refusal.{Refusal};
-ghost use Rattle.session_answers.specs.Answers.{place_of, counting, answer_by, told};
+ghost use Rattle.session_answers.specs.Answers.{counting, answer_by, told};
 ghost use Rattle.session_answers.specs.Answers.{add_refusal, withdraw_refusal, take_back_refusal, keep_refusal, return_refusal};
 
 use board::Vertex;
 
-// Which of a net's two terminals.
-#[derive(Clone, Copy, PartialEq, Eq)]
-pub enum Terminal {
-    First,
-    Second,
-}
-
+// Why add is refused. The number is that of the terminal: 0 the first, 1 the second.
 #[derive(Clone, Copy, PartialEq, Eq)]
 pub enum AddRefusal {
     Unsound,
     BadNumber,
     NumberTaken,
-    NoVertex(Terminal),
+    NoVertex(u8),
     SameVertex,
-    PinsTaken(Terminal),
+    PinsTaken(u8),
 }
 
 #[derive(Clone, Copy, PartialEq, Eq)]
@@ -115,17 +109,6 @@ impl Told {
     }
 }
 
-impl Terminal {
-    fn place(self) -> u8
-        ensures { result ≡ place_of self }
-    {
-        match self {
-            Terminal::First => 0,
-            Terminal::Second => 1,
-        }
-    }
-}
-
 impl Reason for AddRefusal {
     ghost refusal = { add_refusal };
 
@@ -142,8 +125,8 @@ impl Reason for AddRefusal {
 
     fn place(self) -> u8 {
         match self {
-            AddRefusal::NoVertex(terminal) => terminal.place(),
-            AddRefusal::PinsTaken(terminal) => terminal.place(),
+            AddRefusal::NoVertex(terminal) => terminal,
+            AddRefusal::PinsTaken(terminal) => terminal,
             _ => 0,
         }
     }

@@ -1,14 +1,14 @@
 -- `add_words` adds the nets of the words as the definition does.
 use native.Mathlib.Omega.{arith}
 use borrow.Author.Rules.{rules}
-use mathlib.Core.Path.{◌≡◌, sym, ◌∙◌}
+use mathlib.Core.Path.{◌≡◌, ap, sym, ◌∙◌}
 use Rattle.std.specs.Prelude.{Err}
 use Rattle.board_block.specs.View.{block_of}
-use Rattle.net_places.specs.Places.{nets_of}
-use Rattle.session_answers.specs.Answers.{add_refusal}
 use Rattle.board_scan.proofs.Faulty.{faulty}
+use Rattle.board_reading.specs.Refused.{net_number}
+use Rattle.board_reading.specs.Adding.{net_answer}
 use Rattle.board_reading.specs.declared.ReadRefusal.TheVariants.{Net}
-use Rattle.board_reading.proofs.AddingLaws.{answer-none, answer-some, adding_start, adding-net, adding-other, adding-refused, adding-end}
+use Rattle.board_reading.proofs.AddingLaws.{answer-none, none-number, adding_start, adding-net, adding-other, adding-refused, adding-end}
 use Rattle.board_reading.proofs.add_words.Goals.{in-Net+in_ok-map_err, in_default}
 use Rattle.board_reading.proofs.add_words.Goals as goal
 
@@ -19,13 +19,12 @@ pub returns-in_err-map_err : goal.returns-in_err-map_err
 returns-in_err-map_err c =
     let loop = c.loop-i in
     let net = c.in-Net.net in
-    let k = faulty _ _ c.check.result c.in_err-map_err.ensures.cases c.in_err-map_err.ensures.variant in
+    let k = faulty _ _ c.check_net.result c.in_err-map_err.ensures.cases c.in_err-map_err.ensures.variant in
     let told : c.in_err-map_err.field-0.0 ≡ Net k.0 loop.i-counter = search rules in
     let e : c.from_residual.result ≡ Err (Net k.0 loop.i-counter) = search rules in
     rw e
     (adding-refused (block_of c.args.b) c.args.words.now loop.i-counter loop.nets loop.invariant (omega arith) net
-    (sym c.board_word.ensures ∙ c.in-Net.is) (add_refusal k.0)
-    (answer-some (block_of c.args.b) (nets_of loop.nets) net c.check.result c.check.ensures k.0 k.1))
+    (sym c.board_word.ensures ∙ c.in-Net.is) (net_number k.0) (sym (ap net_answer k.1) ∙ c.check_net.ensures))
 
 pub loop-i-preserved : goal.loop-i-preserved
 loop-i-preserved c =
@@ -37,7 +36,7 @@ loop-i-preserved c =
           rw stored
           (adding-net (block_of c.args.b) c.args.words.now loop.i-counter loop.nets loop.invariant (omega arith) net
           (sym c.board_word.ensures ∙ w.in-Net.is)
-          (answer-none (block_of c.args.b) (nets_of loop.nets) net w.check.result w.check.ensures (sym w.in_ok-map_err.ensures.variant)))
+          (none-number _ (answer-none w.check_net.result (sym w.in_ok-map_err.ensures.variant) ∙ w.check_net.ensures)))
       | in_default w ↦
           rw w.nets-is
           (adding-other (block_of c.args.b) c.args.words.now loop.i-counter loop.nets loop.invariant (omega arith)

@@ -2,14 +2,11 @@
 use native.Mathlib.Omega.{arith}
 use mathlib.Core.Path.{◌≡◌}
 use Prim.Native.Nat.{◌+◌, ◌-◌}
-use Rattle.judge_walk.specs.WalkLaws.{along-start, along-off, along-again, along-on, along-done}
+use Rattle.judge_walk.specs.WalkLaws.{along-start, along-again, along-on, along-done}
 use Rattle.judge_walk.proofs.walk_run.Goals as goal
 
 pub loop-init : goal.loop-init
 loop-init c = let e : c.args.run.length - 0 ≡ c.args.run.length = omega arith in rw e along-start
-
-pub returns-then-not-is_edge : goal.returns-then-not-is_edge
-returns-then-not-is_edge c = along-off c.loop.invariant (omega arith) (cc c.is_edge.ensures.same)
 
 pub returns-then-used-slot-gt0 : goal.returns-then-used-slot-gt0
 returns-then-used-slot-gt0 c =

@@ -3,4 +3,4 @@ use Rattle.session.proofs.Turns.{Turn}
 use Rattle.session.proofs.Session.add_all.Given as goal
 
 abbrev pub invariant-loop-net : goal.invariant-loop-net
-invariant-loop-net l = Turn l.fn.self l.nets l.net-index l.after × Sized l.fn.self
+invariant-loop-net l = Turn l.fn.self l.nets l.net-index (record { answer = l.answer; session = l.session }) × Sized l.fn.self
