@@ -21,10 +21,10 @@ use Rattle.net_places.proofs.NetsLaws.{insert_of}
 use Rattle.session_answers.specs.Answers.{add_answer, add_refusal}
 use Rattle.session_answers.specs.declared.AddRefusal.{AddRefusal}
 use Rattle.session_answers.specs.declared.AddRefusal.TheVariants.{Unsound}
-use Rattle.session_rules.specs.Machine.{accepted, refused}
+use Rattle.session_rules.specs.Machine.{refused}
 use Rattle.std.specs.Prelude.{Result, Ok, Err, is_ok, not}
 use Rattle.count.specs.TruthLaws.{clash}
-use Rattle.session_add.specs.Check.{answered, check_answer}
+use Rattle.session_add.specs.Check.{answered, check_answer, check_accepts}
 use Rattle.session_add.specs.Lines.{first_of, check_of}
 use Rattle.words.specs.BoardWord.{board_word}
 use Rattle.words.specs.declared.BoardWord.{BoardWord}
@@ -36,7 +36,7 @@ use Rattle.board_reading.proofs.ListedLaws.{listed_more, listed_none}
 use Rattle.board_reading.specs.Adding.{number_in, net_answer, Adding}
 use Rattle.board_reading.specs.declared.NetFault.{NetFault}
 
--- ── the code's answer to add has the number of the definition's refusal ──
+-- ── the code's answer to add is the definition's refusal, and has its number ──
 first-sound : (a b c d e f g : Bool) → first_of a b c d e f g ≡ Err Unsound → ⊥
 unfolding first_of
 first-sound true b c d e f g h = let z : ◌≡◌ {A = ℕ} 0 1 = cc in omega arith
@@ -49,19 +49,26 @@ first-sound false false false false false false true h = let z : ◌≡◌ {A = 
 first-sound false false false false false false false h = let z : ◌≡◌ {A = ℕ} 0 1 = cc in omega arith
 
 module _ (b : Block) (ns : List Net) (n : Net) (a : Result Unit AddRefusal) (e : a ≡ check_of b ns n) where
-  pub number-none : a ≡ Ok tt → none ≡ number_in (add_refused b ns n)
-  number-none h = go (add_refused b ns n) (sym (ap add_answer h) ∙ (ap add_answer e ∙ check_answer b ns n))
+  pub answer-none : is_ok a ≡ true → add_refused b ns n ≡ none
+  unfolding accepts
+  answer-none h = go (add_refused b ns n) (sym (check_accepts b ns n) ∙ (sym (ap is_ok e) ∙ h))
     where
-      go : (o : Option Refusal) → accepted ≡ answered o → none ≡ number_in o
+      go : (o : Option Refusal) → is_none o ≡ true → o ≡ none
       go none f = refl
-      go (some q) f = absurd (let z : ◌≡◌ {A = ℕ} 0 1 = cc in omega arith)
+      go (some r) f = absurd (clash f refl)
+
+  pub answer-some : (r : AddRefusal) → a ≡ Err r → add_refused b ns n ≡ some (add_refusal r)
+  answer-some r h = go (add_refused b ns n) (sym (ap add_answer h) ∙ (ap add_answer e ∙ check_answer b ns n))
+    where
+      go : (o : Option Refusal) → refused (add_refusal r) ≡ answered o → o ≡ some (add_refusal r)
+      go none f = absurd (let z : ◌≡◌ {A = ℕ} 0 1 = cc in omega arith)
+      go (some q) f = cc
+
+  pub number-none : a ≡ Ok tt → none ≡ number_in (add_refused b ns n)
+  number-none h = rw (answer-none (ap is_ok h)) refl
 
   pub number-some : (r : AddRefusal) → a ≡ Err r → some (add_refusal r).number ≡ number_in (add_refused b ns n)
-  number-some r h = go (add_refused b ns n) (sym (ap add_answer h) ∙ (ap add_answer e ∙ check_answer b ns n))
-    where
-      go : (o : Option Refusal) → refused (add_refusal r) ≡ answered o → some (add_refusal r).number ≡ number_in o
-      go none f = absurd (let z : ◌≡◌ {A = ℕ} 0 1 = cc in omega arith)
-      go (some q) f = let s : add_refusal r ≡ q = cc in ap (λ (p : Refusal). some p.number) s
+  number-some r h = rw (answer-some r h) refl
 
   -- no session is asked
   pub never-unsound : a ≡ Err Unsound → ⊥
@@ -72,9 +79,9 @@ module _ (b : Block) (ns : List Net) (n : Net) (a : Result Unit AddRefusal) (e :
       (same n.ends.first n.ends.second) (full b ns n.ends.first) (full b ns n.ends.second) (sym e ∙ h)
 
 -- a net with no fault is not refused
-pub answer-none : (a : Result Unit NetFault) → is_ok a ≡ true → none ≡ net_answer a
-answer-none (Ok u) h = refl
-answer-none (Err f) h = absurd (clash h refl)
+pub fault-none : (a : Result Unit NetFault) → is_ok a ≡ true → none ≡ net_answer a
+fault-none (Ok u) h = refl
+fault-none (Err f) h = absurd (clash h refl)
 
 pub none-number : (o : Option Refusal) → none ≡ number_in o → o ≡ none
 none-number none h = refl

@@ -8,7 +8,7 @@ use Rattle.board_scan.proofs.Faulty.{faulty}
 use Rattle.board_reading.specs.Refused.{net_number}
 use Rattle.board_reading.specs.Adding.{net_answer}
 use Rattle.board_reading.specs.declared.ReadRefusal.TheVariants.{Net}
-use Rattle.board_reading.proofs.AddingLaws.{answer-none, none-number, adding_start, adding-net, adding-other, adding-refused, adding-end}
+use Rattle.board_reading.proofs.AddingLaws.{fault-none, none-number, adding_start, adding-net, adding-other, adding-refused, adding-end}
 use Rattle.board_reading.proofs.add_words.Goals.{in-Net+in_ok-map_err, in_default}
 use Rattle.board_reading.proofs.add_words.Goals as goal
 
@@ -36,7 +36,7 @@ loop-i-preserved c =
           rw stored
           (adding-net (block_of c.args.b) c.args.words.now loop.i-counter loop.nets loop.invariant (omega arith) net
           (sym c.board_word.ensures ∙ w.in-Net.is)
-          (none-number _ (answer-none w.check_net.result (sym w.in_ok-map_err.ensures.variant) ∙ w.check_net.ensures)))
+          (none-number _ (fault-none w.check_net.result (sym w.in_ok-map_err.ensures.variant) ∙ w.check_net.ensures)))
       | in_default w ↦
           rw w.nets-is
           (adding-other (block_of c.args.b) c.args.words.now loop.i-counter loop.nets loop.invariant (omega arith)
